@@ -1,0 +1,54 @@
+ghost use Rattle.std.specs.Prelude.{◌≡◌};
+ghost use Rattle.k8s_meta.specs.declared.fault.ReadFault.TheVariants.{Memory};
+
+use mesh_base::memory;
+use mesh_base::text::Text;
+use std::alloc::{AllocError, AllocFailed};
+
+/// What is wrong with a value of the right type.
+#[derive(Clone, Copy, Debug, PartialEq, Eq)]
+pub enum What {
+    Address,
+    Network,
+    Range,
+    Choice,
+    Duration,
+    Quantity,
+    Method,
+    Shape,
+    TwoReferences,
+}
+
+/// Why an object can't be read: its first fault in the order of the member tables, and the path of it.
+#[derive(Debug, Drop)]
+pub enum ReadFault {
+    Memory,
+    Missing { path: Text },
+    WrongType { path: Text },
+    BadName { path: Text },
+    BadValue { path: Text, what: What },
+}
+
+impl From<memory::Memory> for ReadFault {
+    ghost from_gives = { λ _ e. e ≡ Memory };
+
+    fn from(_e: memory::Memory) -> ReadFault {
+        ReadFault::Memory
+    }
+}
+
+impl From<AllocError> for ReadFault {
+    ghost from_gives = { λ _ e. e ≡ Memory };
+
+    fn from(_e: AllocError) -> ReadFault {
+        ReadFault::Memory
+    }
+}
+
+impl<T: Drop> From<AllocFailed<T>> for ReadFault {
+    ghost from_gives = { λ _ e. e ≡ Memory };
+
+    fn from(_e: AllocFailed<T>) -> ReadFault {
+        ReadFault::Memory
+    }
+}

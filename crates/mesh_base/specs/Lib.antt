@@ -1,0 +1,6 @@
+pub mod formers
+pub mod KeyOrder
+pub mod Keyed
+pub mod Numeral
+pub mod Pieces
+pub mod Places

@@ -1,0 +1,20 @@
+-- When a fault of the outside may be answered: the count of faults rose in the call, or stands at its type's end.
+use Rattle.std.specs.Prelude.{◌≡◌, ◌+◌, ◌-◌, ◌^◌, ◌≤◌, ◌<◌, ℕ, List, length, min, Result, Ok, OnErr, IsErrOf}
+use Rattle.mesh_outside.specs.declared.sink.SinkFault.{SinkFault}
+use Rattle.mesh_outside.specs.declared.sink.SinkFault.TheVariants.{Failed, Memory}
+
+-- the count rose from before to now, or stands at the end of its type
+abbrev pub Rose : ℕ → ℕ → Type 0
+Rose before now = min (before + 1) (2 ^ 64 - 1) ≤ now
+
+-- the count doesn't fall in a call, and an error is answered only where it rose
+pub record HasCause {T E : Type 0} (before now : ℕ) (result : Result T E) : Type 0 where
+  pub later : before ≤ now
+  pub failed : OnErr result (Rose before now)
+
+-- the count doesn't fall in a write; `Failed`, and 0 for a piece that isn't empty, are answered only where it rose
+pub record WriteHasCause (before now : ℕ) (piece : List ℕ) (result : Result ℕ SinkFault) : Type 0 where
+  pub later : before ≤ now
+  pub failed : IsErrOf result Failed → Rose before now
+  pub nothing : result ≡ Ok 0 → 0 < length piece → Rose before now
+  pub memory : IsErrOf result Memory → now ≡ before

@@ -1,0 +1,25 @@
+//! The types that the controllers share: the objects of a cluster, what proxies ask for, the views that they are
+//! given, and the messages that carry the difference.
+//!
+//! Stands on mesh_base, net_cidr, label_select and k8s_meta. Its specs hold the definitions that the crates above
+//! cite: an object's key (`specs/Objects`) and the endpoints of a Service (`specs/Endpoints`).
+#![tactic(auto)]
+
+pub mod authn;
+pub mod config;
+pub mod endpoint;
+pub mod mark;
+pub mod message;
+pub mod object;
+pub mod outbound;
+pub mod pod;
+pub mod policy;
+pub mod profile;
+pub mod query;
+pub mod request;
+pub mod route;
+pub mod server;
+pub mod server_view;
+pub mod service;
+pub mod slice;
+pub mod view;

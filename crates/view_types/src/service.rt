@@ -1,0 +1,26 @@
+use k8s_meta::meta::Meta;
+use mesh_base::list::List;
+use mesh_base::text::Text;
+use net_cidr::ip::Ip;
+
+/// A port with a name, of a Service, an EndpointSlice or a container.
+#[derive(Debug, Drop)]
+pub struct NamedPort {
+    /// Empty where the port has none.
+    pub name: Text,
+    /// From 1 to 65535.
+    pub port: u16,
+    /// The protocol is TCP.
+    pub tcp: bool,
+}
+
+/// A Service, v1.
+#[derive(Debug, Drop)]
+pub struct Service {
+    pub meta: Meta,
+    /// The type is ExternalName.
+    pub external: bool,
+    /// The cluster IPs, each once.
+    pub addrs: List<Ip>,
+    pub ports: List<NamedPort>,
+}

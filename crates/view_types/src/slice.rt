@@ -1,0 +1,32 @@
+use crate::service::NamedPort;
+use k8s_meta::meta::Meta;
+use mesh_base::list::List;
+use mesh_base::text::Text;
+use net_cidr::ip::Ip;
+
+/// What the addresses of an EndpointSlice are.
+#[derive(Clone, Copy, Debug, PartialEq, Eq)]
+pub enum Family {
+    V4,
+    V6,
+    Fqdn,
+}
+
+/// An endpoint of an EndpointSlice.
+#[derive(Debug, Drop)]
+pub struct Point {
+    /// Empty for host names.
+    pub addrs: List<Ip>,
+    pub ready: bool,
+    /// The namespace and the name of the Pod that it targets.
+    pub pod: Option<(Text, Text)>,
+}
+
+/// An EndpointSlice, discovery.k8s.io/v1.
+#[derive(Debug, Drop)]
+pub struct Slice {
+    pub meta: Meta,
+    pub family: Family,
+    pub points: List<Point>,
+    pub ports: List<NamedPort>,
+}
