@@ -1,11 +1,19 @@
 -- When a fault of the outside may be answered: the count of faults rose in the call, or stands at its type's end.
 use Rattle.std.specs.Prelude.{◌≡◌, ◌+◌, ◌-◌, ◌^◌, ◌≤◌, ◌<◌, ℕ, List, length, min, Result, Ok, OnErr, IsErrOf}
 use Rattle.mesh_outside.specs.declared.sink.SinkFault.{SinkFault}
-use Rattle.mesh_outside.specs.declared.sink.SinkFault.TheVariants.{Failed, Memory}
+use Rattle.mesh_outside.specs.declared.sink.SinkFault.TheVariants.{Failed}
+
+-- a count that rises, and stands still at the end of its type
+abbrev pub one_more : ℕ → ℕ
+one_more n = min (n + 1) (2 ^ 64 - 1)
 
 -- the count rose from before to now, or stands at the end of its type
 abbrev pub Rose : ℕ → ℕ → Type 0
-Rose before now = min (before + 1) (2 ^ 64 - 1) ≤ now
+Rose before now = one_more before ≤ now
+
+-- a count that didn't rise, and is below the end of its type
+abbrev pub Unrisen : ℕ → ℕ → Type 0
+Unrisen before now = (now ≡ before) × (before < 2 ^ 64 - 1)
 
 -- the count doesn't fall in a call, and an error is answered only where it rose
 pub record HasCause {T E : Type 0} (before now : ℕ) (result : Result T E) : Type 0 where
@@ -17,4 +25,3 @@ pub record WriteHasCause (before now : ℕ) (piece : List ℕ) (result : Result 
   pub later : before ≤ now
   pub failed : IsErrOf result Failed → Rose before now
   pub nothing : result ≡ Ok 0 → 0 < length piece → Rose before now
-  pub memory : IsErrOf result Memory → now ≡ before

@@ -1,15 +1,19 @@
 // Where bytes go.
-ghost use Rattle.std.specs.Prelude.{◌≡◌, ◌≤◌, List, ℕ, Some, None};
+ghost use Rattle.std.specs.Prelude.{◌≡◌, ◌≤◌, ◌↔◌, ◌⊎◌, List, [], ℕ, Some, None, length, Contains, IfOk, IsErrOf};
 ghost use Rattle.std.specs.declared.option.Option.{Option};
 ghost use Rattle.std.specs.Io.{WritesAtMost};
 ghost use Rattle.std.specs.Io.KnownBytes.{WriteAppends};
+ghost use Rattle.mesh_outside.specs.Causes.{WriteHasCause, one_more};
 
+use mesh_base::list::List;
+use std::alloc::Global;
 use std::io::Write;
 
 /// Why a sink took nothing.
 #[derive(Clone, Copy, Debug, PartialEq, Eq)]
 pub enum SinkFault {
     Failed,
+    /// There was no memory, and the sink is as before.
     Memory,
 }
 
@@ -27,16 +31,37 @@ pub trait Sink {
     fn write(&mut self, piece: &[u8]) -> Result<usize, SinkFault>
         ensures bound { WritesAtMost result piece.now }
         ensures bytes { WriteAppends (held self.old) (held self.new) result piece.now }
-        ensures cause { WriteHasCause (faults self.old) (faults self.new) piece.now result };
+        ensures cause { WriteHasCause (faults self.old) (faults self.new) piece.now result }
+        ensures memory { IsErrOf result SinkFault.Memory → (held self.new ≡ held self.old) × (faults self.new ≡ faults self.old) };
 }
 
 /// Bytes in memory. The calls whose numbers, from 1, stand in `fails` fail.
 #[derive(Drop)]
 pub struct MemSink {
+    /// The bytes held.
     pub bytes: Vec<u8>,
-    pub fails: Vec<u64>,
+    pub fails: List<u64>,
+    /// The calls so far, without those that had no memory.
     pub calls: u64,
+    /// The faults so far.
     pub count: u64,
+}
+
+impl MemSink {
+    /// A sink that holds nothing and never fails.
+    pub fn new(alloc: Global) -> MemSink
+        ensures bytes { result.bytes.items ≡ [] }
+        ensures fails { result.fails ≡ [] }
+        ensures calls { result.calls ≡ 0 }
+        ensures count { result.count ≡ 0 }
+    {
+        MemSink {
+            bytes: Vec::new(alloc),
+            fails: List::new(alloc),
+            calls: 0,
+            count: 0,
+        }
+    }
 }
 
 impl Sink for MemSink {
@@ -44,7 +69,18 @@ impl Sink for MemSink {
 
     ghost faults = { λ s. s.count };
 
-    fn write(&mut self, piece: &[u8]) -> Result<usize, SinkFault> {
+    fn write(&mut self, piece: &[u8]) -> Result<usize, SinkFault>
+        ensures bound { WritesAtMost result piece.now }
+        ensures bytes { WriteAppends (Some self.old.bytes.items) (Some self.new.bytes.items) result piece.now }
+        ensures cause { WriteHasCause self.old.count self.new.count piece.now result }
+        ensures memory { IsErrOf result SinkFault.Memory → (Some self.new.bytes.items ≡ Some self.old.bytes.items) × (self.new.count ≡ self.old.count) }
+
+        // The fields say which calls fail, and the others take the whole piece.
+        ensures fails { IsErrOf result SinkFault.Failed ↔ Contains self.old.fails (one_more self.old.calls) }
+        ensures whole { IfOk result (λ n. n ≡ length piece.now) }
+        ensures calls { IsErrOf result SinkFault.Memory ⊎ (self.new.calls ≡ one_more self.old.calls) }
+        ensures same { self.new.fails ≡ self.old.fails }
+    {
         let number = self.calls.saturating_add(1);
         if self.fails.as_slice().contains(&number) {
             self.calls = number;
@@ -59,7 +95,7 @@ impl Sink for MemSink {
     }
 }
 
-/// Any writer of std. What it holds is told where std tells it.
+/// Any writer of std. What it holds is told where std tells it, so not for a file or standard output.
 #[derive(Drop)]
 pub struct WriteSink<W> {
     writer: W,
@@ -67,7 +103,10 @@ pub struct WriteSink<W> {
 }
 
 impl<W: Write> WriteSink<W> {
-    pub fn new(writer: W) -> WriteSink<W> {
+    pub fn new(writer: W) -> WriteSink<W>
+        ensures faults { ⟦<WriteSink<W> as Sink>⟧.faults result ≡ 0 }
+        ensures held { ⟦<WriteSink<W> as Sink>⟧.held result ≡ W.contents writer }
+    {
         WriteSink { writer, count: 0 }
     }
 }
@@ -77,7 +116,15 @@ impl<W: Write> Sink for WriteSink<W> {
 
     ghost faults = { λ s. s.count };
 
-    fn write(&mut self, piece: &[u8]) -> Result<usize, SinkFault> {
+    fn write(&mut self, piece: &[u8]) -> Result<usize, SinkFault>
+        ensures bound { WritesAtMost result piece.now }
+        ensures bytes { WriteAppends (W.contents self.old.writer) (W.contents self.new.writer) result piece.now }
+        ensures cause { WriteHasCause self.old.count self.new.count piece.now result }
+        ensures memory { IsErrOf result SinkFault.Memory → (W.contents self.new.writer ≡ W.contents self.old.writer) × (self.new.count ≡ self.old.count) }
+
+        // It takes no memory.
+        ensures none { ¬ (IsErrOf result SinkFault.Memory) }
+    {
         let written = self.writer.write(piece);
         match written {
             Ok(n) if n > 0 || piece.is_empty() => Ok(n),

@@ -1,10 +1,12 @@
 // Where bytes come from.
-ghost use Rattle.std.specs.Prelude.{◌≡◌, ◌≤◌, ◌-◌, List, ℕ, Some, None, drop, vec_len};
+ghost use Rattle.std.specs.Prelude.{◌≡◌, ◌≤◌, ◌↔◌, List, [], ℕ, Some, None, min, length, drop, vec_len, Contains, IsErr, IfOk, is_err, if◌then◌else◌};
 ghost use Rattle.std.specs.declared.option.Option.{Option};
 ghost use Rattle.std.specs.Io.{ReadsAtMost};
 ghost use Rattle.std.specs.Io.KnownBytes.{ReadConsumes};
-ghost use Rattle.mesh_outside.specs.Causes.{HasCause};
+ghost use Rattle.mesh_outside.specs.Causes.{HasCause, one_more};
 
+use mesh_base::list::List;
+use std::alloc::Global;
 use std::io::Read;
 
 /// The source failed.
@@ -20,7 +22,7 @@ pub trait Source {
     ghost faults: { Self → ℕ };
 
     /// Moves bytes from the front of what is left to the front of the buffer, and answers how many. None for a
-    /// buffer that isn't empty is the end.
+    /// buffer that isn't empty is the end of the input.
     fn read(&mut self, buf: &mut [u8]) -> Result<usize, Failed>
         ensures bound { ReadsAtMost result buf.new }
         ensures bytes { ReadConsumes (left self.old) (left self.new) result buf.new }
@@ -30,10 +32,30 @@ pub trait Source {
 /// Bytes in memory. The calls whose numbers, from 1, stand in `fails` fail.
 #[derive(Drop)]
 pub struct MemSource {
+    /// The bytes left.
     pub bytes: Vec<u8>,
-    pub fails: Vec<u64>,
+    pub fails: List<u64>,
+    /// The calls so far.
     pub calls: u64,
+    /// The faults so far.
     pub count: u64,
+}
+
+impl MemSource {
+    /// A source of these bytes that never fails.
+    pub fn of(alloc: Global, bytes: Vec<u8>) -> MemSource
+        ensures bytes { result.bytes.items ≡ bytes.items }
+        ensures fails { result.fails ≡ [] }
+        ensures calls { result.calls ≡ 0 }
+        ensures count { result.count ≡ 0 }
+    {
+        MemSource {
+            bytes,
+            fails: List::new(alloc),
+            calls: 0,
+            count: 0,
+        }
+    }
 }
 
 fn remove_front(bytes: &mut Vec<u8>, n: usize)
@@ -50,7 +72,18 @@ impl Source for MemSource {
 
     ghost faults = { λ s. s.count };
 
-    fn read(&mut self, buf: &mut [u8]) -> Result<usize, Failed> {
+    fn read(&mut self, buf: &mut [u8]) -> Result<usize, Failed>
+        ensures bound { ReadsAtMost result buf.new }
+        ensures bytes { ReadConsumes (Some self.old.bytes.items) (Some self.new.bytes.items) result buf.new }
+        ensures cause { HasCause self.old.count self.new.count result }
+
+        // The fields say which calls fail, and the others give as much as there is.
+        ensures fails { IsErr result ↔ Contains self.old.fails self.new.calls }
+        ensures whole { IfOk result (λ n. n ≡ min (length buf.old) (vec_len self.old.bytes)) }
+        ensures calls { self.new.calls ≡ one_more self.old.calls }
+        ensures count { self.new.count ≡ (if is_err result then one_more self.old.count else self.old.count) }
+        ensures same { self.new.fails ≡ self.old.fails }
+    {
         self.calls = self.calls.saturating_add(1);
         if self.fails.as_slice().contains(&self.calls) {
             self.count = self.count.saturating_add(1);
@@ -64,7 +97,7 @@ impl Source for MemSource {
     }
 }
 
-/// Any reader of std. What it has left is told where std tells it.
+/// Any reader of std. What it has left is told where std tells it, so not for a file or standard input.
 #[derive(Drop)]
 pub struct ReadSource<R> {
     reader: R,
