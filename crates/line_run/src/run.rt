@@ -1,24 +1,24 @@
 // The loop from a source to a sink.
-ghost use Rattle.std.specs.Prelude.{◌≡◌, ◌≢◌, ◌+◌, ◌-◌, ◌<◌, ◌≤◌, ◌^◌, ◌⊎◌, ℕ, Bool, true, false, List, [], ◌++◌, length, take, IfOk, OnErr, IfSome, Some};
+ghost use Rattle.std.specs.Prelude.{◌≡◌, ◌≢◌, ◌+◌, ◌<◌, ◌≤◌, ◌^◌, ◌⊎◌, ℕ, Bool, true, false, List, [], Option, length, take, IfOk, OnErr, Some};
 ghost use Rattle.std.specs.Io.KnownBytes.{Keeps, Consumes, IsAtEnd};
-ghost use Rattle.mesh_outside.specs.Causes.{Rose, HasCause};
-ghost use Rattle.line_run.specs.Run.{Unrisen, IsAnswered, EndsWhole, EndsPart, OnEnd, OnStop, Whole, Part, TookLimit};
+ghost use Rattle.mesh_outside.specs.Causes.{Rose, Unrisen, HasCause};
+ghost use Rattle.line_run.specs.Rows.{Row, past_of};
+ghost use Rattle.line_run.specs.Run.{IsAnswered, IsTooLong, Come, Says, Stopped, OnEnd, OnStop, Whole, Part, TookLimit};
 
 use crate::cutter::Cutter;
-use crate::{LineMachine, Status, write_all};
+use crate::write::flush;
+use crate::{LineMachine, Status};
+use mesh_base::limits::Limits;
 use mesh_outside::{Failed, Sink, SinkFault, Source};
-use std::alloc::Global;
+use std::alloc::{AllocError, Global};
 
 // How many bytes one read takes at most.
-const BLOCK: usize = 16384;
+const BLOCK: usize = 65536;
 
-/// The limits of an input.
-#[derive(Clone, Copy, Debug)]
-pub struct InputLimits {
-    /// A longer line is refused.
-    pub line: usize,
-    /// No more bytes are taken.
-    pub input: u64,
+fn new_block(alloc: Global) -> Result<Vec<u8>, AllocError>
+    ensures { IfOk result (λ block. length block.items ≡ 65536) }
+{
+    Ok(vec![in alloc; 0; BLOCK]?)
 }
 
 // Reads into the front of a buffer that isn't empty, at most so many bytes.
@@ -43,10 +43,12 @@ fn status_of(fault: SinkFault) -> Status
     }
 }
 
-/// Reads lines to the end of the input, gives each to the machine, and writes what the machine says.
+/// Reads lines to the end of the input, gives each to the machine, and writes what the machine says. A line longer
+/// than the line limit is skipped whole, and the machine learns its number; a last piece without LF is a line if it
+/// isn't empty. Takes no more bytes than the input limit.
 pub fn run_lines<M: LineMachine, S: Source, K: Sink>(
     alloc: Global,
-    limits: InputLimits,
+    limits: Limits,
     machine: &mut M,
     source: &mut S,
     sink: &mut K,
@@ -57,39 +59,45 @@ pub fn run_lines<M: LineMachine, S: Source, K: Sink>(
     ensures whole { OnEnd result (λ refused. Whole (M.ended machine.old) limits.line limits.input (S.left source.old) (K.held sink.old) (K.held sink.new) machine.new refused) }
 
     // Else it is a front of that.
-    ensures part { OnStop result (Part (M.stands machine.old) (M.ended machine.old) limits.line (S.left source.old) (K.held sink.old) (K.held sink.new)) }
+    ensures part { OnStop result (Part (M.stands machine.old) (M.ending machine.old) (M.ended machine.old) limits.line (S.left source.old) (K.held sink.old) (K.held sink.new)) }
 
     ensures read { result ≡ Status.ReadFault → Rose (S.faults source.old) (S.faults source.new) }
     ensures write { result ≡ Status.WriteFault → Rose (K.faults sink.old) (K.faults sink.new) }
     ensures long { result ≡ Status.InputTooLong → TookLimit limits.input (S.left source.old) }
+    ensures usage { result ≢ Status.Usage }
 
-    // On ends that don't fail, and an input below the limit, the input is read to its end unless there is no memory.
+    // On ends that don't fail, an input below the limit is read to its end unless there is no memory, and a longer
+    // one is too long.
     ensures complete { Unrisen (S.faults source.old) (S.faults source.new) → Unrisen (K.faults sink.old) (K.faults sink.new)
         → (bytes : List ℕ) → S.left source.old ≡ Some bytes → length bytes < limits.input → IsAnswered result }
+    ensures too_long { Unrisen (S.faults source.old) (S.faults source.new) → Unrisen (K.faults sink.old) (K.faults sink.new)
+        → (bytes : List ℕ) → S.left source.old ≡ Some bytes → limits.input ≤ length bytes → IsTooLong result }
 
     ensures read_later { S.faults source.old ≤ S.faults source.new }
     ensures write_later { K.faults sink.old ≤ K.faults sink.new }
 {
     let mut cutter = Cutter::new(alloc, limits.line);
-    let mut block = [0; BLOCK];
     let mut out = Vec::new(alloc);
+    let Ok(mut store) = new_block(alloc) else {
+        return Status::Memory;
+    };
+    let block = store.as_mut_slice();
     let mut taken = 0;
     while taken < limits.input {
         let most = (limits.input - taken).min(BLOCK as u64) as usize;
-        let Ok(n) = read_front(source, &mut block, most) else {
+        let Ok(n) = read_front(source, block, most) else {
             return Status::ReadFault;
         };
         if n == 0 {
             return end(&mut cutter, machine, &mut out, sink);
         }
         taken += n as u64;
-        let Ok(()) = cutter.feed(machine, &block[..n], &mut out) else {
-            return Status::Memory;
-        };
-        if let Err(fault) = write_all(sink, &out) {
+        if let Err(fault) = cutter.feed(machine, &block[..n], &mut out, sink) {
             return status_of(fault);
         }
-        out.clear();
+        if let Err(fault) = flush(&mut out, sink) {
+            return status_of(fault);
+        }
     }
     Status::InputTooLong
 }
@@ -102,16 +110,17 @@ fn end<M: LineMachine, K: Sink>(
     sink: &mut K,
 ) -> Status
     requires { cutter.old.lines + 1 < 2 ^ 64 }
-    ensures whole { OnEnd result (λ refused. (start : M) → EndsWhole (M.stands start) (M.ended start) cutter.old.limit cutter.old.partial.items machine.old cutter.old.lines cutter.old.refused out.old.items (K.held sink.old) (K.held sink.new) machine.new refused) }
-    ensures part { OnStop result ((start : M) → EndsPart (M.stands start) (M.ended start) cutter.old.limit cutter.old.partial.items machine.old cutter.old.lines cutter.old.refused out.old.items (K.held sink.old) (K.held sink.new)) }
+    ensures whole { OnEnd result (λ refused. (start : M) (held : Option (List ℕ)) (taken : List ℕ)
+        → Come (M.stands start) cutter.old.limit held (K.held sink.old) taken out.old.items cutter.old.partial.items [] machine.old cutter.old.lines cutter.old.refused
+        → Says (M.ended start) held (K.held sink.new) (past_of cutter.old.limit taken) [] machine.new refused) }
+    ensures part { OnStop result ((start : M) (held : Option (List ℕ)) (taken : List ℕ)
+        → Come (M.stands start) cutter.old.limit held (K.held sink.old) taken out.old.items cutter.old.partial.items [] machine.old cutter.old.lines cutter.old.refused
+        → Stopped (M.stands start) (M.ending start) (M.ended start) held (K.held sink.new) (past_of cutter.old.limit taken)) }
     ensures write { result ≡ Status.WriteFault → Rose (K.faults sink.old) (K.faults sink.new) }
     ensures others { (result ≢ Status.ReadFault) × (result ≢ Status.InputTooLong) }
     ensures write_later { K.faults sink.old ≤ K.faults sink.new }
 {
-    let Ok(()) = cutter.finish(machine, out) else {
-        return Status::Memory;
-    };
-    if let Err(fault) = write_all(sink, out) {
+    if let Err(fault) = cutter.finish(machine, out, sink) {
         return status_of(fault);
     }
     if cutter.refused {
