@@ -1,0 +1,470 @@
+ghost use Rattle.std.specs.Prelude.{◌≡◌, ◌≤◌, ◌++◌, IfOk, OnOk, option_map, option_to_list};
+ghost use Rattle.serde_json.specs.Find.{get, as_array, as_object, as_str};
+ghost use Rattle.serde_json.specs.View.{number_view, view, items_view, members_view};
+ghost use Rattle.k8s_meta.specs.Keys.{key_text};
+ghost use Rattle.k8s_meta.specs.Scalars.{number, whole};
+ghost use Rattle.k8s_meta.specs.Spots.{◌·◌, Gives, IsFault, Reads, is_absent, item_spot, or_null, seen, value_seen};
+ghost use Rattle.k8s_meta.specs.Words.{boolean, list, object, text, typed, valid};
+ghost use Rattle.k8s_meta.specs.declared.fault.ReadFault.TheVariants as faults;
+ghost use Rattle.k8s_meta.specs.Lists.{each, each_from, each_some, kept};
+ghost use Rattle.k8s_meta.specs.Words.{default, optional, part, required, required_if};
+
+use crate::fault::{ReadFault, What};
+use crate::key::Key;
+use crate::path::Path;
+use crate::reader::Reader;
+use mesh_base::list::List;
+use mesh_base::memory::Memory;
+use mesh_base::text::Text;
+use serde_json::{Map, Number, Value};
+use std::alloc::Global;
+
+/// A value, or none where nothing stands there, and the path to it.
+#[derive(Clone, Copy)]
+pub struct Place<'a> {
+    alloc: Global,
+    path: Path<'a>,
+    value: Option<&'a Value>,
+}
+
+impl<'a> Place<'a> {
+    /// A value that stands at the path `at`.
+    pub fn top(alloc: Global, value: &'a Value, at: &'a str) -> Place<'a>
+        ensures { seen result ≡ record { at = at.now; value = view value.now } }
+    {
+        Place {
+            alloc,
+            path: Path::top(at),
+            value: Some(value),
+        }
+    }
+
+    /// The allocator of what is read.
+    pub fn alloc(&self) -> Global {
+        self.alloc
+    }
+
+    /// The value, which is none or null where nothing stands here.
+    pub fn value(&self) -> Option<&'a Value>
+        ensures { value_seen result ≡ (seen self.now).value }
+    {
+        self.value
+    }
+
+    /// The text that stands here, if it is one.
+    pub fn as_text(&self) -> Option<&'a str>
+        ensures { option_map (λ s. s.now) result ≡ as_str (seen self.now).value }
+    {
+        match self.value {
+            Some(value) => value.as_str(),
+            None => None,
+        }
+    }
+
+    /// The items of the list that stands here, if it is one.
+    pub fn as_list(&self) -> Option<&'a [Value]>
+        ensures { option_map (λ l. items_view l.now) result ≡ as_array (seen self.now).value }
+    {
+        match self.value {
+            Some(value) => match value.as_array() {
+                Some(list) => Some(list),
+                None => None,
+            },
+            None => None,
+        }
+    }
+
+    /// The member of an object. Another value has none.
+    pub fn member(&'a self, key: Key) -> Place<'a>
+        ensures { seen result ≡ (seen self.now) · key }
+    {
+        Place {
+            alloc: self.alloc,
+            path: self.path.member(key),
+            value: value_of(self.value, key.text()),
+        }
+    }
+
+    /// An item of the list that stands here, by its place from 0.
+    pub fn item(&'a self, index: usize, value: &'a Value) -> Place<'a>
+        ensures { seen result ≡ item_spot (seen self.now).at index (view value.now) }
+    {
+        Place {
+            alloc: self.alloc,
+            path: self.path.item(index),
+            value: Some(value),
+        }
+    }
+
+    /// Null counts as absent.
+    pub fn is_absent(&self) -> bool
+        ensures { result ≡ is_absent (seen self.now) }
+    {
+        match self.value {
+            None => true,
+            Some(value) => value.is_null(),
+        }
+    }
+
+    pub fn wrong_type(&self) -> ReadFault
+        ensures { IsFault result (faults.WrongType (seen self.now).at) }
+    {
+        match self.path.text(self.alloc) {
+            Ok(path) => ReadFault::WrongType {
+                path: Text::from_string(path),
+            },
+            Err(_) => ReadFault::Memory,
+        }
+    }
+
+    pub fn missing(&self) -> ReadFault
+        ensures { IsFault result (faults.Missing (seen self.now).at) }
+    {
+        match self.path.text(self.alloc) {
+            Ok(path) => ReadFault::Missing {
+                path: Text::from_string(path),
+            },
+            Err(_) => ReadFault::Memory,
+        }
+    }
+
+    pub fn bad_name(&self) -> ReadFault
+        ensures { IsFault result (faults.BadName (seen self.now).at) }
+    {
+        match self.path.text(self.alloc) {
+            Ok(path) => ReadFault::BadName {
+                path: Text::from_string(path),
+            },
+            Err(_) => ReadFault::Memory,
+        }
+    }
+
+    pub fn bad_value(&self, what: What) -> ReadFault
+        ensures { IsFault result (faults.BadValue (seen self.now).at what) }
+    {
+        match self.path.text(self.alloc) {
+            Ok(path) => ReadFault::BadValue {
+                path: Text::from_string(path),
+                what,
+            },
+            Err(_) => ReadFault::Memory,
+        }
+    }
+
+    /// What a value of the right type stands for, where it stands for anything.
+    pub fn valid<T: Drop>(&self, what: What, found: Option<T>) -> Result<T, ReadFault>
+        ensures { Reads result (valid (seen self.now).at what found) }
+    {
+        match found {
+            Some(value) => Ok(value),
+            None => Err(self.bad_value(what)),
+        }
+    }
+
+    #[tactic(auto, unfolding(crate::specs::Words::object))]
+    pub fn object(&self) -> Result<(), ReadFault>
+        ensures { Gives (λ _. seen self.now) result (object (seen self.now)) }
+    {
+        let Some(value) = self.value else {
+            return Err(self.wrong_type());
+        };
+        if value.is_object() {
+            Ok(())
+        } else {
+            Err(self.wrong_type())
+        }
+    }
+
+    /// The members of an object.
+    pub fn members(&self) -> Result<&'a Map<String, Value>, ReadFault>
+        ensures { Gives (λ m. members_view m.now.entries) result (typed (seen self.now).at (as_object (seen self.now).value)) }
+    {
+        let Some(value) = self.value else {
+            return Err(self.wrong_type());
+        };
+        match value.as_object() {
+            Some(members) => Ok(members),
+            None => Err(self.wrong_type()),
+        }
+    }
+
+    /// The items of a list.
+    #[tactic(auto, unfolding(crate::specs::Words::list))]
+    pub fn list(&self) -> Result<&'a [Value], ReadFault>
+        ensures { Gives (λ l. items_view l.now) result (list (seen self.now)) }
+    {
+        let Some(value) = self.value else {
+            return Err(self.wrong_type());
+        };
+        match value.as_array() {
+            Some(list) => Ok(list),
+            None => Err(self.wrong_type()),
+        }
+    }
+
+    #[tactic(auto, unfolding(crate::specs::Words::text))]
+    pub fn text(&self) -> Result<&'a str, ReadFault>
+        ensures { Gives (λ s. s.now) result (text (seen self.now)) }
+    {
+        let Some(value) = self.value else {
+            return Err(self.wrong_type());
+        };
+        match value.as_str() {
+            Some(text) => Ok(text),
+            None => Err(self.wrong_type()),
+        }
+    }
+
+    #[tactic(auto, unfolding(crate::specs::Words::boolean))]
+    pub fn boolean(&self) -> Result<bool, ReadFault>
+        ensures { Reads result (boolean (seen self.now)) }
+    {
+        let Some(value) = self.value else {
+            return Err(self.wrong_type());
+        };
+        match value.as_bool() {
+            Some(b) => Ok(b),
+            None => Err(self.wrong_type()),
+        }
+    }
+
+    /// A whole number of 64 bits, from low to high.
+    #[tactic(auto, unfolding(crate::specs::Scalars::number))]
+    pub fn number(&self, low: u64, high: u64) -> Result<u64, ReadFault>
+        ensures value { Reads result (number low high (seen self.now)) }
+        ensures most { IfOk result (λ n. n ≤ high) }
+    {
+        let Some(value) = self.value else {
+            return Err(self.wrong_type());
+        };
+        let Some(number) = value.as_number() else {
+            return Err(self.wrong_type());
+        };
+        self.whole(number, low, high)
+    }
+
+    fn whole(&self, number: &Number, low: u64, high: u64) -> Result<u64, ReadFault>
+        ensures value { Reads result (whole (seen self.now).at low high (number_view number.now)) }
+        ensures most { IfOk result (λ n. n ≤ high) }
+    {
+        if number.is_f64() {
+            return Err(self.wrong_type());
+        }
+        match number.as_u64() {
+            Some(n) => {
+                if low <= n && n <= high {
+                    Ok(n)
+                } else {
+                    Err(self.bad_value(What::Range))
+                }
+            }
+            None => Err(self.bad_value(What::Range)),
+        }
+    }
+
+    /// The member, an object, empty where it is absent.
+    #[tactic(auto, unfolding(crate::specs::Words::part, crate::specs::Words::default))]
+    pub fn part(&'a self, key: Key) -> Result<Place<'a>, ReadFault>
+        ensures { Gives seen result (part ((seen self.now) · key)) }
+    {
+        let place = self.member(key);
+        if place.is_absent() {
+            return Ok(place);
+        }
+        place.object()?;
+        Ok(place)
+    }
+
+    /// The member, an object, which has to be there.
+    #[tactic(auto, unfolding(crate::specs::Words::required))]
+    pub fn required_part(&'a self, key: Key) -> Result<Place<'a>, ReadFault>
+        ensures { Gives seen result (required object ((seen self.now) · key)) }
+    {
+        let place = self.member(key);
+        if place.is_absent() {
+            return Err(place.missing());
+        }
+        place.object()?;
+        Ok(place)
+    }
+
+    /// The member, which has to be there.
+    #[tactic(auto, unfolding(crate::specs::Words::required))]
+    pub fn required<R: Reader>(&'a self, key: Key, reader: &R) -> Result<R::Made, ReadFault>
+        ensures { Reads result (required (R.reading reader.now) ((seen self.now) · key)) }
+    {
+        let place = self.member(key);
+        if place.is_absent() {
+            return Err(place.missing());
+        }
+        reader.read(&place)
+    }
+
+    /// The member, if it is there.
+    #[tactic(auto, unfolding(crate::specs::Words::optional, crate::specs::Words::default))]
+    pub fn optional<R: Reader>(&'a self, key: Key, reader: &R) -> Result<Option<R::Made>, ReadFault>
+        ensures { Reads result (optional (R.reading reader.now) ((seen self.now) · key)) }
+    {
+        let place = self.member(key);
+        if place.is_absent() {
+            return Ok(None);
+        }
+        let found = reader.read(&place)?;
+        Ok(Some(found))
+    }
+
+    /// The member, or another value where it is absent.
+    #[tactic(auto, unfolding(crate::specs::Words::default))]
+    pub fn default<R: Reader>(
+        &'a self,
+        key: Key,
+        reader: &R,
+        other: R::Made,
+    ) -> Result<R::Made, ReadFault>
+        ensures { Reads result (default other (R.reading reader.now) ((seen self.now) · key)) }
+    {
+        let place = self.member(key);
+        if place.is_absent() {
+            return Ok(other);
+        }
+        reader.read(&place)
+    }
+
+    /// The member, which has to be there where it is needed, or else another value where it is absent.
+    #[tactic(auto, unfolding(crate::specs::Words::required_if))]
+    pub fn required_if<R: Reader>(
+        &'a self,
+        needed: bool,
+        key: Key,
+        reader: &R,
+        other: R::Made,
+    ) -> Result<R::Made, ReadFault>
+        ensures { Reads result (required_if needed other (R.reading reader.now) ((seen self.now) · key)) }
+    {
+        if needed {
+            self.required(key, reader)
+        } else {
+            self.default(key, reader, other)
+        }
+    }
+
+    /// The text at a member, or another one where it is absent, without a copy.
+    #[tactic(auto, unfolding(crate::specs::Words::default))]
+    pub fn str_or(&'a self, key: Key, other: &'a str) -> Result<&'a str, ReadFault>
+        ensures { Gives (λ s. s.now) result (default other.now text ((seen self.now) · key)) }
+    {
+        let place = self.member(key);
+        if place.is_absent() {
+            return Ok(other);
+        }
+        place.text()
+    }
+
+    /// The member, or another text where it is absent.
+    #[tactic(auto, unfolding(crate::specs::Words::default))]
+    pub fn text_or<R: Reader<Made = Text>>(
+        &'a self,
+        key: Key,
+        reader: &R,
+        other: &str,
+    ) -> Result<Text, ReadFault>
+        ensures { Reads result (default other.now (R.reading reader.now) ((seen self.now) · key)) }
+    {
+        let place = self.member(key);
+        if place.is_absent() {
+            return Ok(Text::from_str(self.alloc, other)?);
+        }
+        reader.read(&place)
+    }
+
+    /// The items of the list at a member, which is empty where it is absent.
+    pub fn each<R: Reader>(&'a self, key: Key, reader: &R) -> Result<List<R::Made>, ReadFault>
+        ensures { Reads result (each (R.reading reader.now) ((seen self.now) · key)) }
+    {
+        each_here(&self.member(key), reader)
+    }
+
+    /// The values of those items of the list at a member that give one.
+    pub fn each_some<T: Drop, R: Reader<Made = Option<T>>>(
+        &'a self,
+        key: Key,
+        reader: &R,
+    ) -> Result<List<T>, ReadFault>
+        ensures { Reads result (each_some (R.reading reader.now) ((seen self.now) · key)) }
+    {
+        each_some_here(&self.member(key), reader)
+    }
+}
+
+fn value_of<'a>(value: Option<&'a Value>, key: &str) -> Option<&'a Value>
+    ensures { value_seen result ≡ or_null (get key.now (value_seen value.entry)) }
+{
+    match value {
+        None => None,
+        Some(value) => value.get(key),
+    }
+}
+
+#[tactic(auto, unfolding(crate::specs::Lists::each, crate::specs::Words::default))]
+fn each_here<'a, R: Reader>(place: &'a Place<'a>, reader: &R) -> Result<List<R::Made>, ReadFault>
+    ensures { Reads result (each (R.reading reader.now) (seen place.now)) }
+{
+    if place.is_absent() {
+        return Ok(List::new(place.alloc));
+    }
+    let list = place.list()?;
+    each_of(place, list, reader)
+}
+
+fn each_of<'a, R: Reader>(
+    place: &'a Place<'a>,
+    list: &'a [Value],
+    reader: &R,
+) -> Result<List<R::Made>, ReadFault>
+    ensures { Reads result (each_from (R.reading reader.now) (seen place.now).at 0 (items_view list.now)) }
+{
+    let mut found = List::new(place.alloc);
+    for i in 0..list.len() {
+        let item = reader.read(&place.item(i, &list[i]))?;
+        found.add(item)?;
+    }
+    Ok(found)
+}
+
+#[tactic(auto, unfolding(crate::specs::Lists::each, crate::specs::Words::default))]
+fn each_some_here<'a, T: Drop, R: Reader<Made = Option<T>>>(
+    place: &'a Place<'a>,
+    reader: &R,
+) -> Result<List<T>, ReadFault>
+    ensures { Reads result (each_some (R.reading reader.now) (seen place.now)) }
+{
+    if place.is_absent() {
+        return Ok(List::new(place.alloc));
+    }
+    let list = place.list()?;
+    each_some_of(place, list, reader)
+}
+
+fn each_some_of<'a, T: Drop, R: Reader<Made = Option<T>>>(
+    place: &'a Place<'a>,
+    list: &'a [Value],
+    reader: &R,
+) -> Result<List<T>, ReadFault>
+    ensures { Reads result (kept (each_from (R.reading reader.now) (seen place.now).at 0 (items_view list.now))) }
+{
+    let mut found = List::new(place.alloc);
+    for i in 0..list.len() {
+        let item = reader.read(&place.item(i, &list[i]))?;
+        add_some(&mut found, item)?;
+    }
+    Ok(found)
+}
+
+fn add_some<T: Drop>(found: &mut List<T>, item: Option<T>) -> Result<(), Memory>
+    ensures { OnOk result (found.new ≡ found.old ++ option_to_list item) }
+{
+    match item {
+        Some(item) => found.add(item),
+        None => Ok(()),
+    }
+}
