@@ -1,8 +1,13 @@
+ghost use Rattle.std.specs.Prelude.{◌≡◌, IfOk};
+
 use k8s_meta::meta::Meta;
 use label_select::selector::Selector;
+use mesh_base::copied::Copied;
 use mesh_base::list::List;
+use mesh_base::memory::Memory;
 use mesh_base::text::Text;
 use net_cidr::block::Block;
+use std::alloc::Global;
 
 /// Which Servers a ServerAuthorization is for.
 #[derive(Debug, Drop)]
@@ -80,4 +85,85 @@ pub struct MeshAuthn {
 pub struct NetAuthn {
     pub meta: Meta,
     pub blocks: List<Block>,
+}
+
+impl Copied for ServerRef {
+    fn copy(&self, alloc: Global) -> Result<ServerRef, Memory> {
+        match self {
+            ServerRef::Named(text) => Ok(ServerRef::Named(text.copy()?)),
+            ServerRef::Chosen(selector) => Ok(ServerRef::Chosen(selector.copy(alloc)?)),
+        }
+    }
+}
+
+impl Copied for IdSpec {
+    fn copy(&self, _alloc: Global) -> Result<IdSpec, Memory> {
+        match self {
+            IdSpec::Written(text) => Ok(IdSpec::Written(text.copy()?)),
+            IdSpec::Account { ns, name } => Ok(IdSpec::Account {
+                ns: ns.copy()?,
+                name: name.copy()?,
+            }),
+            IdSpec::Namespace(text) => Ok(IdSpec::Namespace(text.copy()?)),
+        }
+    }
+}
+
+impl Copied for AuthnSpec {
+    fn copy(&self, alloc: Global) -> Result<AuthnSpec, Memory> {
+        match self {
+            AuthnSpec::Anyone => Ok(AuthnSpec::Anyone),
+            AuthnSpec::AnyTls => Ok(AuthnSpec::AnyTls),
+            AuthnSpec::Clients(list) => Ok(AuthnSpec::Clients(list.copy(alloc)?)),
+        }
+    }
+}
+
+impl Copied for ServerAuthz {
+    fn copy(&self, alloc: Global) -> Result<ServerAuthz, Memory> {
+        Ok(ServerAuthz {
+            meta: self.meta.copy(alloc)?,
+            server: self.server.copy(alloc)?,
+            blocks: self.blocks.copy(alloc)?,
+            authn: self.authn.copy(alloc)?,
+        })
+    }
+}
+
+impl Copied for Ref {
+    fn copy(&self, alloc: Global) -> Result<Ref, Memory> {
+        Ok(Ref {
+            kind: self.kind,
+            ns: self.ns.copy(alloc)?,
+            name: self.name.copy()?,
+        })
+    }
+}
+
+impl Copied for AuthzPolicy {
+    fn copy(&self, alloc: Global) -> Result<AuthzPolicy, Memory> {
+        Ok(AuthzPolicy {
+            meta: self.meta.copy(alloc)?,
+            target: self.target.copy(alloc)?,
+            needs: self.needs.copy(alloc)?,
+        })
+    }
+}
+
+impl Copied for MeshAuthn {
+    fn copy(&self, alloc: Global) -> Result<MeshAuthn, Memory> {
+        Ok(MeshAuthn {
+            meta: self.meta.copy(alloc)?,
+            ids: self.ids.copy(alloc)?,
+        })
+    }
+}
+
+impl Copied for NetAuthn {
+    fn copy(&self, alloc: Global) -> Result<NetAuthn, Memory> {
+        Ok(NetAuthn {
+            meta: self.meta.copy(alloc)?,
+            blocks: self.blocks.copy(alloc)?,
+        })
+    }
 }

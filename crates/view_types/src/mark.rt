@@ -1,8 +1,13 @@
+ghost use Rattle.std.specs.Prelude.{◌≡◌, IfOk};
+
 use crate::authn::RefKind;
 use crate::route::ParentKind;
+use mesh_base::copied::Copied;
 use mesh_base::key::ObjKey;
+use mesh_base::memory::Memory;
 use mesh_base::text::Text;
 use net_cidr::ip::Ip;
+use std::alloc::Global;
 
 /// What a change of an object touches, and what a view reads.
 #[derive(Debug, Drop)]
@@ -23,4 +28,19 @@ pub enum Mark {
     IpService(Ip),
     /// The Pods at an address.
     IpPod(Ip),
+}
+
+impl Copied for Mark {
+    fn copy(&self, alloc: Global) -> Result<Mark, Memory> {
+        match self {
+            Mark::Obj(key) => Ok(Mark::Obj(key.copy(alloc)?)),
+            Mark::SlicesOf(ns, service) => Ok(Mark::SlicesOf(ns.copy()?, service.copy()?)),
+            Mark::ServersIn(text) => Ok(Mark::ServersIn(text.copy()?)),
+            Mark::ServerAuthzIn(text) => Ok(Mark::ServerAuthzIn(text.copy()?)),
+            Mark::PolicyOn(ns, kind, name) => Ok(Mark::PolicyOn(ns.copy()?, *kind, name.copy()?)),
+            Mark::RouteOn(ns, kind, name) => Ok(Mark::RouteOn(ns.copy()?, *kind, name.copy()?)),
+            Mark::IpService(ip) => Ok(Mark::IpService(*ip)),
+            Mark::IpPod(ip) => Ok(Mark::IpPod(*ip)),
+        }
+    }
 }

@@ -1,3 +1,7 @@
+ghost use Rattle.std.specs.Prelude.{◌≡◌, IfOk};
+ghost use Rattle.mesh_base.specs.KeyOrder.{key_cmp};
+ghost use Rattle.view_types.specs.Objects.{key_of, kind_of, meta_of};
+
 use crate::authn::{AuthzPolicy, MeshAuthn, NetAuthn, ServerAuthz};
 use crate::pod::Pod;
 use crate::profile::Profile;
@@ -5,7 +9,13 @@ use crate::route::Route;
 use crate::server::ServerSpec;
 use crate::service::Service;
 use crate::slice::Slice;
+use k8s_meta::meta::Meta;
 use mesh_base::boxed::Boxed;
+use mesh_base::copied::Copied;
+use mesh_base::key::{Kind, ObjKey};
+use mesh_base::memory::Memory;
+use std::alloc::Global;
+use std::cmp::Ordering;
 
 /// An object of the cluster. What it holds stands behind a pointer, so that a list of objects moves little.
 #[derive(Debug, Drop)]
@@ -21,4 +31,83 @@ pub enum Object {
     NetworkAuthentication(Boxed<NetAuthn>),
     LinkerdRoute(Boxed<Route>),
     GatewayRoute(Boxed<Route>),
+}
+
+impl Object {
+    pub fn meta(&self) -> &Meta
+        ensures { result.now ≡ meta_of self.now }
+    {
+        match self {
+            Object::Pod(pod) => &pod.get().meta,
+            Object::Service(service) => &service.get().meta,
+            Object::EndpointSlice(slice) => &slice.get().meta,
+            Object::ServiceProfile(profile) => &profile.get().meta,
+            Object::Server(server) => &server.get().meta,
+            Object::ServerAuthorization(authz) => &authz.get().meta,
+            Object::AuthorizationPolicy(policy) => &policy.get().meta,
+            Object::MeshTLSAuthentication(authn) => &authn.get().meta,
+            Object::NetworkAuthentication(authn) => &authn.get().meta,
+            Object::LinkerdRoute(route) => &route.get().meta,
+            Object::GatewayRoute(route) => &route.get().meta,
+        }
+    }
+
+    pub fn kind(&self) -> Kind
+        ensures { result ≡ kind_of self.now }
+    {
+        match self {
+            Object::Pod(_) => Kind::Pod,
+            Object::Service(_) => Kind::Service,
+            Object::EndpointSlice(_) => Kind::EndpointSlice,
+            Object::ServiceProfile(_) => Kind::ServiceProfile,
+            Object::Server(_) => Kind::Server,
+            Object::ServerAuthorization(_) => Kind::ServerAuthorization,
+            Object::AuthorizationPolicy(_) => Kind::AuthorizationPolicy,
+            Object::MeshTLSAuthentication(_) => Kind::MeshTLSAuthentication,
+            Object::NetworkAuthentication(_) => Kind::NetworkAuthentication,
+            Object::LinkerdRoute(_) => Kind::LinkerdRoute,
+            Object::GatewayRoute(_) => Kind::GatewayRoute,
+        }
+    }
+
+    /// The key at which the object is held.
+    pub fn key(&self, alloc: Global) -> Result<ObjKey, Memory>
+        ensures { IfOk result (λ key. key ≡ key_of self.now) }
+    {
+        let meta = self.meta();
+        Ok(ObjKey {
+            kind: self.kind(),
+            ns: meta.ns.copy()?,
+            name: meta.name.copy()?,
+        })
+    }
+
+    /// How the object's key compares with a key. It takes no memory.
+    pub fn compare_key(&self, key: &ObjKey) -> Ordering
+        ensures { result ≡ key_cmp (key_of self.now) key.now }
+    {
+        let meta = self.meta();
+        match self.kind().cmp(&key.kind) {
+            Ordering::Equal => match meta.ns.cmp(&key.ns) {
+                Ordering::Equal => meta.name.cmp(&key.name),
+                other => other,
+            },
+            other => other,
+        }
+    }
+
+    /// How the keys of two objects compare. It takes no memory.
+    pub fn compare_keys(&self, other: &Object) -> Ordering
+        ensures { result ≡ key_cmp (key_of self.now) (key_of other.now) }
+    {
+        let mine = self.meta();
+        let others = other.meta();
+        match self.kind().cmp(&other.kind()) {
+            Ordering::Equal => match mine.ns.cmp(&others.ns) {
+                Ordering::Equal => mine.name.cmp(&others.name),
+                unequal => unequal,
+            },
+            unequal => unequal,
+        }
+    }
 }

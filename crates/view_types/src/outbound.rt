@@ -1,8 +1,14 @@
+ghost use Rattle.std.specs.Prelude.{◌≡◌, ◌↔◌, IfOk, IsTrue};
+
 use crate::endpoint::EndpointRow;
 use crate::profile::{Override, ProfileRoute};
 use crate::server_view::RouteRow;
+use mesh_base::copied::Copied;
 use mesh_base::list::List;
+use mesh_base::memory::Memory;
+use mesh_base::same::Same;
 use mesh_base::text::Text;
+use std::alloc::Global;
 
 /// The profile of a target.
 #[derive(Debug, Drop)]
@@ -30,4 +36,87 @@ pub enum OutboundView {
         opaque: bool,
         routes: List<RouteRow>,
     },
+}
+
+impl Copied for ProfileView {
+    fn copy(&self, alloc: Global) -> Result<ProfileView, Memory> {
+        Ok(ProfileView {
+            fqn: self.fqn.copy()?,
+            opaque: self.opaque,
+            routes: self.routes.copy(alloc)?,
+            overrides: self.overrides.copy(alloc)?,
+            endpoint: self.endpoint.copy(alloc)?,
+        })
+    }
+}
+
+impl Same for ProfileView {
+    fn is_same(&self, other: &ProfileView) -> bool {
+        self.fqn.is_same(&other.fqn)
+            && self.opaque.is_same(&other.opaque)
+            && self.routes.is_same(&other.routes)
+            && self.overrides.is_same(&other.overrides)
+            && self.endpoint.is_same(&other.endpoint)
+    }
+}
+
+impl Copied for OutboundView {
+    fn copy(&self, alloc: Global) -> Result<OutboundView, Memory> {
+        match self {
+            OutboundView::Absent => Ok(OutboundView::Absent),
+            OutboundView::Forward { endpoint, opaque } => Ok(OutboundView::Forward {
+                endpoint: endpoint.copy(alloc)?,
+                opaque: *opaque,
+            }),
+            OutboundView::Service {
+                ns,
+                name,
+                port,
+                opaque,
+                routes,
+            } => Ok(OutboundView::Service {
+                ns: ns.copy()?,
+                name: name.copy()?,
+                port: *port,
+                opaque: *opaque,
+                routes: routes.copy(alloc)?,
+            }),
+        }
+    }
+}
+
+impl Same for OutboundView {
+    fn is_same(&self, other: &OutboundView) -> bool {
+        match (self, other) {
+            (OutboundView::Absent, OutboundView::Absent) => true,
+            (
+                OutboundView::Forward { endpoint, opaque },
+                OutboundView::Forward {
+                    endpoint: other_endpoint,
+                    opaque: other_opaque,
+                },
+            ) => endpoint.is_same(other_endpoint) && opaque.is_same(other_opaque),
+            (
+                OutboundView::Service {
+                    ns,
+                    name,
+                    port,
+                    opaque,
+                    routes,
+                },
+                OutboundView::Service {
+                    ns: other_ns,
+                    name: other_name,
+                    port: other_port,
+                    opaque: other_opaque,
+                    routes: other_routes,
+                },
+            ) => ns.is_same(other_ns)
+                && name.is_same(other_name)
+                && port.is_same(other_port)
+                && opaque.is_same(other_opaque)
+                && routes.is_same(other_routes),
+            _ => false,
+        }
+    }
 }

@@ -1,8 +1,13 @@
+ghost use Rattle.std.specs.Prelude.{◌≡◌, IfOk};
+
 use crate::service::NamedPort;
 use k8s_meta::meta::Meta;
+use mesh_base::copied::Copied;
 use mesh_base::list::List;
+use mesh_base::memory::Memory;
 use mesh_base::text::Text;
 use net_cidr::ip::Ip;
+use std::alloc::Global;
 
 /// A Pod, v1.
 #[derive(Debug, Drop)]
@@ -17,4 +22,18 @@ pub struct Pod {
     pub addrs: List<Ip>,
     /// The ports of its containers.
     pub ports: List<NamedPort>,
+}
+
+impl Copied for Pod {
+    fn copy(&self, alloc: Global) -> Result<Pod, Memory> {
+        Ok(Pod {
+            meta: self.meta.copy(alloc)?,
+            account: self.account.copy()?,
+            host_network: self.host_network,
+            node: self.node.copy(alloc)?,
+            phase: self.phase.copy(alloc)?,
+            addrs: self.addrs.copy(alloc)?,
+            ports: self.ports.copy(alloc)?,
+        })
+    }
 }

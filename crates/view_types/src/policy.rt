@@ -1,3 +1,7 @@
+ghost use Rattle.std.specs.Prelude.{◌≡◌, ◌↔◌, IsTrue};
+
+use mesh_base::same::Same;
+
 /// What a server admits where no authorization decides.
 #[derive(Clone, Copy, Debug, PartialEq, Eq)]
 pub enum Policy {
@@ -18,4 +22,16 @@ pub enum Protocol {
     Grpc,
     Opaque,
     Tls,
+}
+
+impl Same for Policy {
+    fn is_same(&self, other: &Policy) -> bool {
+        *self == *other
+    }
+}
+
+impl Same for Protocol {
+    fn is_same(&self, other: &Protocol) -> bool {
+        *self == *other
+    }
 }

@@ -1,5 +1,10 @@
+ghost use Rattle.std.specs.Prelude.{◌≡◌, IfOk};
+
+use mesh_base::copied::Copied;
+use mesh_base::memory::Memory;
 use mesh_base::text::Text;
 use net_cidr::ip::Ip;
+use std::alloc::Global;
 
 /// What a proxy may subscribe to.
 #[derive(Clone, Copy, Debug, PartialEq, Eq)]
@@ -45,4 +50,59 @@ pub enum Query {
     Traffic {
         target: Target,
     },
+}
+
+impl Copied for Target {
+    fn copy(&self, _alloc: Global) -> Result<Target, Memory> {
+        match self {
+            Target::Service { ns, name, port } => Ok(Target::Service {
+                ns: ns.copy()?,
+                name: name.copy()?,
+                port: *port,
+            }),
+            Target::Address { ip, port } => Ok(Target::Address {
+                ip: *ip,
+                port: *port,
+            }),
+        }
+    }
+}
+
+impl Copied for Context {
+    fn copy(&self, alloc: Global) -> Result<Context, Memory> {
+        Ok(Context {
+            ns: self.ns.copy(alloc)?,
+            node: self.node.copy(alloc)?,
+        })
+    }
+}
+
+impl Copied for Query {
+    fn copy(&self, alloc: Global) -> Result<Query, Memory> {
+        match self {
+            Query::Get {
+                ns,
+                name,
+                port,
+                ctx,
+            } => Ok(Query::Get {
+                ns: ns.copy()?,
+                name: name.copy()?,
+                port: *port,
+                ctx: ctx.copy(alloc)?,
+            }),
+            Query::Profile { target, ctx } => Ok(Query::Profile {
+                target: target.copy(alloc)?,
+                ctx: ctx.copy(alloc)?,
+            }),
+            Query::Port { ns, pod, port } => Ok(Query::Port {
+                ns: ns.copy()?,
+                pod: pod.copy()?,
+                port: *port,
+            }),
+            Query::Traffic { target } => Ok(Query::Traffic {
+                target: target.copy(alloc)?,
+            }),
+        }
+    }
 }

@@ -1,9 +1,15 @@
+ghost use Rattle.std.specs.Prelude.{◌≡◌, ◌↔◌, IfOk, IsTrue};
+
 use crate::policy::{Policy, Protocol};
 use crate::route::{Filter, HttpMatch};
+use mesh_base::copied::Copied;
 use mesh_base::key::Kind;
 use mesh_base::list::List;
+use mesh_base::memory::Memory;
+use mesh_base::same::Same;
 use mesh_base::text::Text;
 use net_cidr::block::Block;
+use std::alloc::Global;
 
 /// The kind of an authorization.
 #[derive(Clone, Copy, Debug, PartialEq, Eq)]
@@ -84,4 +90,181 @@ pub struct ServerRow {
 pub enum ServerView {
     Absent,
     Present(ServerRow),
+}
+
+impl Same for AuthzKind {
+    fn is_same(&self, other: &AuthzKind) -> bool {
+        *self == *other
+    }
+}
+
+impl Copied for Authn {
+    fn copy(&self, alloc: Global) -> Result<Authn, Memory> {
+        match self {
+            Authn::Anyone => Ok(Authn::Anyone),
+            Authn::AnyTls => Ok(Authn::AnyTls),
+            Authn::Clients {
+                ids,
+                suffixes,
+                everyone,
+            } => Ok(Authn::Clients {
+                ids: ids.copy(alloc)?,
+                suffixes: suffixes.copy(alloc)?,
+                everyone: *everyone,
+            }),
+        }
+    }
+}
+
+impl Same for Authn {
+    fn is_same(&self, other: &Authn) -> bool {
+        match (self, other) {
+            (Authn::Anyone, Authn::Anyone) => true,
+            (Authn::AnyTls, Authn::AnyTls) => true,
+            (
+                Authn::Clients {
+                    ids,
+                    suffixes,
+                    everyone,
+                },
+                Authn::Clients {
+                    ids: other_ids,
+                    suffixes: other_suffixes,
+                    everyone: other_everyone,
+                },
+            ) => ids.is_same(other_ids)
+                && suffixes.is_same(other_suffixes)
+                && everyone.is_same(other_everyone),
+            _ => false,
+        }
+    }
+}
+
+impl Copied for AuthzRow {
+    fn copy(&self, alloc: Global) -> Result<AuthzRow, Memory> {
+        Ok(AuthzRow {
+            kind: self.kind,
+            name: self.name.copy()?,
+            blocks: self.blocks.copy(alloc)?,
+            authn: self.authn.copy(alloc)?,
+        })
+    }
+}
+
+impl Same for AuthzRow {
+    fn is_same(&self, other: &AuthzRow) -> bool {
+        self.kind.is_same(&other.kind)
+            && self.name.is_same(&other.name)
+            && self.blocks.is_same(&other.blocks)
+            && self.authn.is_same(&other.authn)
+    }
+}
+
+impl Copied for BackendRow {
+    fn copy(&self, _alloc: Global) -> Result<BackendRow, Memory> {
+        Ok(BackendRow {
+            ns: self.ns.copy()?,
+            name: self.name.copy()?,
+            port: self.port,
+            weight: self.weight,
+            missing: self.missing,
+        })
+    }
+}
+
+impl Same for BackendRow {
+    fn is_same(&self, other: &BackendRow) -> bool {
+        self.ns.is_same(&other.ns)
+            && self.name.is_same(&other.name)
+            && self.port.is_same(&other.port)
+            && self.weight.is_same(&other.weight)
+            && self.missing.is_same(&other.missing)
+    }
+}
+
+impl Copied for RuleRow {
+    fn copy(&self, alloc: Global) -> Result<RuleRow, Memory> {
+        Ok(RuleRow {
+            matches: self.matches.copy(alloc)?,
+            filters: self.filters.copy(alloc)?,
+            backends: self.backends.copy(alloc)?,
+            request_timeout: self.request_timeout,
+            backend_timeout: self.backend_timeout,
+        })
+    }
+}
+
+impl Same for RuleRow {
+    fn is_same(&self, other: &RuleRow) -> bool {
+        self.matches.is_same(&other.matches)
+            && self.filters.is_same(&other.filters)
+            && self.backends.is_same(&other.backends)
+            && self.request_timeout.is_same(&other.request_timeout)
+            && self.backend_timeout.is_same(&other.backend_timeout)
+    }
+}
+
+impl Copied for RouteRow {
+    fn copy(&self, alloc: Global) -> Result<RouteRow, Memory> {
+        Ok(RouteRow {
+            kind: self.kind,
+            name: self.name.copy()?,
+            created: self.created.copy(alloc)?,
+            hosts: self.hosts.copy(alloc)?,
+            rules: self.rules.copy(alloc)?,
+            authz: self.authz.copy(alloc)?,
+        })
+    }
+}
+
+impl Same for RouteRow {
+    fn is_same(&self, other: &RouteRow) -> bool {
+        self.kind.is_same(&other.kind)
+            && self.name.is_same(&other.name)
+            && self.created.is_same(&other.created)
+            && self.hosts.is_same(&other.hosts)
+            && self.rules.is_same(&other.rules)
+            && self.authz.is_same(&other.authz)
+    }
+}
+
+impl Copied for ServerRow {
+    fn copy(&self, alloc: Global) -> Result<ServerRow, Memory> {
+        Ok(ServerRow {
+            protocol: self.protocol,
+            policy: self.policy,
+            server: self.server.copy(alloc)?,
+            authz: self.authz.copy(alloc)?,
+            routes: self.routes.copy(alloc)?,
+        })
+    }
+}
+
+impl Same for ServerRow {
+    fn is_same(&self, other: &ServerRow) -> bool {
+        self.protocol.is_same(&other.protocol)
+            && self.policy.is_same(&other.policy)
+            && self.server.is_same(&other.server)
+            && self.authz.is_same(&other.authz)
+            && self.routes.is_same(&other.routes)
+    }
+}
+
+impl Copied for ServerView {
+    fn copy(&self, alloc: Global) -> Result<ServerView, Memory> {
+        match self {
+            ServerView::Absent => Ok(ServerView::Absent),
+            ServerView::Present(row) => Ok(ServerView::Present(row.copy(alloc)?)),
+        }
+    }
+}
+
+impl Same for ServerView {
+    fn is_same(&self, other: &ServerView) -> bool {
+        match (self, other) {
+            (ServerView::Absent, ServerView::Absent) => true,
+            (ServerView::Present(mine), ServerView::Present(others)) => mine.is_same(others),
+            _ => false,
+        }
+    }
 }

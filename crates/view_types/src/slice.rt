@@ -1,8 +1,13 @@
+ghost use Rattle.std.specs.Prelude.{◌≡◌, IfOk};
+
 use crate::service::NamedPort;
 use k8s_meta::meta::Meta;
+use mesh_base::copied::Copied;
 use mesh_base::list::List;
+use mesh_base::memory::Memory;
 use mesh_base::text::Text;
 use net_cidr::ip::Ip;
+use std::alloc::Global;
 
 /// What the addresses of an EndpointSlice are.
 #[derive(Clone, Copy, Debug, PartialEq, Eq)]
@@ -29,4 +34,25 @@ pub struct Slice {
     pub family: Family,
     pub points: List<Point>,
     pub ports: List<NamedPort>,
+}
+
+impl Copied for Point {
+    fn copy(&self, alloc: Global) -> Result<Point, Memory> {
+        Ok(Point {
+            addrs: self.addrs.copy(alloc)?,
+            ready: self.ready,
+            pod: self.pod.copy(alloc)?,
+        })
+    }
+}
+
+impl Copied for Slice {
+    fn copy(&self, alloc: Global) -> Result<Slice, Memory> {
+        Ok(Slice {
+            meta: self.meta.copy(alloc)?,
+            family: self.family,
+            points: self.points.copy(alloc)?,
+            ports: self.ports.copy(alloc)?,
+        })
+    }
 }

@@ -1,6 +1,12 @@
+ghost use Rattle.std.specs.Prelude.{◌≡◌, ◌↔◌, IfOk, IsTrue};
+
 use crate::endpoint::EndpointView;
 use crate::outbound::{OutboundView, ProfileView};
 use crate::server_view::ServerView;
+use mesh_base::copied::Copied;
+use mesh_base::memory::Memory;
+use mesh_base::same::Same;
+use std::alloc::Global;
 
 /// What a query shows of the objects held.
 #[derive(Debug, Drop)]
@@ -9,4 +15,27 @@ pub enum View {
     Profile(ProfileView),
     Server(ServerView),
     Outbound(OutboundView),
+}
+
+impl Copied for View {
+    fn copy(&self, alloc: Global) -> Result<View, Memory> {
+        match self {
+            View::Endpoints(view) => Ok(View::Endpoints(view.copy(alloc)?)),
+            View::Profile(view) => Ok(View::Profile(view.copy(alloc)?)),
+            View::Server(view) => Ok(View::Server(view.copy(alloc)?)),
+            View::Outbound(view) => Ok(View::Outbound(view.copy(alloc)?)),
+        }
+    }
+}
+
+impl Same for View {
+    fn is_same(&self, other: &View) -> bool {
+        match (self, other) {
+            (View::Endpoints(mine), View::Endpoints(others)) => mine.is_same(others),
+            (View::Profile(mine), View::Profile(others)) => mine.is_same(others),
+            (View::Server(mine), View::Server(others)) => mine.is_same(others),
+            (View::Outbound(mine), View::Outbound(others)) => mine.is_same(others),
+            _ => false,
+        }
+    }
 }

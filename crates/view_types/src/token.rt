@@ -1,0 +1,55 @@
+ghost use Rattle.std.specs.Prelude.{◌≡◌, IfOk, option_map};
+ghost use Rattle.serde_json.specs.View.{view};
+ghost use Rattle.view_types.specs.Contexts.{context_of, json_of, text_at};
+
+use crate::query::Context;
+use mesh_base::memory::Memory;
+use mesh_base::text::Text;
+use serde_json::Value;
+use std::alloc::Global;
+
+/// What a context token says: the members `ns` and `nodeName` of a JSON object, each none unless it is a text. Other
+/// bytes say nothing.
+#[tactic(auto, unfolding(crate::specs::Contexts::context_of))]
+pub fn read_context(alloc: Global, token: &[u8]) -> Result<Context, Memory>
+    ensures { IfOk result (λ ctx. ctx ≡ context_of token.now) }
+{
+    match read_json(alloc, token)? {
+        Some(value) => Ok(Context {
+            ns: text_at(alloc, &value, "ns")?,
+            node: text_at(alloc, &value, "nodeName")?,
+        }),
+        None => Ok(Context {
+            ns: None,
+            node: None,
+        }),
+    }
+}
+
+#[tactic(auto, unfolding(crate::specs::Contexts::json_of))]
+fn read_json(alloc: Global, bytes: &[u8]) -> Result<Option<Value>, Memory>
+    ensures { IfOk result (λ value. option_map view value ≡ json_of bytes.now) }
+{
+    match Value::from_slice(alloc, bytes) {
+        Ok(value) => Ok(Some(value)),
+        Err(error) => {
+            if error.is_memory() {
+                Err(Memory)
+            } else {
+                Ok(None)
+            }
+        }
+    }
+}
+
+fn text_at(alloc: Global, value: &Value, key: &str) -> Result<Option<Text>, Memory>
+    ensures { IfOk result (λ text. text ≡ text_at key.now (view value.now)) }
+{
+    let Some(member) = value.get(key) else {
+        return Ok(None);
+    };
+    match member.as_str() {
+        Some(text) => Ok(Some(Text::from_str(alloc, text)?)),
+        None => Ok(None),
+    }
+}
