@@ -1,0 +1,6 @@
+pub mod Addresses
+pub mod NamedPorts
+pub mod Pods
+pub mod SeenIps
+pub mod Services
+pub mod Slices

@@ -1,0 +1,42 @@
+-- The members of a Pod.
+use Rattle.std.specs.Prelude.{codes, ◌++◌, List, Option, None, Result, Ok, false, option_to_list, unwrap_or}
+use Rattle.std.specs.List.{flat_map}
+use Rattle.net_cidr.specs.declared.ip.Ip.{Ip}
+use Rattle.k8s_core.specs.Addresses.{once}
+use Rattle.k8s_core.specs.NamedPorts.{port_at}
+use Rattle.k8s_meta.specs.Lists.{each, each_some}
+use Rattle.k8s_meta.specs.Metadata.{meta_at}
+use Rattle.k8s_meta.specs.Scalars.{ip, name}
+use Rattle.k8s_meta.specs.Spots.{Spot, ◌·◌, ◌>>=◌}
+use Rattle.k8s_meta.specs.Words.{boolean, default, filled, object, optional, part, text}
+use Rattle.k8s_meta.specs.declared.fault.ReadFault.{ReadFault}
+use Rattle.k8s_meta.specs.declared.key.Key.TheVariants as keys
+use Rattle.view_types.specs.declared.pod.Pod.{Pod}
+use Rattle.view_types.specs.declared.service.NamedPort.{NamedPort}
+
+-- the ports of a container
+unfoldable pub container_at : Spot → Result (List NamedPort) ReadFault
+container_at c = do
+  c ← object c
+  each (port_at keys.ContainerPort) (c · keys.Ports)
+
+-- an entry of a Pod's addresses
+unfoldable pub pod_ip_at : Spot → Result (Option Ip) ReadFault
+pod_ip_at e = do
+  e ← object e
+  default None (filled ip) (e · keys.Ip)
+
+unfoldable pub pod_at : Spot → Result Pod ReadFault
+pod_at s = do
+  s ← object s
+  meta ← meta_at s
+  spec ← part (s · keys.Spec)
+  account ← default None (filled name) (spec · keys.ServiceAccountName)
+  host_network ← default false boolean (spec · keys.HostNetwork)
+  node ← optional text (spec · keys.NodeName)
+  ports ← each container_at (spec · keys.Containers)
+  status ← part (s · keys.Status)
+  phase ← optional text (status · keys.Phase)
+  first ← default None (filled ip) (status · keys.PodIp)
+  others ← each_some pod_ip_at (status · keys.PodIps)
+  Ok (record { meta = meta; account = unwrap_or account (codes "default"); host_network = host_network; node = node; phase = phase; addrs = once (option_to_list first ++ others); ports = flat_map (λ l. l) ports })

@@ -1,0 +1,13 @@
+//! Readers of the core objects: Service, EndpointSlice and Pod.
+//!
+//! Stands on k8s_meta, whose words the member tables are written in, and on view_types for what is read. Each reader's
+//! contract cites its table: `service_at` of `specs/Services`, `slice_at` of `specs/Slices`, `pod_at` of `specs/Pods`.
+#![tactic(auto)]
+
+mod addresses;
+pub mod pod;
+mod port_entry;
+pub mod service;
+pub mod slice;
+#[cfg(test)]
+mod tests;

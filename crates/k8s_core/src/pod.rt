@@ -1,0 +1,118 @@
+ghost use Rattle.std.specs.Prelude.{◌≡◌, ◌++◌, codes, unwrap_or, IfOk, OnOk};
+ghost use Rattle.std.specs.List.{flat_map};
+ghost use Rattle.serde_json.specs.View.{view};
+ghost use Rattle.k8s_core.specs.Pods.{container_at, pod_at, pod_ip_at};
+ghost use Rattle.k8s_meta.specs.Spots.{Reads, seen};
+
+use crate::addresses::once;
+use crate::port_entry::PortEntry;
+use k8s_meta::fault::ReadFault;
+use k8s_meta::key::Key;
+use k8s_meta::meta::meta_of;
+use k8s_meta::place::Place;
+use k8s_meta::reader::Reader;
+use k8s_meta::words::{Address, AnyText, Filled, Flag, Name};
+use mesh_base::list::List;
+use mesh_base::memory::Memory;
+use mesh_base::text::Text;
+use net_cidr::ip::Ip;
+use serde_json::Value;
+use std::alloc::Global;
+use view_types::pod::Pod;
+use view_types::service::NamedPort;
+
+/// The Pod that stands at the path `at`. Its fault is the first in the order of its members.
+pub fn read_pod(alloc: Global, object: &Value, at: &str) -> Result<Pod, ReadFault>
+    ensures { Reads result (pod_at record { at = at.now; value = view object.now }) }
+{
+    pod_of(&Place::top(alloc, object, at))
+}
+
+#[tactic(auto, unfolding(crate::specs::Pods::pod_at))]
+fn pod_of<'a>(object: &'a Place<'a>) -> Result<Pod, ReadFault>
+    ensures { Reads result (pod_at (seen object.now)) }
+{
+    object.object()?;
+    let meta = meta_of(object)?;
+    let spec = object.part(Key::Spec)?;
+    let account = spec.default(Key::ServiceAccountName, &Filled(Name), None)?;
+    let host_network = spec.default(Key::HostNetwork, &Flag, false)?;
+    let node = spec.optional(Key::NodeName, &AnyText)?;
+    let ports = spec.each(Key::Containers, &Container)?;
+    let status = object.part(Key::Status)?;
+    let phase = status.optional(Key::Phase, &AnyText)?;
+    let first = status.default(Key::PodIp, &Filled(Address), None)?;
+    let others = status.each_some(Key::PodIps, &PodIp)?;
+    Ok(Pod {
+        meta,
+        account: account_or_default(object.alloc(), account)?,
+        host_network,
+        node,
+        phase,
+        addrs: once(object.alloc(), first, others)?,
+        ports: joined(object.alloc(), ports)?,
+    })
+}
+
+fn account_or_default(alloc: Global, account: Option<Text>) -> Result<Text, Memory>
+    ensures { IfOk result (λ name. name ≡ unwrap_or account (codes "default")) }
+{
+    match account {
+        Some(name) => Ok(name),
+        None => Text::from_str(alloc, "default"),
+    }
+}
+
+/// The ports of a container.
+struct Container;
+
+impl Reader for Container {
+    type Made = List<NamedPort>;
+
+    ghost reading = { λ _. container_at };
+
+    #[tactic(auto, unfolding(crate::specs::Pods::container_at))]
+    fn read<'a>(&self, place: &'a Place<'a>) -> Result<List<NamedPort>, ReadFault> {
+        place.object()?;
+        place.each(
+            Key::Ports,
+            &PortEntry {
+                key: Key::ContainerPort,
+            },
+        )
+    }
+}
+
+/// An entry of a Pod's addresses.
+struct PodIp;
+
+impl Reader for PodIp {
+    type Made = Option<Ip>;
+
+    ghost reading = { λ _. pod_ip_at };
+
+    #[tactic(auto, unfolding(crate::specs::Pods::pod_ip_at))]
+    fn read<'a>(&self, place: &'a Place<'a>) -> Result<Option<Ip>, ReadFault> {
+        place.object()?;
+        place.default(Key::Ip, &Filled(Address), None)
+    }
+}
+
+fn joined(alloc: Global, lists: List<List<NamedPort>>) -> Result<List<NamedPort>, Memory>
+    ensures { IfOk result (λ all. all ≡ flat_map (λ l. l) lists) }
+{
+    let mut all = List::new(alloc);
+    for list in lists.into_vec() {
+        append(&mut all, list)?;
+    }
+    Ok(all)
+}
+
+fn append(all: &mut List<NamedPort>, list: List<NamedPort>) -> Result<(), Memory>
+    ensures { OnOk result (all.new ≡ all.old ++ list) }
+{
+    for port in list.into_vec() {
+        all.add(port)?;
+    }
+    Ok(())
+}
