@@ -1,0 +1,34 @@
+use Rattle.std.proofs.Common.{◌≡◌, map, refl, sym, ap, ◌∙◌}
+use Rattle.std.proofs.lemmas.List.Sorted.{All-permutation}
+use Rattle.view_types.specs.Objects.{key_of, kind_of}
+use Rattle.object_store.proofs.PutAll.{relisted-moved}
+use Rattle.object_store.proofs.Room.{room_of_none}
+use Rattle.object_store.proofs.relist.relist.Goals as goal
+
+pub lacks_room_for-requires-clause-each : goal.lacks_room_for-requires-clause-each
+lacks_room_for-requires-clause-each c = rw c.as_slice.ensures.value (All-permutation (λ o. kind_of o ≡ c.args.kind) c.args.items c.arrange-items.result.items c.arrange-items.ensures.moved c.requires.list.each)
+
+pub replace-requires-clause-each : goal.replace-requires-clause-each
+replace-requires-clause-each c = All-permutation (λ o. kind_of o ≡ c.args.kind) c.args.items c.arrange-items.result.items c.arrange-items.ensures.moved c.requires.list.each
+
+pub returns-then-lacks_room_for-clause-full : goal.returns-then-lacks_room_for-clause-full
+returns-then-lacks_room_for-clause-full c =
+    let same = relisted-moved c.args.objects.now c.args.kind c.args.items c.arrange-items.result.items c.arrange-items.ensures.moved c.requires.list.apart in
+    let over = rw c.as_slice.ensures.value at (sym c.lacks_room_for.ensures ∙ c.if-lacks_room_for.true) in
+    (rw same at over, c.len.ensures, refl)
+
+pub returns-in_err-old-clause-kept : goal.returns-in_err-old-clause-kept
+returns-in_err-old-clause-kept c = rw c.in_err-old.ensures.err (room_of_none c.args.limit)
+
+pub returns-clause-ok : goal.returns-clause-ok
+returns-clause-ok c = record {
+  objects = c.in_ok-old.ensures.ok ∙ relisted-moved c.args.objects.now c.args.kind c.args.items c.arrange-items.result.items c.arrange-items.ensures.moved c.requires.list.apart;
+  before = c.in_ok-old.ensures.before;
+  keys = c.in_ok-new.ensures ∙ ap (map key_of) (c.as_slice-2.ensures.value ∙ sym c.in_ok-old.ensures.now);
+}
+
+pub returns-clause-room : goal.returns-clause-room
+returns-clause-room c =
+    let same = relisted-moved c.args.objects.now c.args.kind c.args.items c.arrange-items.result.items c.arrange-items.ensures.moved c.requires.list.apart in
+    let within = rw c.as_slice.ensures.value at (sym c.lacks_room_for.ensures ∙ c.if-lacks_room_for.false) in
+    rw same at within

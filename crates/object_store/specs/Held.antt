@@ -1,0 +1,18 @@
+-- What a store holds.
+use Rattle.std.specs.Prelude.{ℕ, Bool, refl}
+use Rattle.std.specs.Coded.{Coded, code_by, coded×, coded_ℕ, coded_bool}
+use Rattle.std.specs.FinMap.{code}
+use Rattle.mesh_base.specs.KeyOrder.{coded_key}
+use Rattle.view_types.specs.contracts.object.Object as object
+use Rattle.view_types.specs.Objects.{ObjectMap}
+
+-- the objects by their keys, how many there may be, and whether memory was wanting
+pub record Held : Type 0 where
+  pub objects : ObjectMap
+  pub limit : ℕ
+  pub spent : Bool
+
+-- as a map and the rest
+abbrev pub held_code : Coded Held
+held_code = code_by (ObjectMap × (ℕ × Bool)) (coded× (code coded_key object.the_row.coded) (coded× coded_ℕ coded_bool))
+    (λ h. (h.objects, (h.limit, h.spent))) (λ p. record { objects = p.0; limit = p.1.0; spent = p.1.1 }) (λ _. refl)

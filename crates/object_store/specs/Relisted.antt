@@ -1,0 +1,46 @@
+-- A list that replaces all objects of a kind.
+use Rattle.std.specs.Prelude.{◌≡◌, ◌==◌, nat_lt, not, if◌then◌else◌, ℕ, Bool, List, [], ◌∷◌, map, Option}
+use Rattle.std.specs.List.{filter, find}
+use Rattle.std.specs.Ordering.{eq_by_cmp}
+use Rattle.std.specs.FinMap.{get, insert, retain_keys, values, len}
+use Rattle.mesh_base.specs.KeyOrder.{key_cmp, kind_place}
+use Rattle.mesh_base.specs.declared.key.Kind.{Kind}
+use Rattle.mesh_base.specs.declared.key.ObjKey.{ObjKey}
+use Rattle.view_types.specs.declared.object.Object.{Object}
+use Rattle.view_types.specs.Objects.{key_of, ObjectMap, IsListOf}
+use Rattle.object_store.specs.declared.change.Change.{Change}
+
+abbrev pub is_of : Kind → ObjKey → Bool
+is_of kind k = kind_place k.kind == kind_place kind
+
+-- the objects of the kind, in the order of their keys
+abbrev pub of_kind : Kind → ObjectMap → List Object
+of_kind kind m = filter (λ o. is_of kind (key_of o)) (values m)
+
+-- the item with the key
+abbrev pub item_at : ObjKey → List Object → Option Object
+item_at k items = find (λ o. eq_by_cmp key_cmp k (key_of o)) items
+
+-- each item put at its key
+abbrev pub put_all : List Object → ObjectMap → ObjectMap
+put_all [] m = m
+put_all (o ∷ os) m = insert (put_all os m) (key_of o) o
+
+-- the objects of other kinds, and the items
+abbrev pub relisted : ObjectMap → Kind → List Object → ObjectMap
+relisted m kind items = put_all items (retain_keys m (λ k. not (is_of kind k)))
+
+-- more objects would be held than may be
+abbrev pub exceeds : ObjectMap → ℕ → Kind → List Object → Bool
+exceeds m limit kind items = nat_lt limit (len (relisted m kind items))
+
+-- the items take the place of all objects of their kind
+pub record Relists (old new : ObjectMap) (kind : Kind) (items : List Object) (change : Change) : Type 0 where
+  pub objects : new ≡ relisted old kind items
+  pub before : change.old ≡ of_kind kind old
+  pub keys : change.new ≡ map key_of (of_kind kind new)
+
+-- key by key: the item with the key where it is of the kind, and else what was held
+abbrev pub RelistedByKey : Type 0
+RelistedByKey = (m : ObjectMap) (kind : Kind) (items : List Object) → IsListOf kind items → (k : ObjKey)
+    → get (relisted m kind items) k ≡ (if is_of kind k then item_at k items else get m k)

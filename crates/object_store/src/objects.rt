@@ -1,0 +1,167 @@
+ghost use Rattle.std.specs.Prelude.{◌≡◌, ◌≤◌, ◌++◌, false, IfSome, IfOk, IfErr, OnOk, OnErr};
+ghost use Rattle.std.specs.List.{All};
+ghost use Rattle.std.specs.Option.{option_copied};
+ghost use Rattle.std.specs.FinMap as map;
+ghost use Rattle.mesh_base.specs.KeyOrder.{key_cmp};
+ghost use Rattle.mesh_base.specs.Keyed.{IsKeyed};
+ghost use Rattle.mesh_base.specs.Places.{IsHit, IsGap};
+ghost use Rattle.view_types.specs.Objects.{key_of, kind_of};
+ghost use Rattle.object_store.specs.Relisted.{exceeds, of_kind, relisted};
+ghost use Rattle.object_store.specs.Changes.{AtKeys, IsFull, lacks_room};
+
+use crate::change::StoreFault;
+use crate::kinds::{count_others, part};
+use mesh_base::key::{Kind, ObjKey};
+use mesh_base::list::List;
+use mesh_base::memory::Memory;
+use std::alloc::Global;
+use std::marker::Model;
+use std::mem;
+use view_types::object::Object;
+
+/// Objects, each at its own key, in a list in the order of their keys. Contracts see them as a finite map.
+#[derive(Drop)]
+pub struct Objects {
+    items: Vec<Object>,
+}
+
+impl Model for Objects {
+    ghost use Rattle.std.specs.FinMap as map;
+    ghost use Rattle.mesh_base.specs.KeyOrder.{key_cmp, coded_key};
+    ghost use Rattle.mesh_base.specs.Keyed.{IsKeyed, keyed_map};
+    ghost use Rattle.view_types.specs.Objects.{key_of, ObjectMap};
+    ghost use Rattle.view_types.specs.contracts.object.Object as object;
+
+    ghost Value = { ObjectMap };
+
+    ghost coded = { map.code coded_key object.the_row.coded };
+
+    ghost view = { λ s. keyed_map key_cmp key_of (λ o. o) s.items.items };
+
+    ghost invariant = { λ s. IsKeyed key_cmp key_of (λ o. o) s.items.items };
+}
+
+impl Objects {
+    pub fn new(alloc: Global) -> Objects
+        ensures { result ≡ map.empty }
+    {
+        Objects {
+            items: Vec::new(alloc),
+        }
+    }
+
+    pub fn len(&self) -> usize
+        ensures { result ≡ map.len self.now }
+    {
+        self.items.len()
+    }
+
+    /// The objects in the order of their keys.
+    pub fn all(&self) -> &[Object]
+        ensures value { result.now ≡ map.values self.now }
+        ensures at_keys { AtKeys self.now }
+    {
+        self.items.as_slice()
+    }
+
+    pub fn get(&self, key: &ObjKey) -> Option<&Object>
+        ensures value { option_copied result ≡ map.get self.now key.now }
+        ensures at_key { IfSome result (λ o. key_of o.now ≡ key.now) }
+    {
+        match place(self.items.as_slice(), key) {
+            Ok(at) => Some(&self.items[at]),
+            Err(_) => None,
+        }
+    }
+
+    /// Takes the object out, and gives it.
+    pub fn remove(&mut self, key: &ObjKey) -> Option<Object>
+        ensures before { result ≡ map.get self.old key.now }
+        ensures removed { self.new ≡ map.remove self.old key.now }
+    {
+        match place(self.items.as_slice(), key) {
+            Ok(at) => Some(self.items.remove(at)),
+            Err(_) => None,
+        }
+    }
+
+    /// Puts the object at its key, and gives the one that was there.
+    pub fn set(
+        &mut self,
+        limit: u32,
+        key: &ObjKey,
+        object: Object,
+    ) -> Result<Option<Object>, StoreFault>
+        requires own { key.now ≡ key_of object }
+        requires within { map.len self.old ≤ limit }
+        ensures before { IfOk result (λ before. before ≡ map.get self.old key.now) }
+        ensures ok { OnOk result (self.new ≡ map.insert self.old key.now object) }
+        ensures room { OnOk result (lacks_room self.old limit key.now ≡ false) }
+        ensures full { IfErr result (IsFull self.old self.new (lacks_room self.old limit key.now)) }
+        ensures err { OnErr result (self.new ≡ self.old) }
+    {
+        match place(self.items.as_slice(), key) {
+            Ok(at) => Ok(Some(mem::replace(&mut self.items[at], object))),
+            Err(at) => {
+                if self.items.len() == limit as usize {
+                    return Err(StoreFault::Full { held: limit });
+                }
+                self.items.insert(at, object)?;
+                Ok(None)
+            }
+        }
+    }
+
+    /// Whether more objects would be held than may be if the items, which stand in the order of their keys, took the
+    /// place of all objects of their kind.
+    pub fn lacks_room_for(&self, limit: u32, kind: Kind, items: &[Object]) -> bool
+        requires each { All (λ o. kind_of o ≡ kind) items.now }
+        requires sorted { IsKeyed key_cmp key_of (λ o. o) items.now }
+        requires within { map.len self.now ≤ limit }
+        ensures { result ≡ exceeds self.now limit kind items.now }
+    {
+        items.len() > limit as usize - count_others(self.items.as_slice(), kind)
+    }
+
+    /// Puts the items, which stand in the order of their keys, in the place of all objects of their kind, and gives
+    /// those in their order. For want of memory no object is left.
+    pub fn replace(
+        &mut self,
+        alloc: Global,
+        kind: Kind,
+        items: Vec<Object>,
+    ) -> Result<List<Object>, Memory>
+        requires each { All (λ o. kind_of o ≡ kind) items.items }
+        requires sorted { IsKeyed key_cmp key_of (λ o. o) items.items }
+        ensures ok { OnOk result (self.new ≡ relisted self.old kind items.items) }
+        ensures before { IfOk result (λ before. before ≡ of_kind kind self.old) }
+        ensures now { OnOk result (of_kind kind self.new ≡ items.items) }
+        ensures err { OnErr result (self.new ≡ map.empty) }
+    {
+        let objects = mem::replace(&mut self.items, Vec::new(alloc));
+        let parts = part(objects, kind)?;
+        self.items = join(parts.below, items, parts.above)?;
+        Ok(List::from_vec(parts.own))
+    }
+}
+
+fn join(
+    mut below: Vec<Object>,
+    mut own: Vec<Object>,
+    mut above: Vec<Object>,
+) -> Result<Vec<Object>, Memory>
+    ensures { IfOk result (λ joined. joined.items ≡ below.items ++ (own.items ++ above.items)) }
+{
+    below.append(&mut own)?;
+    below.append(&mut above)?;
+    Ok(below)
+}
+
+/// Where the key stands, or where it would go.
+fn place(objects: &[Object], key: &ObjKey) -> Result<usize, usize>
+    requires { IsKeyed key_cmp key_of (λ o. o) objects.now }
+    ensures hit { IfOk result (IsHit (λ o. key_cmp (key_of o) key.now) objects.now) }
+    ensures gap { IfErr result (IsGap (λ o. key_cmp (key_of o) key.now) objects.now) }
+{
+    objects.binary_search_by(|object| object.compare_key(key))
+}
