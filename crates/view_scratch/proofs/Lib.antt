@@ -1,0 +1,6 @@
+mod Among
+mod FirstOfEach
+mod FirstRows
+mod Found
+mod Given
+mod Held

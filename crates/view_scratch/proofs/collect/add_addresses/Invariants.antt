@@ -1,0 +1,8 @@
+use Rattle.std.proofs.Common.{◌≡◌, ◌++◌, take}
+use Rattle.std.specs.List.{flat_map}
+use Rattle.view_types.specs.Endpoints.{address_rows}
+use Rattle.view_scratch.proofs.collect.add_addresses.Given as goal
+
+-- the rows of the ips so far are added
+abbrev pub invariant-loop-ip : goal.invariant-loop-ip
+invariant-loop-ip l = l.rows ≡ l.initial.rows ++ flat_map (address_rows l.port_name l.ports) (take l.ip-index l.addrs)
