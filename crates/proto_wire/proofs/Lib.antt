@@ -1,0 +1,4 @@
+pub mod Lengths
+pub mod Round
+pub mod Spellings
+mod Varint

@@ -1,0 +1,4 @@
+pub mod Messages
+pub mod Plain
+pub mod Reading
+pub mod Sendable
