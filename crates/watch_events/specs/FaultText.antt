@@ -1,0 +1,13 @@
+-- How the fault of a line is written.
+use Rattle.std.specs.Prelude.{ℕ, List, [], codes}
+use Rattle.k8s_meta.specs.FaultText.{read_fault_text}
+use Rattle.watch_events.specs.declared.line.LineFault.{LineFault}
+use Rattle.watch_events.specs.declared.line.LineFault.TheVariants.{Memory, TooLong, NotJson, NotBuilt, Object}
+
+-- Want of memory has no text.
+abbrev pub line_fault_text : LineFault → List ℕ
+line_fault_text Memory = []
+line_fault_text TooLong = codes "TooLong"
+line_fault_text NotJson = codes "NotJson"
+line_fault_text NotBuilt = codes "NotBuilt"
+line_fault_text (Object fault) = read_fault_text fault
