@@ -1,0 +1,9 @@
+pub mod Cluster
+pub mod Headline
+pub mod History
+pub mod LookBack
+pub mod Output
+pub mod RefusalText
+pub mod Stand
+pub mod Take
+pub mod Text

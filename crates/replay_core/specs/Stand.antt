@@ -1,0 +1,48 @@
+-- Where a replay stands after some rows, while it writes its end, and after that.
+use Rattle.std.specs.Prelude.{◌≡◌, ℕ, Bool, List, ◌++◌, take}
+use Rattle.std.proofs.Common.{append-nil, sym, ap, ◌∙◌}
+use Rattle.std.specs.List.{flat_map}
+use Rattle.std.specs.FinMap.{values}
+use Rattle.mesh_base.specs.declared.limits.Limits.{Limits}
+use Rattle.line_run.specs.Rows.{Row}
+use Rattle.view_types.specs.declared.config.Config.{Config}
+use Rattle.replay_core.specs.declared.cluster.Cluster.{Cluster}
+use Rattle.replay_core.specs.Cluster.{state_of}
+use Rattle.replay_core.specs.History.{after}
+use Rattle.replay_core.specs.Output.{written_after, refused_after, output_after, sub_lines}
+
+-- what is held and asked for is what the rows lead to, and the limits are the run's
+pub record IsAfter (config : Config) (limits : Limits) (past : List Row) (cluster : Cluster) : Type 0 where
+  pub state : state_of cluster ≡ after config limits past
+  pub objects : cluster.store.limit ≡ limits.objects
+  pub subs : cluster.most_subs ≡ limits.subs
+
+pub record Stands (config : Config) (limits : Limits) (cluster : Cluster) (sent : ℕ) (past : List Row) (text : List ℕ) (refused : Bool) : Type 0 where
+  pub here : IsAfter config limits past cluster
+  pub none_sent : sent ≡ 0
+  pub writes : text ≡ written_after config limits past
+  pub refuses : refused ≡ refused_after config limits past
+
+-- the first subscriptions, so many, have been sent what they are owed
+pub record Ending (config : Config) (limits : Limits) (cluster : Cluster) (sent : ℕ) (past : List Row) (text : List ℕ) (refused : Bool) : Type 0 where
+  pub here : IsAfter config limits past cluster
+  pub writes : text ≡ written_after config limits past ++ flat_map (sub_lines limits (values cluster.store.objects)) (take sent cluster.subs)
+  pub refuses : refused ≡ refused_after config limits past
+
+pub record Ended (config : Config) (limits : Limits) (past : List Row) (text : List ℕ) (refused : Bool) : Type 0 where
+  pub writes : text ≡ output_after config limits past
+  pub refuses : refused ≡ refused_after config limits past
+
+-- the configuration and the limits are the run's
+pub record IsOfRun (config : Config) (limits : Limits) (config_now : Config) (limits_now : Limits) : Type 0 where
+  pub same_config : config_now ≡ config
+  pub same_limits : limits_now ≡ limits
+
+-- where a replay stands, none of its end has been written
+pub ending_none : (config : Config) (limits : Limits) (cluster : Cluster) (sent : ℕ) (past : List Row) (text : List ℕ) (refused : Bool) → Stands config limits cluster sent past text refused → Ending config limits cluster sent past text refused
+ending_none config limits cluster sent past text refused stood = record {
+  here = stood.here;
+  writes = stood.writes ∙ sym (append-nil (written_after config limits past))
+      ∙ ap (λ (n : ℕ). written_after config limits past ++ flat_map (sub_lines limits (values cluster.store.objects)) (take n cluster.subs)) (sym stood.none_sent);
+  refuses = stood.refuses;
+}

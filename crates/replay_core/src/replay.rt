@@ -1,0 +1,42 @@
+ghost use Rattle.std.specs.Prelude.{◌≡◌, ◌≢◌, ◌≤◌, ◌<◌, ℕ, List, length, Some};
+ghost use Rattle.mesh_outside.specs.Causes.{Rose, Unrisen};
+ghost use Rattle.line_run.specs.Run.{OnEnd, OnStop, TookLimit, IsAnswered, IsTooLong};
+ghost use Rattle.replay_core.specs.Headline.{WritesOutput, WritesFront};
+
+use crate::replaying::Replaying;
+use line_run::{Status, run_lines};
+use mesh_base::limits::Limits;
+use mesh_outside::{Sink, Source};
+use std::alloc::Global;
+use view_types::config::Config;
+
+/// Replays a recorded feed: reads its lines to the end, writes why each refused line is refused, and then what each
+/// live subscription is sent.
+pub fn replay<S: Source, K: Sink>(
+    alloc: Global,
+    config: &Config,
+    limits: &Limits,
+    input: &mut S,
+    out: &mut K,
+) -> Status
+    requires { 1 ≤ limits.now.frame_addrs }
+
+    // Read to the end: what was written is the defined output, and a line was refused or none.
+    ensures output { OnEnd result (WritesOutput config.now limits.now (S.left input.old) (K.held out.old) (K.held out.new)) }
+
+    // Else it is a front of the defined output.
+    ensures front { OnStop result (WritesFront config.now limits.now (S.left input.old) (K.held out.old) (K.held out.new)) }
+
+    // When each status comes.
+    ensures read { result ≡ Status.ReadFault → Rose (S.faults input.old) (S.faults input.new) }
+    ensures write { result ≡ Status.WriteFault → Rose (K.faults out.old) (K.faults out.new) }
+    ensures long { result ≡ Status.InputTooLong → TookLimit limits.now.input (S.left input.old) }
+    ensures complete { Unrisen (S.faults input.old) (S.faults input.new) → Unrisen (K.faults out.old) (K.faults out.new)
+        → (bytes : List ℕ) → S.left input.old ≡ Some bytes → length bytes < limits.now.input → IsAnswered result }
+    ensures too_long { Unrisen (S.faults input.old) (S.faults input.new) → Unrisen (K.faults out.old) (K.faults out.new)
+        → (bytes : List ℕ) → S.left input.old ≡ Some bytes → limits.now.input ≤ length bytes → IsTooLong result }
+    ensures usage { result ≢ Status.Usage }
+{
+    let mut machine = Replaying::new(alloc, config, *limits);
+    run_lines(alloc, *limits, &mut machine, input, out)
+}
