@@ -1,0 +1,50 @@
+#!/usr/bin/env python3
+"""100,000 EndpointSlice lines of about 1.2 KB as an API server writes them, through the program and through Python's
+json.loads. Needs the built program (./linkerd_cli builds it).
+
+The first table is a cluster's list as an API server sends it, in order of the keys. The second has as many events on a
+tenth of the slices: the memory falls with the objects held. The third has the first's lines in scattered order, where
+each new object moves those behind it in the sorted list. The fourth adds a hundred subscriptions to the second, each of
+which costs a pass over the objects held at the end of the input."""
+import os
+import random
+import tempfile
+
+from feed import service_line, slice_line, subscribe_line
+from measure import table
+
+LINES = 100_000
+
+
+def write(path, numbers, subscriptions):
+    with open(path, "w") as feed:
+        for service in range(100):
+            feed.write(service_line(service) + "\n")
+        for number in numbers:
+            feed.write(slice_line(number, number % 100) + "\n")
+        for number in range(subscriptions):
+            feed.write(subscribe_line(number + 1, number % 100) + "\n")
+
+
+def by_key(numbers):
+    return sorted(numbers, key=lambda number: "web-%d-%05x" % (number % 100, number))
+
+
+def main():
+    random.seed(1)
+    held = range(LINES // 10)
+    runs = (
+        ("100,000 slices in order of their keys", by_key(range(LINES)), 1),
+        ("100,000 events on 10,000 slices", by_key(held) * 10, 1),
+        ("100,000 slices in scattered order", random.sample(range(LINES), LINES), 1),
+        ("100,000 events on 10,000 slices, 100 subscriptions", by_key(held) * 10, 100),
+    )
+    with tempfile.TemporaryDirectory() as folder:
+        path = os.path.join(folder, "feed.jsonl")
+        for title, numbers, subscriptions in runs:
+            write(path, numbers, subscriptions)
+            table(title, path)
+
+
+if __name__ == "__main__":
+    main()
