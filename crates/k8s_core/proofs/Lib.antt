@@ -1,1 +1,2 @@
+pub mod Lawfully
 pub mod Seen

@@ -2,6 +2,7 @@ ghost use Rattle.std.specs.Prelude.{◌≡◌, ◌++◌, codes, unwrap_or, IfOk,
 ghost use Rattle.std.specs.List.{flat_map};
 ghost use Rattle.serde_json.specs.View.{view};
 ghost use Rattle.k8s_core.specs.Pods.{container_at, pod_at, pod_ip_at};
+ghost use Rattle.k8s_meta.specs.Lawful.{IsLawfulMeta};
 ghost use Rattle.k8s_meta.specs.Spots.{Reads, seen};
 
 use crate::addresses::once;
@@ -23,13 +24,15 @@ use view_types::service::NamedPort;
 
 /// The Pod that stands at the path `at`. Its fault is the first in the order of its members.
 pub fn read_pod(alloc: Global, object: &Value, at: &str) -> Result<Pod, ReadFault>
-    ensures { Reads result (pod_at record { at = at.now; value = view object.now }) }
+    ensures lawful { IfOk result (λ pod. IsLawfulMeta pod.meta) }
+    ensures value { Reads result (pod_at record { at = at.now; value = view object.now }) }
 {
     pod_of(&Place::top(alloc, object, at))
 }
 
+/// The Pod at a place.
 #[tactic(auto, unfolding(crate::specs::Pods::pod_at))]
-fn pod_of<'a>(object: &'a Place<'a>) -> Result<Pod, ReadFault>
+pub fn pod_of<'a>(object: &'a Place<'a>) -> Result<Pod, ReadFault>
     ensures { Reads result (pod_at (seen object.now)) }
 {
     object.object()?;

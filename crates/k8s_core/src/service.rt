@@ -1,5 +1,7 @@
+ghost use Rattle.std.specs.Prelude.{IfOk};
 ghost use Rattle.serde_json.specs.View.{view};
 ghost use Rattle.k8s_core.specs.Services.{service_at};
+ghost use Rattle.k8s_meta.specs.Lawful.{IsLawfulMeta};
 ghost use Rattle.k8s_meta.specs.Spots.{Reads, seen};
 
 use crate::addresses::{ClusterIp, once};
@@ -14,13 +16,15 @@ use view_types::service::Service;
 
 /// The Service that stands at the path `at`. Its fault is the first in the order of its members.
 pub fn read_service(alloc: Global, object: &Value, at: &str) -> Result<Service, ReadFault>
-    ensures { Reads result (service_at record { at = at.now; value = view object.now }) }
+    ensures lawful { IfOk result (λ service. IsLawfulMeta service.meta) }
+    ensures value { Reads result (service_at record { at = at.now; value = view object.now }) }
 {
     service_of(&Place::top(alloc, object, at))
 }
 
+/// The Service at a place.
 #[tactic(auto, unfolding(crate::specs::Services::service_at))]
-fn service_of<'a>(object: &'a Place<'a>) -> Result<Service, ReadFault>
+pub fn service_of<'a>(object: &'a Place<'a>) -> Result<Service, ReadFault>
     ensures { Reads result (service_at (seen object.now)) }
 {
     object.object()?;

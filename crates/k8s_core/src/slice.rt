@@ -3,6 +3,7 @@ ghost use Rattle.serde_json.specs.View.{view};
 ghost use Rattle.net_cidr.specs.Address.{ip_of};
 ghost use Rattle.k8s_core.specs.Slices.{address_at, family_of, in_family, point_at, pod_name_at, slice_at, target_at};
 ghost use Rattle.k8s_meta.specs.Lists.{each};
+ghost use Rattle.k8s_meta.specs.Lawful.{IsLawfulMeta};
 ghost use Rattle.k8s_meta.specs.Spots.{◌·◌, Reads, seen};
 ghost use Rattle.k8s_meta.specs.declared.key.Key.TheVariants.{Endpoints};
 ghost use Rattle.k8s_meta.specs.Words.{choice};
@@ -24,13 +25,15 @@ use view_types::slice::{Family, Point, Slice};
 
 /// The EndpointSlice that stands at the path `at`. Its fault is the first in the order of its members.
 pub fn read_slice(alloc: Global, object: &Value, at: &str) -> Result<Slice, ReadFault>
-    ensures { Reads result (slice_at record { at = at.now; value = view object.now }) }
+    ensures lawful { IfOk result (λ slice. IsLawfulMeta slice.meta) }
+    ensures value { Reads result (slice_at record { at = at.now; value = view object.now }) }
 {
     slice_of(&Place::top(alloc, object, at))
 }
 
+/// The EndpointSlice at a place.
 #[tactic(auto, unfolding(crate::specs::Slices::slice_at))]
-fn slice_of<'a>(object: &'a Place<'a>) -> Result<Slice, ReadFault>
+pub fn slice_of<'a>(object: &'a Place<'a>) -> Result<Slice, ReadFault>
     ensures { Reads result (slice_at (seen object.now)) }
 {
     object.object()?;

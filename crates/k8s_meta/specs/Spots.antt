@@ -21,6 +21,10 @@ abbrev pub or_null : Option Data → Data
 or_null None = null
 or_null (Some d) = d
 
+-- how a value is read
+abbrev pub Reading : Type 0 → Type 0
+Reading A = Spot → Result A ReadFault
+
 infixl 40 ◌·◌
 -- a member of an object
 abbrev pub ◌·◌ : Spot → Key → Spot

@@ -1,5 +1,6 @@
 ghost use Rattle.std.specs.Prelude.{◌≡◌, IfOk};
 ghost use Rattle.serde_json.specs.View.{view};
+ghost use Rattle.k8s_meta.specs.Lawful.{IsLawfulMeta};
 ghost use Rattle.k8s_meta.specs.Metadata.{all_fit, fits, is_time, meta_at, time_of};
 ghost use Rattle.k8s_meta.specs.Spots.{Reads, seen};
 
@@ -40,7 +41,8 @@ impl Copied for Meta {
 
 /// The metadata of the object that stands at the path `at`.
 pub fn read_meta(alloc: Global, object: &Value, at: &str) -> Result<Meta, ReadFault>
-    ensures { Reads result (meta_at record { at = at.now; value = view object.now }) }
+    ensures lawful { IfOk result IsLawfulMeta }
+    ensures value { Reads result (meta_at record { at = at.now; value = view object.now }) }
 {
     meta_of(&Place::top(alloc, object, at))
 }
