@@ -1,10 +1,5 @@
 pub mod Batch
-pub mod Endpoints
-pub mod Objects
-pub mod Answers
-pub mod Contexts
 pub mod Defaults
-pub mod FullNames
-pub mod Names
-pub mod Targets
-pub mod Workloads
+pub mod Endpoints
+pub mod Lawful
+pub mod Objects

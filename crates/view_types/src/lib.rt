@@ -1,19 +1,17 @@
 //! The types that the controllers share: the objects of a cluster, what proxies ask for, the views that they are
-//! given, and the messages that carry the difference; and the readers of the short texts in which clients ask.
+//! given, and the messages that carry the difference.
 //!
-//! Stands on mesh_base, net_cidr, label_select, k8s_meta and serde_json. Its specs hold the definitions that the crates
-//! above cite: an object's key (`specs/Objects`), the endpoints of a Service (`specs/Endpoints`), targets, workloads
-//! and context tokens (`specs/Targets`, `specs/Workloads`, `specs/Contexts`) and the usual configuration
-//! (`specs/Defaults`). Every copy equals its source (`Copied`), and views compare exactly (`Same`).
+//! Stands on mesh_base, net_cidr, label_select and k8s_meta. Its specs hold the definitions that the crates above cite:
+//! an object's key (`specs/Objects`), what later calls require of an object (`specs/Lawful`), the endpoints of a Service
+//! (`specs/Endpoints`), the batch between two views (`specs/Batch`) and the usual configuration (`specs/Defaults`).
+//! Every copy equals its source (`Copied`), and views compare exactly (`Same`).
 #![tactic(auto)]
 
 pub mod authn;
 pub mod config;
 pub mod endpoint;
-pub mod laws;
 pub mod mark;
 pub mod message;
-mod name;
 pub mod object;
 mod object_copy;
 pub mod outbound;
@@ -27,9 +25,4 @@ pub mod server;
 pub mod server_view;
 pub mod service;
 pub mod slice;
-pub mod target_text;
-#[cfg(test)]
-mod tests;
-pub mod token;
 pub mod view;
-pub mod workload_text;

@@ -4,7 +4,7 @@ use Rattle.std.specs.Str.{bytes_eq}
 use Rattle.serde_json.specs.Data.{Data}
 use Rattle.serde_json.specs.Find.{as_number, as_u64}
 use Rattle.mesh_base.specs.declared.sub_id.SubId.{SubId}
-use Rattle.view_types.specs.Targets.{target_of}
+use Rattle.mesh_text.specs.Targets.{target_of}
 use Rattle.view_types.specs.declared.config.Config.{Config}
 use Rattle.view_types.specs.declared.query.Context.{Context}
 use Rattle.view_types.specs.declared.query.Query.{Query}

@@ -11,7 +11,7 @@ use serde_json::Value;
 use std::alloc::Global;
 use view_types::config::Config;
 use view_types::query::{Context, Query, Target};
-use view_types::target_text::{TargetFault, read_target};
+use mesh_text::target_text::{TargetFault, read_target};
 
 #[tactic(auto, unfolding(crate::specs::Subscription::id_of))]
 fn read_id(value: &Value) -> Option<SubId>

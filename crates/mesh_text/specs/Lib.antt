@@ -1,0 +1,10 @@
+pub mod Answers
+pub mod Contexts
+pub mod FullNames
+pub mod Groups
+pub mod Json
+pub mod Methods
+pub mod Names
+pub mod PolicyWords
+pub mod Targets
+pub mod Workloads

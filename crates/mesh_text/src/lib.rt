@@ -1,0 +1,19 @@
+//! The short texts that proxies, objects and command lines write: targets, workloads, context tokens, policies, request
+//! methods, API groups, and JSON itself.
+//!
+//! Stands on mesh_base, net_cidr, k8s_meta and view_types, on serde_json for tokens and on http for methods. Each call
+//! gives what its definition says: `specs/Targets`, `specs/Workloads`, `specs/Contexts`, `specs/PolicyWords`,
+//! `specs/Methods`, `specs/Groups`, `specs/Json`.
+#![tactic(auto)]
+
+pub mod group;
+pub mod json;
+pub mod laws;
+pub mod method;
+mod name;
+pub mod policy_word;
+pub mod target_text;
+#[cfg(test)]
+mod tests;
+pub mod token;
+pub mod workload_text;

@@ -1,6 +1,0 @@
-use Rattle.view_types.proofs.Names.{name_ascii}
-use Rattle.view_types.proofs.name.name_text.Goals as goal
-
--- a name is UTF-8
-pub unreachable-requires : goal.unreachable-requires
-unreachable-requires c = (c.in_default.ensures).cases.0 (name_ascii c.args.name.now c.requires)
