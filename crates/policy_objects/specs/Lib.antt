@@ -1,0 +1,9 @@
+pub mod Authentications
+pub mod AuthorizationPolicies
+pub mod Blocks
+pub mod Identities
+pub mod ProtocolWords
+pub mod References
+pub mod Selectors
+pub mod ServerAuthorizations
+pub mod Servers

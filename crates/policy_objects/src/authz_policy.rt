@@ -1,0 +1,41 @@
+ghost use Rattle.std.specs.Prelude.{IfOk};
+ghost use Rattle.serde_json.specs.View.{view};
+ghost use Rattle.k8s_meta.specs.Spots.{Reads, seen};
+ghost use Rattle.policy_objects.specs.AuthorizationPolicies.{authz_policy_at};
+ghost use Rattle.view_types.specs.Lawful.{IsLawfulPolicy};
+
+use crate::reference::{Reference, single};
+use k8s_meta::fault::ReadFault;
+use k8s_meta::key::Key;
+use k8s_meta::meta::meta_of;
+use k8s_meta::place::Place;
+use serde_json::Value;
+use std::alloc::Global;
+use view_types::authn::AuthzPolicy;
+
+/// The AuthorizationPolicy that stands at the path `at`. Its fault is the first in the order of its members; that two
+/// references give networks, or two clients, is one of their list.
+pub fn read_authz_policy(alloc: Global, object: &Value, at: &str) -> Result<AuthzPolicy, ReadFault>
+    ensures value { Reads result (authz_policy_at record { at = at.now; value = view object.now }) }
+    ensures lawful { IfOk result IsLawfulPolicy }
+{
+    authz_policy_of(&Place::top(alloc, object, at))
+}
+
+/// The AuthorizationPolicy at a place.
+#[tactic(auto, unfolding(crate::specs::AuthorizationPolicies::authz_policy_at))]
+pub fn authz_policy_of<'a>(object: &'a Place<'a>) -> Result<AuthzPolicy, ReadFault>
+    ensures { Reads result (authz_policy_at (seen object.now)) }
+{
+    object.object()?;
+    let meta = meta_of(object)?;
+    let spec = object.part(Key::Spec)?;
+    let target = spec.required(Key::TargetRef, &Reference)?;
+    let found = spec.each(Key::RequiredAuthenticationRefs, &Reference)?;
+    let needs = single(&spec.member(Key::RequiredAuthenticationRefs), found)?;
+    Ok(AuthzPolicy {
+        meta,
+        target,
+        needs,
+    })
+}
