@@ -1,0 +1,4 @@
+pub mod MatchLaws
+pub mod Matches
+pub mod Nested
+pub mod Profiles
