@@ -1,0 +1,4 @@
+pub mod Filters
+pub mod Parents
+pub mod Routes
+pub mod Rules
