@@ -12,8 +12,9 @@ import json, sys
 held = {}
 for line in sys.stdin.buffer:
     value = json.loads(line)
-    meta = value.get("object", {}).get("metadata", {})
-    held[meta.get("namespace"), meta.get("name")] = value
+    for item in value.get("items") or [value.get("object", {})]:
+        meta = item.get("metadata", {})
+        held[meta.get("namespace"), meta.get("name")] = item
 """
 
 PYTHON_READ_ALONE = """

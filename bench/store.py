@@ -1,0 +1,64 @@
+#!/usr/bin/env python3
+"""What the store costs, on EndpointSlices of about 1.2 KB as an API server writes them, beside Python's json.loads over
+the same lines with a dict. Needs the built program (./linkerd_cli builds it).
+
+Objects set in scattered order of their keys (each new one moves those behind it in the sorted list), twice as many of
+them, one list line of all of them (sorted once), and events on objects that are held."""
+import json
+import os
+import random
+import tempfile
+
+from feed import service_line, slice_line, subscribe_line
+from measure import table
+
+HELD = 20_000
+EVENTS = 100_000
+
+
+def write(path, lines):
+    with open(path, "w") as feed:
+        feed.write(service_line(0) + "\n")
+        for line in lines:
+            feed.write(line + "\n")
+        feed.write(subscribe_line(1, 0) + "\n")
+
+
+def added(numbers):
+    return (slice_line(number, number % 100) for number in numbers)
+
+
+def modified(numbers):
+    return (line.replace('"ADDED"', '"MODIFIED"', 1) for line in added(numbers))
+
+
+def listed(numbers):
+    items = [json.loads(line)["object"] for line in added(numbers)]
+    for item in items:
+        del item["kind"], item["apiVersion"]
+    kind = {"kind": "EndpointSliceList", "apiVersion": "discovery.k8s.io/v1", "metadata": {"resourceVersion": "1"}}
+    yield json.dumps(dict(kind, items=items), separators=(",", ":"))
+
+
+def scattered(count):
+    return random.sample(range(count), count)
+
+
+def main():
+    random.seed(1)
+    events = [random.randrange(HELD) for _ in range(EVENTS)]
+    runs = (
+        ("20,000 objects set in scattered order", added(scattered(HELD))),
+        ("40,000 objects set in scattered order", added(scattered(2 * HELD))),
+        ("one list line of 20,000 objects", listed(scattered(HELD))),
+        ("20,000 objects, then 100,000 events on them", (line for part in (listed(range(HELD)), modified(events)) for line in part)),
+    )
+    with tempfile.TemporaryDirectory() as folder:
+        path = os.path.join(folder, "feed.jsonl")
+        for title, lines in runs:
+            write(path, lines)
+            table(title, path, keeps=True)
+
+
+if __name__ == "__main__":
+    main()
