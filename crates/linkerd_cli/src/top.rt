@@ -4,7 +4,7 @@ ghost use Rattle.line_run.specs.Run.{OnEnd, OnStop, TookLimit, IsAnswered, IsToo
 ghost use Rattle.view_types.specs.Defaults.{usual_config};
 ghost use Rattle.replay_core.specs.Headline.{WritesOutput, WritesFront};
 ghost use Rattle.linkerd_cli.specs.Command.{IsReplay};
-ghost use Rattle.linkerd_cli.specs.Outcome.{EndsWith, widened};
+ghost use Rattle.linkerd_cli.specs.Outcome.{EndsWith};
 
 use crate::command::is_replay;
 use line_run::Status;
@@ -34,10 +34,10 @@ pub fn top<S: Source, K: Sink, P: Patterns>(
     requires { 1 ≤ limits.now.frame_addrs }
 
     // Read to the end: what was written is the defined output, and a line was refused or none.
-    ensures output { EndsWith result (λ status. OnEnd status (WritesOutput usual_config (widened limits.now) (S.left input.old) (K.held out.old) (K.held out.new))) }
+    ensures output { EndsWith result (λ status. OnEnd status (WritesOutput usual_config limits.now (S.left input.old) (K.held out.old) (K.held out.new))) }
 
     // Else it is a front of the defined output, and for words that are no command nothing was read or written.
-    ensures front { IsReplay words.now → EndsWith result (λ status. OnStop status (WritesFront usual_config (widened limits.now) (S.left input.old) (K.held out.old) (K.held out.new))) }
+    ensures front { IsReplay words.now → EndsWith result (λ status. OnStop status (WritesFront usual_config limits.now (S.left input.old) (K.held out.old) (K.held out.new))) }
     ensures usage { EndsWith result (λ status. (status ≡ Status.Usage) ↔ (¬ IsReplay words.now)) }
     ensures untouched { EndsWith result (λ status. status ≡ Status.Usage → (input.new ≡ input.old) × (out.new ≡ out.old)) }
 
@@ -56,13 +56,7 @@ pub fn top<S: Source, K: Sink, P: Patterns>(
     let Ok(config) = Config::usual(alloc) else {
         return Outcome::Ended(Status::Memory);
     };
-    let wide = Limits {
-        line: 4_294_967_295,
-        objects: u32::MAX,
-        subs: u32::MAX,
-        ..*limits
-    };
-    Outcome::Ended(replay(alloc, &config, &wide, input, out))
+    Outcome::Ended(replay(alloc, &config, limits, input, out))
 }
 
 #[cfg(test)]

@@ -1,6 +1,6 @@
 -- What was said is a front of the output.
-use Rattle.std.proofs.Common.{◌≡◌, ℕ, ◌+◌, Bool, List, [], ◌∷◌, ◌++◌, length, take, drop, refl, sym, ap, ◌∙◌, subst, append_assoc, append-nil, add-one, suc, zero, ◌≤◌, arith}
-use Rattle.std.specs.Prelude.{Some, None, IfSome, ◌⊎◌}
+use Rattle.std.proofs.Common.{◌≡◌, ℕ, ◌+◌, Bool, List, [], ◌∷◌, ◌++◌, length, take, drop, sym, ap, ◌∙◌, subst, append_assoc, append-nil, add-one, suc, zero, ◌≤◌, arith}
+use Rattle.std.specs.Prelude.{Some, None, IfSome}
 use Rattle.std.proofs.Common.{inl, inr}
 use Rattle.std.specs.declared.option.Option.{Option}
 use Rattle.std.specs.List.{flat_map, slice_get}
@@ -12,7 +12,7 @@ use Rattle.std.proofs.Math.Seq.{take-suc}
 use Rattle.std.specs.Io.KnownBytes.{Appends}
 use Rattle.mesh_base.specs.declared.limits.Limits.{Limits}
 use Rattle.line_run.specs.Rows.{Row, past_from, past_of}
-use Rattle.line_run.specs.Run.{IsFront, Part, Whole}
+use Rattle.line_run.specs.Run.{Part}
 use Rattle.view_types.specs.declared.config.Config.{Config}
 use Rattle.replay_core.specs.declared.cluster.Cluster.{Cluster}
 use Rattle.replay_core.specs.declared.cluster.Subscription.{Subscription}

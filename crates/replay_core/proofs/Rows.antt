@@ -1,20 +1,16 @@
 -- One row more, and one subscription more that is sent what it is owed.
-use Rattle.std.proofs.Common.{◌≡◌, ℕ, ◌+◌, ◌-◌, ◌<◌, ◌≤◌, Bool, ◌||◌, List, [], ◌∷◌, ◌++◌, length, take, Option, Some, None, refl, sym, ap, ◌∙◌, subst, append_assoc, append-nil, arith}
+use Rattle.std.proofs.Common.{◌≡◌, ℕ, ◌+◌, Bool, ◌||◌, List, ◌∷◌, ◌++◌, length, Option, sym, ap, ◌∙◌}
 use Rattle.std.specs.Prelude.{Result, Ok, Err, is_some, option_map}
-use Rattle.std.specs.List.{flat_map}
-use Rattle.std.specs.FinMap.{values}
 use Rattle.mesh_base.specs.declared.limits.Limits.{Limits}
 use Rattle.line_run.specs.Rows.{Row}
 use Rattle.view_types.specs.declared.config.Config.{Config}
-use Rattle.watch_events.specs.declared.line.Line.{Line}
-use Rattle.watch_events.specs.declared.line.LineFault.{LineFault}
 use Rattle.replay_core.specs.declared.cluster.Cluster.{Cluster}
 use Rattle.replay_core.specs.declared.refusal.HubFault.{HubFault}
 use Rattle.replay_core.specs.declared.refusal.HubFault.TheVariants.{Memory, Full, TooManySubs, IdOrder}
 use Rattle.replay_core.specs.declared.refusal.Refusal.{Refusal}
 use Rattle.replay_core.specs.declared.refusal.Refusal.TheVariants as refusals
-use Rattle.replay_core.specs.Cluster.{state_of, Answers, KeepsLimits}
-use Rattle.replay_core.specs.History.{State, reading, refusal_of, row_refusal, unless_refused, after_line, after}
+use Rattle.replay_core.specs.Cluster.{state_of, Answers}
+use Rattle.replay_core.specs.History.{State, reading, refusal_of, unless_refused, after_line, after}
 use Rattle.replay_core.specs.Output.{refused_piece, refusal_after, written_after, refused_after}
 use Rattle.replay_core.specs.Stand.{IsAfter, Stands}
 use Rattle.replay_core.specs.Take.{IsRefusalOf, Takes}
@@ -29,16 +25,16 @@ answered expected before after now (Err (TooManySubs live)) refusal answers is =
 answered expected before after now (Err (IdOrder last)) refusal answers is = (is ∙ ap (option_map refusals.Hub) (sym answers.0), answers.1 ∙ ap (λ r. unless_refused r before after) (sym is))
 
 module _ (config : Config) (limits : Limits) (old new : Cluster) (row : Row) (past : List Row) (refusal : Option Refusal)
-    (here : IsAfter config limits past old) (takes : Takes (reading config row) refusal old new) where
+    (here : IsAfter config limits past old) (takes : Takes (reading config limits row) refusal old new) where
   refusal_is : refusal ≡ refusal_after config limits past row
-  refusal_is = takes.refusal_is ∙ ap (λ n. refusal_of n old.most_subs (state_of old) (reading config row)) here.objects
-      ∙ ap (λ n. refusal_of limits.objects n (state_of old) (reading config row)) here.subs
-      ∙ ap (λ (now : State). refusal_of limits.objects limits.subs now (reading config row)) here.state
+  refusal_is = takes.refusal_is ∙ ap (λ n. refusal_of n old.most_subs (state_of old) (reading config limits row)) here.objects
+      ∙ ap (λ n. refusal_of limits.objects n (state_of old) (reading config limits row)) here.subs
+      ∙ ap (λ (now : State). refusal_of limits.objects limits.subs now (reading config limits row)) here.state
 
   next : IsAfter config limits (row ∷ past) new
   next = record {
-    state = takes.state ∙ ap (λ (r : Option Refusal). unless_refused r (state_of old) (after_line (state_of old) (reading config row))) refusal_is
-        ∙ ap (λ (now : State). unless_refused (refusal_after config limits past row) now (after_line now (reading config row))) here.state;
+    state = takes.state ∙ ap (λ (r : Option Refusal). unless_refused r (state_of old) (after_line (state_of old) (reading config limits row))) refusal_is
+        ∙ ap (λ (now : State). unless_refused (refusal_after config limits past row) now (after_line now (reading config limits row))) here.state;
     objects = takes.limits.objects ∙ here.objects;
     subs = takes.limits.subs ∙ here.subs;
   }

@@ -1,5 +1,5 @@
 -- One row more: what is held at a key is what the row tells, or what was held before.
-use Rattle.std.proofs.Common.{◌≡◌, Bool, true, false, List, [], ◌∷◌, Option, Some, None, refl, sym, ap, ◌∙◌, cond}
+use Rattle.std.proofs.Common.{◌≡◌, ℕ, Bool, true, false, List, [], ◌∷◌, Option, Some, None, IfOk, refl, ap, ◌∙◌, cond}
 use Rattle.std.specs.Prelude.{Result, Ok, Err}
 use Rattle.std.specs.Ordering.{eq_by_cmp}
 use Rattle.std.specs.FinMap.{get, get-empty, get-insert, get-remove}
@@ -11,7 +11,12 @@ use Rattle.line_run.specs.Rows.{Row}
 use Rattle.view_types.specs.declared.config.Config.{Config}
 use Rattle.view_types.specs.declared.object.Object.{Object}
 use Rattle.view_types.specs.Objects.{key_of}
-use Rattle.watch_events.specs.declared.event.Event.TheVariants.{Set, Delete}
+use Rattle.object_store.specs.Relisted.{is_of, item_at}
+use Rattle.object_store.proofs.PutAll as put_all
+use Rattle.watch_events.specs.Lawful.{IsLawfulLine}
+use Rattle.watch_events.specs.Lines.{line_of}
+use Rattle.watch_events.proofs.Lawfully.{line_gives}
+use Rattle.watch_events.specs.declared.event.Event.TheVariants.{Set, Delete, Relist, Bookmark}
 use Rattle.watch_events.specs.declared.line.Line.{Line}
 use Rattle.watch_events.specs.declared.line.Line.TheVariants as lines
 use Rattle.watch_events.specs.declared.line.LineFault.{LineFault}
@@ -23,19 +28,34 @@ chosen : (b : Bool) (told before : Option Object) → cond b told before ≡ las
 chosen true told before = refl
 chosen false told before = refl
 
-told_step : (now : State) (line : Result Line LineFault) (refusal : Option Refusal) (key : ObjKey)
+abbrev AreLawful : Result Line LineFault → Type 0
+AreLawful line = IfOk line IsLawfulLine
+
+told_step : (now : State) (line : Result Line LineFault) (refusal : Option Refusal) (key : ObjKey) → AreLawful line
     → get (unless_refused refusal now (after_line now line)).objects key ≡ last_told refusal (told_by line key) (get now.objects key)
-told_step now line (Some refusal) key = refl
-told_step now (Err fault) None key = refl
-told_step now (Ok lines.Blank) None key = refl
-told_step now (Ok (lines.Subscribe id query)) None key = refl
-told_step now (Ok (lines.Event (Set object))) None key = get-insert keys_total now.objects (key_of object) object key ∙ chosen (eq_by_cmp key_cmp key (key_of object)) (Some object) (get now.objects key)
-told_step now (Ok (lines.Event (Delete gone))) None key = get-remove keys_total now.objects gone key ∙ chosen (eq_by_cmp key_cmp key gone) None (get now.objects key)
+told_step now line (Some refusal) key lawful = refl
+told_step now (Err fault) None key lawful = refl
+told_step now (Ok lines.Blank) None key lawful = refl
+told_step now (Ok (lines.Subscribe id query)) None key lawful = refl
+told_step now (Ok lines.Stop) None key lawful = refl
+told_step now (Ok (lines.Event Bookmark)) None key lawful = refl
+told_step now (Ok (lines.Event (Relist kind items))) None key lawful = put_all.relisted_by_key now.objects kind items lawful.0 key ∙ chosen (is_of kind key) (item_at key items) (get now.objects key)
+told_step now (Ok (lines.Event (Set object))) None key lawful = get-insert keys_total now.objects (key_of object) object key ∙ chosen (eq_by_cmp key_cmp key (key_of object)) (Some object) (get now.objects key)
+told_step now (Ok (lines.Event (Delete gone))) None key lawful = get-remove keys_total now.objects gone key ∙ chosen (eq_by_cmp key_cmp key gone) None (get now.objects key)
+
+-- what a row says is lawful
+row_lawful : (config : Config) (limits : Limits) (row : Row) → AreLawful (reading config limits row)
+row_lawful config limits None = tt
+row_lawful config limits (Some bytes) = by_value config limits bytes (line_of config limits bytes) refl
+  where
+    by_value : (config : Config) (limits : Limits) (bytes : List ℕ) (line : Result Line LineFault) → line_of config limits bytes ≡ line → AreLawful line
+    by_value config limits bytes (Ok line) is = line_gives config limits bytes line is
+    by_value config limits bytes (Err fault) is = tt
 
 pub told_by_the_last : IsToldByTheLast
 told_by_the_last config limits [] key = get-empty key_cmp key
 told_by_the_last config limits (row ∷ past) key =
     let now = after config limits past in
-    let line = reading config row in
+    let line = reading config limits row in
     let refusal = row_refusal config limits now row in
-    told_step now line refusal key ∙ ap (last_told refusal (told_by line key)) (told_by_the_last config limits past key)
+    told_step now line refusal key (row_lawful config limits row) ∙ ap (last_told refusal (told_by line key)) (told_by_the_last config limits past key)

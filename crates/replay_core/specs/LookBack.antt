@@ -9,20 +9,23 @@ use Rattle.line_run.specs.Rows.{Row}
 use Rattle.view_types.specs.declared.config.Config.{Config}
 use Rattle.view_types.specs.declared.object.Object.{Object}
 use Rattle.view_types.specs.Objects.{key_of}
-use Rattle.watch_events.specs.declared.event.Event.{Event}
-use Rattle.watch_events.specs.declared.event.Event.TheVariants.{Set, Delete}
+use Rattle.object_store.specs.Relisted.{is_of, item_at}
+use Rattle.watch_events.specs.declared.event.Event.TheVariants.{Set, Delete, Relist, Bookmark}
 use Rattle.watch_events.specs.declared.line.Line.{Line}
 use Rattle.watch_events.specs.declared.line.Line.TheVariants as lines
 use Rattle.watch_events.specs.declared.line.LineFault.{LineFault}
 use Rattle.replay_core.specs.declared.refusal.Refusal.{Refusal}
 use Rattle.replay_core.specs.History.{reading, row_refusal, after}
 
--- what a row tells of a key, if it speaks of it: that an object is held there, or none
+-- What a row tells of a key, if it speaks of it: that an object is held there, or none. A list speaks of all keys of its kind.
 abbrev pub told_by : Result Line LineFault → ObjKey → Option (Option Object)
 told_by (Ok (lines.Event (Set object))) key = if eq_by_cmp key_cmp key (key_of object) then Some (Some object) else None
 told_by (Ok (lines.Event (Delete gone))) key = if eq_by_cmp key_cmp key gone then Some None else None
+told_by (Ok (lines.Event (Relist kind items))) key = if is_of kind key then Some (item_at key items) else None
+told_by (Ok (lines.Event Bookmark)) key = None
 told_by (Ok lines.Blank) key = None
 told_by (Ok (lines.Subscribe id query)) key = None
+told_by (Ok lines.Stop) key = None
 told_by (Err fault) key = None
 
 -- what an accepted row tells of the key; else what was held before
@@ -35,7 +38,7 @@ last_told None (Some told) before = told
 abbrev pub held_at : Config → Limits → List Row → ObjKey → Option Object
 held_at config limits [] key = None
 held_at config limits (row ∷ past) key =
-    last_told (row_refusal config limits (after config limits past) row) (told_by (reading config row) key) (held_at config limits past key)
+    last_told (row_refusal config limits (after config limits past) row) (told_by (reading config limits row) key) (held_at config limits past key)
 
 abbrev pub IsToldByTheLast : Type 0
 IsToldByTheLast = (config : Config) (limits : Limits) (past : List Row) (key : ObjKey) → get (after config limits past).objects key ≡ held_at config limits past key

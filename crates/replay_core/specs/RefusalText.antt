@@ -17,3 +17,4 @@ hub_fault_text (hub.IdOrder last) = codes "IdOrder " ++ decimal last
 abbrev pub refusal_text : Refusal → List ℕ
 refusal_text (refusals.Line fault) = line_fault_text fault
 refusal_text (refusals.Hub fault) = hub_fault_text fault
+refusal_text refusals.NotHere = codes "NotHere"

@@ -1,5 +1,5 @@
 -- What a step of a replay comes to.
-use Rattle.std.specs.Prelude.{◌≡◌, ℕ, Option, Some, None, Result, Ok, Err, ⊤}
+use Rattle.std.specs.Prelude.{◌≡◌, Option, Some, None, Result, Ok, Err}
 use Rattle.watch_events.specs.declared.line.Line.{Line}
 use Rattle.watch_events.specs.declared.line.LineFault.{LineFault}
 use Rattle.replay_core.specs.declared.cluster.Cluster.{Cluster}

@@ -1,6 +1,8 @@
 ghost use Rattle.std.specs.Prelude.{◌≡◌};
+ghost use Rattle.view_types.specs.Objects.{IsListOf};
 
 use crate::refusal::HubFault;
+use mesh_base::key::Kind;
 use mesh_base::limits::Limits;
 use mesh_base::list::List;
 use mesh_base::sub_id::SubId;
@@ -32,7 +34,8 @@ pub struct Cluster {
 impl Cluster {
     ghost use Rattle.replay_core.specs.History.{nothing, event_refusal, after_event, subscribe_refusal, after_subscribe};
     ghost use Rattle.replay_core.specs.Cluster.{state_of, Answers, KeepsLimits};
-    ghost use Rattle.watch_events.specs.declared.event.Event.TheVariants.{Set};
+    ghost use Rattle.watch_events.specs.declared.event.Event.TheVariants.{Set, Relist};
+    ghost use Rattle.watch_events.specs.Lawful.{IsLawfulEvent};
 
     /// Nothing is held or asked for.
     pub fn new(alloc: Global, limits: &Limits) -> Cluster
@@ -50,6 +53,7 @@ impl Cluster {
 
     /// Does what a watch event says. After want of memory the cluster is spent.
     pub fn apply(&mut self, event: Event) -> Result<(), HubFault>
+        requires { IsLawfulEvent event }
         ensures answers { Answers (event_refusal self.old.store.limit (state_of self.old) event) (state_of self.old) (after_event (state_of self.old) event) result (state_of self.new) }
         ensures limits { KeepsLimits self.old self.new }
     {
@@ -59,6 +63,8 @@ impl Cluster {
                 self.store.remove(&key)?;
                 Ok(())
             }
+            Event::Relist { kind, items } => self.relist(kind, items),
+            Event::Bookmark => Ok(()),
         }
     }
 
@@ -67,6 +73,18 @@ impl Cluster {
         ensures limits { KeepsLimits self.old self.new }
     {
         match self.store.set(object) {
+            Ok(_) => Ok(()),
+            Err(StoreFault::Full { held }) => Err(HubFault::Full { held }),
+            Err(StoreFault::Memory) => Err(HubFault::Memory),
+        }
+    }
+
+    fn relist(&mut self, kind: Kind, items: List<Object>) -> Result<(), HubFault>
+        requires { IsListOf kind items }
+        ensures answers { Answers (event_refusal self.old.store.limit (state_of self.old) (Relist kind items)) (state_of self.old) (after_event (state_of self.old) (Relist kind items)) result (state_of self.new) }
+        ensures limits { KeepsLimits self.old self.new }
+    {
+        match self.store.relist(kind, items) {
             Ok(_) => Ok(()),
             Err(StoreFault::Full { held }) => Err(HubFault::Full { held }),
             Err(StoreFault::Memory) => Err(HubFault::Memory),

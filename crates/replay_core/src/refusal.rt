@@ -33,6 +33,8 @@ pub enum Refusal {
     Line(LineFault),
     /// What it says can't be done.
     Hub(HubFault),
+    /// It has no place in this program.
+    NotHere,
 }
 
 impl fmt::Display for HubFault {
@@ -58,6 +60,7 @@ impl fmt::Display for Refusal {
                 let fault = *fault;
                 write!(f, "{fault}")
             }
+            Refusal::NotHere => write!(f, "NotHere"),
         }
     }
 }

@@ -1,6 +1,7 @@
 ghost use Rattle.std.specs.Prelude.{◌≡◌, ◌≤◌, ◌-◌, length, IfOk, [], false, Ok};
 ghost use Rattle.std.specs.Option.{option_copied};
 ghost use Rattle.watch_events.specs.Given.{Gives};
+ghost use Rattle.watch_events.specs.Lawful.{IsLawfulLine};
 ghost use Rattle.replay_core.specs.History.{reading};
 ghost use Rattle.replay_core.specs.Take.{IsRefusalOf, Takes};
 
@@ -48,11 +49,17 @@ impl<'a> Replaying<'a> {
 }
 
 // What a row says.
-fn read_row(alloc: Global, config: &Config, row: Option<&[u8]>) -> Result<Line, LineFault>
-    ensures { Gives result (reading config.now (option_copied row.entry)) }
+fn read_row(
+    alloc: Global,
+    config: &Config,
+    limits: &Limits,
+    row: Option<&[u8]>,
+) -> Result<Line, LineFault>
+    ensures value { Gives result (reading config.now limits.now (option_copied row.entry)) }
+    ensures lawful { IfOk result IsLawfulLine }
 {
     match row {
-        Some(line) => read_line(alloc, line, config),
+        Some(line) => read_line(alloc, line, config, limits),
         None => Err(LineFault::TooLong),
     }
 }
@@ -70,12 +77,14 @@ fn refused(answer: Result<(), HubFault>) -> Result<Option<Refusal>, Memory>
 
 // Does what a line says, and answers why it is refused, if it is.
 fn take_line(cluster: &mut Cluster, line: Line) -> Result<Option<Refusal>, Memory>
+    requires { IsLawfulLine line }
     ensures { IfOk result (λ refusal. Takes (Ok line) refusal cluster.old cluster.new) }
 {
     match line {
         Line::Blank => Ok(None),
         Line::Event(event) => refused(cluster.apply(event)),
         Line::Subscribe { id, query } => refused(cluster.subscribe(id, query)),
+        Line::Stop => Ok(Some(Refusal::NotHere)),
     }
 }
 
@@ -83,12 +92,13 @@ fn take_line(cluster: &mut Cluster, line: Line) -> Result<Option<Refusal>, Memor
 fn take_row(
     alloc: Global,
     config: &Config,
+    limits: &Limits,
     cluster: &mut Cluster,
     row: Option<&[u8]>,
 ) -> Result<Option<Refusal>, Memory>
-    ensures { IfOk result (λ refusal. Takes (reading config.now (option_copied row.entry)) refusal cluster.old cluster.new) }
+    ensures { IfOk result (λ refusal. Takes (reading config.now limits.now (option_copied row.entry)) refusal cluster.old cluster.new) }
 {
-    match read_row(alloc, config, row) {
+    match read_row(alloc, config, limits, row) {
         Ok(line) => take_line(cluster, line),
         Err(LineFault::Memory) => Err(Memory),
         Err(fault) => Ok(Some(Refusal::Line(fault))),
@@ -114,7 +124,13 @@ impl LineMachine for Replaying<'_> {
         line: Option<&[u8]>,
         out: &mut Vec<u8>,
     ) -> Result<bool, AllocError> {
-        let Ok(refusal) = take_row(self.alloc, self.config, &mut self.cluster, line) else {
+        let Ok(refusal) = take_row(
+            self.alloc,
+            self.config,
+            &self.limits,
+            &mut self.cluster,
+            line,
+        ) else {
             return Err(AllocError);
         };
         match refusal {

@@ -1,2 +1,4 @@
+pub mod Apart
 pub mod Groups
-pub mod JsonReading
+pub mod KeyCmp
+pub mod Lawfully

@@ -1,26 +1,26 @@
 -- What was returned is what the definition gives, unless memory ran out.
-use Rattle.std.specs.Prelude.{◌≡◌, Option, Some, None, Result, Ok, Err}
-use Rattle.serde_json.specs.Data.{Data}
-use Rattle.serde_json.specs.View.{view}
-use Rattle.serde_json.specs.declared.value.Value.{Value}
+use Rattle.std.specs.Prelude.{◌≡◌, Result, Ok, Err}
 use Rattle.watch_events.specs.declared.line.LineFault.{LineFault}
-use Rattle.watch_events.specs.declared.line.LineFault.TheVariants.{Memory, TooLong, NotJson, NotBuilt, Object}
+use Rattle.watch_events.specs.declared.line.LineFault.TheVariants.{Memory, TooLong, NotJson, NotBuilt, NoForm, UnknownType, ErrorEvent, UnknownKind, Object, RepeatedItem, BadQuery}
 
-abbrev pub GivesJson : Result Value LineFault → Option Data → Type 0
-GivesJson (Ok value) read = read ≡ Some (view value)
-GivesJson (Err Memory) read = Unit {0}
-GivesJson (Err NotJson) read = read ≡ None
-GivesJson (Err _) read = ⊥
+abbrev pub Fails : {A : Type 0} → LineFault → Result A LineFault → Type 0
+Fails Memory read = Unit {0}
+Fails TooLong read = read ≡ Err TooLong
+Fails NotJson read = read ≡ Err NotJson
+Fails NotBuilt read = read ≡ Err NotBuilt
+Fails NoForm read = read ≡ Err NoForm
+Fails UnknownType read = read ≡ Err UnknownType
+Fails ErrorEvent read = read ≡ Err ErrorEvent
+Fails UnknownKind read = read ≡ Err UnknownKind
+Fails (Object fault) read = read ≡ Err (Object fault)
+Fails (RepeatedItem place) read = read ≡ Err (RepeatedItem place)
+Fails (BadQuery path) read = read ≡ Err (BadQuery path)
 
 abbrev pub Gives : {A : Type 0} → Result A LineFault → Result A LineFault → Type 0
 Gives (Ok x) read = read ≡ Ok x
-Gives (Err Memory) read = Unit {0}
-Gives (Err TooLong) read = read ≡ Err TooLong
-Gives (Err NotJson) read = read ≡ Err NotJson
-Gives (Err NotBuilt) read = read ≡ Err NotBuilt
-Gives (Err (Object fault)) read = read ≡ Err (Object fault)
+Gives (Err fault) read = Fails fault read
 
--- What was found is what the definition gives.
-abbrev pub Finds : {A E : Type 0} → Result (Option A) E → Option A → Type 0
-Finds (Ok found) given = found ≡ given
-Finds (Err _) given = Unit {0}
+-- the same of what was returned, as `view` sees it
+abbrev pub GivesAs : {A B : Type 0} → (A → B) → Result A LineFault → Result B LineFault → Type 0
+GivesAs view (Ok x) read = read ≡ Ok (view x)
+GivesAs view (Err fault) read = Fails fault read

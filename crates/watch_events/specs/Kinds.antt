@@ -1,11 +1,14 @@
--- Which kind of object a value is, by its kind and its API group.
-use Rattle.std.specs.Prelude.{ℕ, List, [], ◌∷◌, Bool, Option, Some, None, codes, ◌&&◌, if◌then◌else◌}
+-- Which kind of object is meant, by the name of a kind and an API group.
+use Rattle.std.specs.Prelude.{ℕ, List, [], ◌∷◌, Option, Some, None, Result, Ok, Err, codes, unwrap_or, ◌&&◌, if◌then◌else◌}
 use Rattle.std.specs.Str.{bytes_eq}
-use Rattle.serde_json.specs.Data.{Data}
+use Rattle.serde_json.specs.Find.{as_str}
+use Rattle.k8s_meta.specs.Spots.{Spot, ◌·◌}
+use Rattle.k8s_meta.specs.declared.key.Key.TheVariants as keys
 use Rattle.mesh_base.specs.Pieces.{pieces}
 use Rattle.mesh_base.specs.declared.key.Kind.{Kind}
 use Rattle.mesh_base.specs.declared.key.Kind.TheVariants.{Pod, Service, EndpointSlice, ServiceProfile, Server, ServerAuthorization, AuthorizationPolicy, MeshTLSAuthentication, NetworkAuthentication, LinkerdRoute, GatewayRoute}
-use Rattle.watch_events.specs.Json.{text_of}
+use Rattle.watch_events.specs.declared.line.LineFault.{LineFault}
+use Rattle.watch_events.specs.declared.line.LineFault.TheVariants as faults
 
 -- the part of an API version before its first '/', or nothing where there is none
 abbrev pub before_slash : List (List ℕ) → List ℕ
@@ -15,12 +18,12 @@ before_slash _ = []
 unfoldable pub group_in : List ℕ → List ℕ
 group_in version = before_slash (pieces 47 version)
 
-abbrev pub group_at : Option (List ℕ) → List ℕ
-group_at None = []
-group_at (Some version) = group_in version
+-- the text at a spot, or the empty text where there is none
+abbrev pub text_or_empty : Spot → List ℕ
+text_or_empty s = unwrap_or (as_str s.value) []
 
-unfoldable pub group_of : Data → List ℕ
-group_of value = group_at (text_of (codes "apiVersion") value)
+unfoldable pub group_of : Spot → List ℕ
+group_of s = group_in (text_or_empty (s · keys.ApiVersion))
 
 -- the kinds of policy.linkerd.io
 unfoldable pub policy_kind : List ℕ → Option Kind
@@ -42,9 +45,12 @@ kind_named kind group =
     if bytes_eq kind (codes "ServiceProfile") && bytes_eq group (codes "linkerd.io") then Some ServiceProfile else
     if bytes_eq kind (codes "HTTPRoute") && bytes_eq group (codes "gateway.networking.k8s.io") then Some GatewayRoute else None
 
-abbrev pub kind_at : Option (List ℕ) → List ℕ → Option Kind
-kind_at None group = None
-kind_at (Some kind) group = kind_named kind group
+-- A Pod isn't taken yet.
+abbrev pub taken : Option Kind → Result Kind LineFault
+taken None = Err faults.UnknownKind
+taken (Some Pod) = Err faults.NotBuilt
+taken (Some kind) = Ok kind
 
-unfoldable pub kind_of : Data → Option Kind
-kind_of value = kind_at (text_of (codes "kind") value) (group_of value)
+-- the kind of this name in the group that the value names
+unfoldable pub kind_of : List ℕ → Spot → Result Kind LineFault
+kind_of name s = taken (kind_named name (group_of s))

@@ -1,7 +1,12 @@
+pub mod Controls
+pub mod Events
 pub mod FaultText
 pub mod Given
-pub mod Json
 pub mod Keys
 pub mod Kinds
+pub mod Lawful
 pub mod Lines
-pub mod Subscription
+pub mod ListLines
+pub mod Objects
+pub mod Queries
+pub mod Reading

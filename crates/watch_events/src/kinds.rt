@@ -1,12 +1,14 @@
 ghost use Rattle.std.specs.Prelude.{◌≡◌};
 ghost use Rattle.std.specs.Str.{bytes_eq};
-ghost use Rattle.serde_json.specs.View.{view};
-ghost use Rattle.watch_events.specs.Kinds.{group_in, group_of, kind_named, policy_kind, kind_of};
+ghost use Rattle.k8s_meta.specs.Spots.{seen};
+ghost use Rattle.watch_events.specs.Given.{Gives};
+ghost use Rattle.watch_events.specs.Kinds.{group_in, group_of, kind_named, kind_of, policy_kind, taken, text_or_empty};
 
-use crate::json::text;
+use crate::line::LineFault;
+use k8s_meta::key::Key;
+use k8s_meta::place::Place;
 use mesh_base::key::Kind;
 use mesh_base::pieces::cut;
-use serde_json::Value;
 
 fn is_bytes(found: &[u8], wanted: &[u8]) -> bool
     ensures { result ≡ bytes_eq found.now wanted.now }
@@ -24,14 +26,21 @@ fn group_in(version: &str) -> &[u8]
     }
 }
 
-#[tactic(auto, unfolding(crate::specs::Kinds::group_of))]
-fn group_of(object: &Value) -> &[u8]
-    ensures { result.now ≡ group_of (view object.now) }
+/// The text at a place, or the empty text where there is none.
+pub fn text_or_empty<'a>(place: &Place<'a>) -> &'a str
+    ensures { result.now ≡ text_or_empty (seen place.now) }
 {
-    match text(object, "apiVersion") {
-        None => b"",
-        Some(version) => group_in(version),
+    match place.as_text() {
+        Some(text) => text,
+        None => "",
     }
+}
+
+#[tactic(auto, unfolding(crate::specs::Kinds::group_of))]
+fn group_of<'a>(place: &'a Place<'a>) -> &'a [u8]
+    ensures { result.now ≡ group_of (seen place.now) }
+{
+    group_in(text_or_empty(&place.member(Key::ApiVersion)))
 }
 
 #[tactic(auto, unfolding(crate::specs::Kinds::policy_kind))]
@@ -76,13 +85,20 @@ fn kind_named(kind: &[u8], group: &[u8]) -> Option<Kind>
     }
 }
 
-/// The kind of an object, by its kind and its API group.
-#[tactic(auto, unfolding(crate::specs::Kinds::kind_of))]
-pub(crate) fn kind_of(object: &Value) -> Option<Kind>
-    ensures { result ≡ kind_of (view object.now) }
+fn taken(kind: Option<Kind>) -> Result<Kind, LineFault>
+    ensures { Gives result (taken kind) }
 {
-    match text(object, "kind") {
-        None => None,
-        Some(kind) => kind_named(kind.as_bytes(), group_of(object)),
+    match kind {
+        None => Err(LineFault::UnknownKind),
+        Some(Kind::Pod) => Err(LineFault::NotBuilt),
+        Some(kind) => Ok(kind),
     }
+}
+
+/// The kind of this name in the group that the place names.
+#[tactic(auto, unfolding(crate::specs::Kinds::kind_of))]
+pub fn kind_of<'a>(name: &[u8], place: &'a Place<'a>) -> Result<Kind, LineFault>
+    ensures { Gives result (kind_of name.now (seen place.now)) }
+{
+    taken(kind_named(name, group_of(place)))
 }

@@ -1,14 +1,19 @@
 //! A line of the feed: from its bytes to what it says, or the first fault.
 //!
-//! Stands on k8s_core and k8s_meta for objects, on view_types for what a line may say, and on serde_json for JSON.
-//! `read_line` gives `line_of` of `specs/Lines`.
+//! Stands on k8s_core, profile_objects, policy_objects and route_objects for objects, on mesh_text for JSON and the short
+//! texts, on k8s_meta for members and on view_types for what a line may say. `read_line` gives `line_of` of
+//! `specs/Lines`, and what it gives is lawful (`specs/Lawful`).
 #![tactic(auto)]
 
+mod control;
 pub mod event;
-mod json;
+mod event_type;
+mod fault;
 mod kinds;
 pub mod line;
 mod line_text;
+mod list;
 mod object;
+mod query;
 pub mod read;
-mod subscription;
+mod watch;

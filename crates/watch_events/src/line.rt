@@ -5,6 +5,7 @@ use crate::event::Event;
 use k8s_meta::fault::ReadFault;
 use mesh_base::memory;
 use mesh_base::sub_id::SubId;
+use mesh_base::text::Text;
 use view_types::query::Query;
 
 /// What a line says.
@@ -15,6 +16,8 @@ pub enum Line {
     Event(Event),
     /// From now on the query is answered under the number.
     Subscribe { id: SubId, query: Query },
+    /// The program is to end.
+    Stop,
 }
 
 /// Why a line doesn't read.
@@ -24,10 +27,22 @@ pub enum LineFault {
     /// It is longer than the limit.
     TooLong,
     NotJson,
-    /// It reads as JSON, and this program doesn't take such lines yet.
-    NotBuilt,
-    /// Its object doesn't read.
+    /// It is neither a control line nor a watch event nor a list.
+    NoForm,
+    /// The type of a watch event is none of the five.
+    UnknownType,
+    /// The watch has failed at its source.
+    ErrorEvent,
+    /// No kind that is read has this name in this API group.
+    UnknownKind,
+    /// Its object, or its list of objects, doesn't read.
     Object(ReadFault),
+    /// The item at this place of a list, counted from 0, has the key of an earlier one.
+    RepeatedItem { place: u64 },
+    /// The member of a control line is absent, or has a value that isn't taken there.
+    BadQuery { path: Text },
+    /// It reads so far, and this program doesn't take such lines yet.
+    NotBuilt,
 }
 
 impl From<memory::Memory> for LineFault {

@@ -12,8 +12,20 @@ impl fmt::Display for LineFault {
             LineFault::Memory => Ok(()),
             LineFault::TooLong => write!(f, "TooLong"),
             LineFault::NotJson => write!(f, "NotJson"),
-            LineFault::NotBuilt => write!(f, "NotBuilt"),
+            LineFault::NoForm => write!(f, "NoForm"),
+            LineFault::UnknownType => write!(f, "UnknownType"),
+            LineFault::ErrorEvent => write!(f, "ErrorEvent"),
+            LineFault::UnknownKind => write!(f, "UnknownKind"),
             LineFault::Object(fault) => write!(f, "{fault}"),
+            LineFault::RepeatedItem { place } => {
+                let place = *place;
+                write!(f, "RepeatedItem {place}")
+            }
+            LineFault::BadQuery { path } => {
+                let path = path.as_str();
+                write!(f, "BadQuery {path}")
+            }
+            LineFault::NotBuilt => write!(f, "NotBuilt"),
         }
     }
 }

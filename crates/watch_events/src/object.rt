@@ -1,75 +1,98 @@
-ghost use Rattle.std.specs.Prelude.{◌≡◌, Some};
-ghost use Rattle.serde_json.specs.View.{view};
 ghost use Rattle.k8s_meta.specs.Spots.{Reads, seen};
 ghost use Rattle.watch_events.specs.Keys.{key_at};
-ghost use Rattle.watch_events.specs.Lines.{object_spot, line_fault, set_of, delete_key, delete_of};
-ghost use Rattle.watch_events.specs.Given.{Gives};
-ghost use Rattle.mesh_base.specs.declared.key.Kind.TheVariants as kinds;
+ghost use Rattle.watch_events.specs.Objects.{object_at};
 
-use crate::event::Event;
-use crate::line::{Line, LineFault};
-use k8s_core::service::read_service;
-use k8s_core::slice::read_slice;
+use k8s_core::pod::pod_of;
+use k8s_core::service::service_of;
+use k8s_core::slice::slice_of;
 use k8s_meta::fault::ReadFault;
 use k8s_meta::key::Key;
 use k8s_meta::place::Place;
+use k8s_meta::reader::Reader;
 use k8s_meta::words::{Name, Namespace};
 use mesh_base::boxed::Boxed;
 use mesh_base::key::{Kind, ObjKey};
-use serde_json::Value;
-use std::alloc::Global;
+use policy_objects::authn::{mesh_authn_of, net_authn_of};
+use policy_objects::authz_policy::authz_policy_of;
+use policy_objects::server::server_of;
+use policy_objects::server_authz::server_authz_of;
+use profile_objects::profile::profile_of;
+use route_objects::route::route_of;
 use view_types::object::Object;
 
-// Where the object of an event stands in its line.
-const OBJECT: &str = "object";
+/// An object of a kind.
+#[derive(Clone, Copy)]
+pub struct ObjectOf {
+    pub kind: Kind,
+}
 
-// A fault of the object is the line's.
-fn line_fault(fault: ReadFault) -> LineFault
-    ensures { result ≡ line_fault fault }
-{
-    match fault {
-        ReadFault::Memory => LineFault::Memory,
-        fault => LineFault::Object(fault),
+impl Reader for ObjectOf {
+    type Made = Object;
+
+    ghost reading = { λ reader. object_at reader.kind };
+
+    fn read<'a>(&self, place: &'a Place<'a>) -> Result<Object, ReadFault> {
+        read_object(self.kind, place)
     }
 }
 
-fn set_service(alloc: Global, object: &Value) -> Result<Line, LineFault>
-    ensures { Gives result (set_of (Some kinds.Service) (view object.now)) }
+/// The object at a place, as one of the kind.
+#[tactic(auto, unfolding(crate::specs::Objects::object_at))]
+pub fn read_object<'a>(kind: Kind, place: &'a Place<'a>) -> Result<Object, ReadFault>
+    ensures { Reads result (object_at kind (seen place.now)) }
 {
-    match read_service(alloc, object, OBJECT) {
-        Ok(service) => {
-            let service = Boxed::new(alloc, service)?;
-            Ok(Line::Event(Event::Set(Object::Service(service))))
-        }
-        Err(fault) => Err(line_fault(fault)),
-    }
-}
-
-fn set_slice(alloc: Global, object: &Value) -> Result<Line, LineFault>
-    ensures { Gives result (set_of (Some kinds.EndpointSlice) (view object.now)) }
-{
-    match read_slice(alloc, object, OBJECT) {
-        Ok(slice) => {
-            let slice = Boxed::new(alloc, slice)?;
-            Ok(Line::Event(Event::Set(Object::EndpointSlice(slice))))
-        }
-        Err(fault) => Err(line_fault(fault)),
-    }
-}
-
-/// The event that holds an object of this kind from now on.
-pub(crate) fn set_of(alloc: Global, kind: Kind, object: &Value) -> Result<Line, LineFault>
-    ensures { Gives result (set_of (Some kind) (view object.now)) }
-{
+    let alloc = place.alloc();
     match kind {
-        Kind::Service => set_service(alloc, object),
-        Kind::EndpointSlice => set_slice(alloc, object),
-        _ => Err(LineFault::NotBuilt),
+        Kind::Pod => {
+            let pod = pod_of(place)?;
+            Ok(Object::Pod(Boxed::new(alloc, pod)?))
+        }
+        Kind::Service => {
+            let service = service_of(place)?;
+            Ok(Object::Service(Boxed::new(alloc, service)?))
+        }
+        Kind::EndpointSlice => {
+            let slice = slice_of(place)?;
+            Ok(Object::EndpointSlice(Boxed::new(alloc, slice)?))
+        }
+        Kind::ServiceProfile => {
+            let profile = profile_of(place)?;
+            Ok(Object::ServiceProfile(Boxed::new(alloc, profile)?))
+        }
+        Kind::Server => {
+            let server = server_of(place)?;
+            Ok(Object::Server(Boxed::new(alloc, server)?))
+        }
+        Kind::ServerAuthorization => {
+            let authz = server_authz_of(place)?;
+            Ok(Object::ServerAuthorization(Boxed::new(alloc, authz)?))
+        }
+        Kind::AuthorizationPolicy => {
+            let policy = authz_policy_of(place)?;
+            Ok(Object::AuthorizationPolicy(Boxed::new(alloc, policy)?))
+        }
+        Kind::MeshTLSAuthentication => {
+            let authn = mesh_authn_of(place)?;
+            Ok(Object::MeshTLSAuthentication(Boxed::new(alloc, authn)?))
+        }
+        Kind::NetworkAuthentication => {
+            let authn = net_authn_of(place)?;
+            Ok(Object::NetworkAuthentication(Boxed::new(alloc, authn)?))
+        }
+        Kind::LinkerdRoute => {
+            let route = route_of(Kind::LinkerdRoute, place)?;
+            Ok(Object::LinkerdRoute(Boxed::new(alloc, route)?))
+        }
+        Kind::GatewayRoute => {
+            let route = route_of(Kind::GatewayRoute, place)?;
+            Ok(Object::GatewayRoute(Boxed::new(alloc, route)?))
+        }
     }
 }
 
+/// The key of the object at a place: its name and its namespace alone are read.
 #[tactic(auto, unfolding(crate::specs::Keys::key_at))]
-fn key_at<'a>(kind: Kind, object: &'a Place<'a>) -> Result<ObjKey, ReadFault>
+pub fn read_key<'a>(kind: Kind, object: &'a Place<'a>) -> Result<ObjKey, ReadFault>
     ensures { Reads result (key_at kind (seen object.now)) }
 {
     object.object()?;
@@ -77,30 +100,4 @@ fn key_at<'a>(kind: Kind, object: &'a Place<'a>) -> Result<ObjKey, ReadFault>
     let name = metadata.required(Key::Name, &Name)?;
     let ns = metadata.text_or(Key::Namespace, &Namespace, "default")?;
     Ok(ObjKey { kind, ns, name })
-}
-
-fn read_key(alloc: Global, kind: Kind, object: &Value) -> Result<ObjKey, ReadFault>
-    ensures { Reads result (key_at kind (object_spot (view object.now))) }
-{
-    key_at(kind, &Place::top(alloc, object, OBJECT))
-}
-
-fn delete_key(alloc: Global, kind: Kind, object: &Value) -> Result<Line, LineFault>
-    ensures { Gives result (delete_key kind (view object.now)) }
-{
-    match read_key(alloc, kind, object) {
-        Ok(key) => Ok(Line::Event(Event::Delete(key))),
-        Err(fault) => Err(line_fault(fault)),
-    }
-}
-
-/// The event that lets an object of this kind go.
-pub(crate) fn delete_of(alloc: Global, kind: Kind, object: &Value) -> Result<Line, LineFault>
-    ensures { Gives result (delete_of (Some kind) (view object.now)) }
-{
-    match kind {
-        Kind::Service => delete_key(alloc, kind, object),
-        Kind::EndpointSlice => delete_key(alloc, kind, object),
-        _ => Err(LineFault::NotBuilt),
-    }
 }

@@ -1,15 +1,20 @@
-ghost use Rattle.std.specs.Prelude.{◌≡◌};
-ghost use Rattle.serde_json.specs.Data.{Data};
-ghost use Rattle.serde_json.specs.View.{view};
+ghost use Rattle.std.specs.Prelude.{◌≡◌, IfOk, option_and_then};
+ghost use Rattle.serde_json.specs.Find.{as_str};
+ghost use Rattle.k8s_meta.specs.Spots.{◌·◌, seen};
+ghost use Rattle.k8s_meta.specs.declared.key.Key.TheVariants as keys;
 ghost use Rattle.watch_events.specs.Given.{Gives};
-ghost use Rattle.watch_events.specs.Lines.{is_blank, is_blank_byte, set_event, delete_event, event_of, control_of, form_of, line_of};
+ghost use Rattle.watch_events.specs.Lawful.{IsLawfulLine};
+ghost use Rattle.watch_events.specs.Lines.{form_of, is_blank, is_blank_byte, line_of, list_as, text_line};
+ghost use Rattle.watch_events.specs.ListLines.{item_kind};
 
-use crate::json::{has_text, member, read_json};
-use crate::kinds::kind_of;
+use crate::control::read_control;
 use crate::line::{Line, LineFault};
-use crate::object::{delete_of, set_of};
-use crate::subscription::read_subscription;
-use serde_json::Value;
+use crate::list::{item_kind, read_list};
+use crate::watch::read_event;
+use k8s_meta::key::Key;
+use k8s_meta::place::Place;
+use mesh_base::limits::Limits;
+use mesh_text::json::read_json;
 use std::alloc::Global;
 use view_types::config::Config;
 
@@ -25,70 +30,56 @@ fn is_blank(line: &[u8]) -> bool
     line.iter().all(|byte| is_blank_byte(*byte))
 }
 
-fn set_event(alloc: Global, object: &Value) -> Result<Line, LineFault>
-    ensures { Gives result (set_event (view object.now)) }
+fn read_if_list<'a>(line: &'a Place<'a>) -> Result<Line, LineFault>
+    ensures { Gives result (list_as (option_and_then item_kind (as_str ((seen line.now) · keys.Kind).value)) (seen line.now)) }
 {
-    match kind_of(object) {
-        Some(kind) => set_of(alloc, kind, object),
-        None => Err(LineFault::NotBuilt),
-    }
-}
-
-fn delete_event(alloc: Global, object: &Value) -> Result<Line, LineFault>
-    ensures { Gives result (delete_event (view object.now)) }
-{
-    match kind_of(object) {
-        Some(kind) => delete_of(alloc, kind, object),
-        None => Err(LineFault::NotBuilt),
-    }
-}
-
-fn read_event(alloc: Global, value: &Value) -> Result<Line, LineFault>
-    ensures { Gives result (event_of (view value.now)) }
-{
-    let Some(object) = member(value, "object") else {
-        return Err(LineFault::NotBuilt);
+    let Some(kind) = line.member(Key::Kind).as_text() else {
+        return Err(LineFault::NoForm);
     };
-    if has_text(value, "type", "ADDED") {
-        set_event(alloc, object)
-    } else if has_text(value, "type", "DELETED") {
-        delete_event(alloc, object)
-    } else {
-        Err(LineFault::NotBuilt)
-    }
-}
-
-fn read_control(alloc: Global, value: &Value, config: &Config) -> Result<Line, LineFault>
-    ensures { Gives result (control_of config.now (view value.now)) }
-{
-    if !has_text(value, "control", "subscribe") {
-        return Err(LineFault::NotBuilt);
-    }
-    match read_subscription(alloc, value, config)? {
-        Some(line) => Ok(line),
-        None => Err(LineFault::NotBuilt),
+    match item_kind(kind) {
+        Some(name) => read_list(name, line),
+        None => Err(LineFault::NoForm),
     }
 }
 
 #[tactic(auto, unfolding(crate::specs::Lines::form_of))]
-fn read_form(alloc: Global, value: &Value, config: &Config) -> Result<Line, LineFault>
-    ensures { Gives result (form_of config.now (view value.now)) }
+fn read_form<'a>(config: &Config, line: &'a Place<'a>) -> Result<Line, LineFault>
+    ensures { Gives result (form_of config.now (seen line.now)) }
 {
-    if member(value, "control").is_some() {
-        read_control(alloc, value, config)
+    if !line.member(Key::Control).is_absent() {
+        read_control(config, line)
+    } else if !line.member(Key::Type).is_absent() {
+        read_event(line)
     } else {
-        read_event(alloc, value)
+        read_if_list(line)
     }
 }
 
-/// What the bytes of a line say, or the first fault.
-#[tactic(auto, unfolding(crate::specs::Lines::line_of))]
-pub fn read_line(alloc: Global, line: &[u8], config: &Config) -> Result<Line, LineFault>
-    ensures { Gives result (line_of config.now line.now) }
+#[tactic(auto, unfolding(crate::specs::Lines::text_line))]
+fn read_text(alloc: Global, line: &[u8], config: &Config) -> Result<Line, LineFault>
+    ensures { Gives result (text_line config.now line.now) }
 {
     if is_blank(line) {
         return Ok(Line::Blank);
     }
-    let value = read_json(alloc, line)?;
-    read_form(alloc, &value, config)
+    match read_json(alloc, line)? {
+        Some(value) => read_form(config, &Place::top(alloc, &value, "")),
+        None => Err(LineFault::NotJson),
+    }
+}
+
+/// What the bytes of a line say, or the first fault.
+pub fn read_line(
+    alloc: Global,
+    line: &[u8],
+    config: &Config,
+    limits: &Limits,
+) -> Result<Line, LineFault>
+    ensures value { Gives result (line_of config.now limits.now line.now) }
+    ensures lawful { IfOk result IsLawfulLine }
+{
+    if line.len() as u64 > limits.line {
+        return Err(LineFault::TooLong);
+    }
+    read_text(alloc, line, config)
 }

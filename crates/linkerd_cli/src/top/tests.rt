@@ -1,4 +1,7 @@
+mod rows;
+
 use super::{Outcome, top};
+use crate::top::tests::rows::{LIMITED, REFUSED};
 use k8s_meta::duration::read_duration;
 use line_run::Status;
 use mesh_base::limits::Limits;
@@ -20,6 +23,23 @@ const UDP_FIRST: &str =
 const SLICE: &str =
     r#"{"type":"ADDED","object":{"apiVersion":"discovery.k8s.io/v1","kind":"EndpointSlice","metadata":{"name":"web-a","namespace":"app","labels":{"kubernetes.io/service-name":"web"}},"addressType":"IPv4","endpoints":[{"addresses":["10.1.2.3"]}],"ports":[{"name":"http","port":8080}]}}"#;
 
+const SLICE_MODIFIED: &str =
+    r#"{"type":"MODIFIED","object":{"apiVersion":"discovery.k8s.io/v1","kind":"EndpointSlice","metadata":{"name":"web-a","namespace":"app","labels":{"kubernetes.io/service-name":"web"}},"addressType":"IPv4","endpoints":[{"addresses":["10.1.2.3"]}],"ports":[{"name":"http","port":8080}]}}"#;
+
+const SLICE_LIST: &str =
+    r#"{"kind":"EndpointSliceList","apiVersion":"discovery.k8s.io/v1","metadata":{"resourceVersion":"7"},"items":[{"kind":"Pod","metadata":{"name":"web-c","namespace":"app","labels":{"kubernetes.io/service-name":"web"}},"addressType":"IPv4","endpoints":[{"addresses":["10.1.2.3"]}],"ports":[{"name":"http","port":8080}]}]}"#;
+
+const SERVER_LIST: &str =
+    r#"{"kind":"ServerList","apiVersion":"policy.linkerd.io/v1beta3","items":[{"metadata":{"name":"web"},"spec":{"port":80}}]}"#;
+
+const EMPTY_LIST: &str = r#"{"kind":"EndpointSliceList","apiVersion":"discovery.k8s.io/v1"}"#;
+
+const DELETED_BY_KEY: &str =
+    r#"{"type":"DELETED","object":{"apiVersion":"discovery.k8s.io/v1","kind":"EndpointSlice","metadata":{"name":"web-a","namespace":"app","labels":7},"addressType":7}}"#;
+
+const GET_WITH_TOKEN: &str =
+    r#"{"control":"subscribe","id":1,"query":{"method":"Get","path":"web.app.svc.cluster.local:80","token":"{\"ns\":\"cli\"}"}}"#;
+
 const SLICE_GONE: &str =
     r#"{"type":"DELETED","object":{"apiVersion":"discovery.k8s.io/v1","kind":"EndpointSlice","metadata":{"name":"web-a","namespace":"app"}}}"#;
 
@@ -31,12 +51,6 @@ const TWO_PORTS: &str =
 
 const NOT_READY: &str =
     r#"{"type":"ADDED","object":{"apiVersion":"discovery.k8s.io/v1","kind":"EndpointSlice","metadata":{"name":"web-a","namespace":"app","labels":{"kubernetes.io/service-name":"web"}},"addressType":"IPv4","endpoints":[{"addresses":["10.1.2.3"],"conditions":{"ready":false}}],"ports":[{"name":"http","port":8080}]}}"#;
-
-const POD: &str =
-    r#"{"type":"ADDED","object":{"apiVersion":"v1","kind":"Pod","metadata":{"name":"web-1","namespace":"app","labels":{"app":"web","linkerd.io/control-plane-ns":"linkerd"}},"spec":{"containers":[{"ports":[{"name":"http","containerPort":8080}]}]},"status":{"podIP":"10.1.2.3"}}}"#;
-
-const BAD_PORT: &str =
-    r#"{"type":"ADDED","object":{"apiVersion":"v1","kind":"Service","metadata":{"name":"web","namespace":"app"},"spec":{"ports":[{"name":"http","port":0}]}}}"#;
 
 const GET: &str =
     r#"{"control":"subscribe","id":1,"query":{"method":"Get","path":"web.app.svc.cluster.local:80"}}"#;
@@ -97,6 +111,17 @@ fn status_of(outcome: Outcome) -> Status {
     status
 }
 
+// What the text of an input comes to.
+fn replayed_text(alloc: Global, limits: &Limits, text: &str) -> Result<(Status, String), Fail> {
+    let words = words_of(alloc, &["replay"])?;
+    let mut input = source_of(alloc, text, &[])?;
+    let mut out = sink_of(alloc, &[])?;
+    let mut patterns = patterns_of(alloc);
+    let outcome = top(alloc, &words, limits, &mut input, &mut out, &mut patterns);
+    let written = String::from_utf8(out.bytes)?;
+    Ok((status_of(outcome), written))
+}
+
 // What the lines come to, each ended by `end`.
 fn replayed(alloc: Global, lines: &[&str], end: &str) -> Result<(Status, String), Fail> {
     let mut text = String::new(alloc);
@@ -104,26 +129,13 @@ fn replayed(alloc: Global, lines: &[&str], end: &str) -> Result<(Status, String)
         text.push_str(line)?;
         text.push_str(end)?;
     }
-    let words = words_of(alloc, &["replay"])?;
-    let mut input = source_of(alloc, &text, &[])?;
-    let mut out = sink_of(alloc, &[])?;
-    let mut patterns = patterns_of(alloc);
-    let outcome = top(
-        alloc,
-        &words,
-        &Limits::USUAL,
-        &mut input,
-        &mut out,
-        &mut patterns,
-    );
-    let written = String::from_utf8(out.bytes)?;
-    Ok((status_of(outcome), written))
+    replayed_text(alloc, &Limits::USUAL, &text)
 }
 
 #[test]
 fn accepted_lines(rt: HostRuntime) -> Result<(), Fail> {
     let alloc = rt.alloc();
-    let cases: [(&str, &[&str], &str); 17] = [
+    let cases: [(&str, &[&str], &str); 25] = [
         (
             "a Service, its slice and a subscription",
             &[SERVICE, SLICE, GET],
@@ -181,6 +193,49 @@ fn accepted_lines(rt: HostRuntime) -> Result<(), Fail> {
             NO_SERVICE,
         ),
         ("spaces and tabs alone", &["  \t", GET], NO_SERVICE),
+        (
+            "a slice modified that wasn't there",
+            &[SERVICE, SLICE_MODIFIED, GET],
+            ONE,
+        ),
+        (
+            "a list in place of all slices",
+            &[SERVICE, SAME_ADDRESS, TWO_PORTS, SLICE_LIST, GET],
+            ONE,
+        ),
+        (
+            "a list of another kind",
+            &[SERVICE, SLICE, SERVER_LIST, GET],
+            ONE,
+        ),
+        (
+            "a list without items",
+            &[SERVICE, SLICE, EMPTY_LIST, GET],
+            NO_ENDPOINTS,
+        ),
+        (
+            "a bookmark, whose object isn't read",
+            &[SERVICE, SLICE, r#"{"type":"BOOKMARK","object":7}"#, GET],
+            ONE,
+        ),
+        (
+            "of a deleted object the key alone",
+            &[SERVICE, SLICE, DELETED_BY_KEY, GET],
+            NO_ENDPOINTS,
+        ),
+        (
+            "members that are null",
+            &[
+                r#"{"control":null,"type":null,"kind":"ServiceList","apiVersion":"v1","items":null}"#,
+                GET,
+            ],
+            NO_SERVICE,
+        ),
+        (
+            "a token, which nothing here uses",
+            &[SERVICE, SLICE, GET_WITH_TOKEN],
+            ONE,
+        ),
     ];
     for (what, lines, expected) in cases {
         let (status, written) = replayed(alloc, lines, "\n")?;
@@ -201,49 +256,56 @@ fn accepted_lines(rt: HostRuntime) -> Result<(), Fail> {
 #[test]
 fn refused_lines(rt: HostRuntime) -> Result<(), Fail> {
     let alloc = rt.alloc();
-    let cases: [(&[&str], &str); 8] = [
-        (&["{"], "refused 1 NotJson\n"),
-        (&[POD], "refused 1 NotBuilt\n"),
-        (&["{}"], "refused 1 NotBuilt\n"),
-        (&["7"], "refused 1 NotBuilt\n"),
-        (&[r#"{"type":"ADDED"}"#], "refused 1 NotBuilt\n"),
-        (
-            &[BAD_PORT],
-            "refused 1 BadValue object.spec.ports[0].port Range\n",
-        ),
-        (&[GET, GET], "refused 2 IdOrder 1\nframe 1 00000000021a00\n"),
-        (
-            &[SERVICE, BAD_PORT, SLICE, GET],
-            "refused 2 BadValue object.spec.ports[0].port Range\nframe 1 00000000130a110a0f0a0a0a050d0302010a10903f18904e\n",
-        ),
-    ];
-    for (lines, expected) in cases {
-        let (status, written) = replayed(alloc, lines, "\n")?;
-        assert_eq!(rt; status, Status::SomeRefused);
-        assert_eq!(rt; written.as_str(), expected);
+    for row in REFUSED.lines() {
+        let Some((line, fault)) = row.split_once(" => ") else {
+            continue;
+        };
+        let (status, written) = replayed(alloc, &[line, GET], "\n")?;
+        let expected = format!(in alloc; "refused 1 {fault}\n{NO_SERVICE}")?;
+        assert_eq!(rt; status, Status::SomeRefused, "at {line}");
+        assert_eq!(rt; written.as_str(), expected.as_str(), "at {line}");
     }
     Ok(())
 }
 
-// A last line without a line feed counts.
 #[test]
-fn a_last_line(rt: HostRuntime) -> Result<(), Fail> {
+fn small_limits(rt: HostRuntime) -> Result<(), Fail> {
     let alloc = rt.alloc();
-    let text = format!(in alloc; "{SERVICE}\n{SLICE}\n{GET}")?;
-    let words = words_of(alloc, &["replay"])?;
-    let mut input = source_of(alloc, &text, &[])?;
-    let mut out = sink_of(alloc, &[])?;
-    let mut patterns = patterns_of(alloc);
-    let outcome = top(
-        alloc,
-        &words,
-        &Limits::USUAL,
-        &mut input,
-        &mut out,
-        &mut patterns,
+    for &(objects, subs, line, text, expected) in LIMITED {
+        let limits = Limits {
+            objects,
+            subs,
+            line,
+            ..Limits::USUAL
+        };
+        let (_, written) = replayed_text(alloc, &limits, text)?;
+        assert_eq!(rt; written.as_str(), expected, "at {text}");
+    }
+    Ok(())
+}
+
+// A line of the greatest length is read, and one that is longer by a byte isn't. A last line needs no line feed.
+#[test]
+fn long_lines(rt: HostRuntime) -> Result<(), Fail> {
+    let alloc = rt.alloc();
+    let limits = Limits {
+        line: 1_048_576,
+        ..Limits::USUAL
+    };
+    let mut text = String::from_str(alloc, SERVICE)?;
+    for _ in SERVICE.len()..1_048_576 {
+        text.push(' ')?;
+    }
+    let long = format!(in alloc; "{text}\n{GET}")?;
+    let (status, written) = replayed_text(alloc, &limits, &long)?;
+    assert_eq!(rt; (status, written.as_str()), (Status::Done, NO_ENDPOINTS));
+    let longer = format!(in alloc; "{text} \n{GET}")?;
+    let (status, written) = replayed_text(alloc, &limits, &longer)?;
+    let expected = format!(in alloc; "refused 1 TooLong\n{NO_SERVICE}")?;
+    assert_eq!(rt;
+        (status, written.as_str()),
+        (Status::SomeRefused, expected.as_str())
     );
-    assert_eq!(rt; outcome, Outcome::Ended(Status::Done));
-    assert_eq!(rt; out.bytes.as_slice(), ONE.as_bytes());
     Ok(())
 }
 

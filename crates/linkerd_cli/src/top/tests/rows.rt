@@ -1,0 +1,184 @@
+/// Lines, and why each is refused.
+pub const REFUSED: &str = r#"
+{ => NotJson
+{"control":"stop" => NotJson
+nul => NotJson
+[1e400] => NotJson
+"\ud800" => NotJson
+{} => NoForm
+7 => NoForm
+[] => NoForm
+null => NoForm
+{"kind":"Service"} => NoForm
+{"kind":7,"items":[]} => NoForm
+{"control":null} => NoForm
+{"control":"go","type":"GONE"} => BadQuery control
+{"type":"GONE","kind":"ConfigMapList"} => UnknownType
+{"type":"GONE"} => UnknownType
+{"type":7,"object":{}} => UnknownType
+{"type":"added","object":7} => UnknownType
+{"type":"ERROR","object":{}} => ErrorEvent
+{"type":"ERROR"} => ErrorEvent
+{"type":"ADDED"} => Missing object
+{"type":"DELETED","object":null} => Missing object
+{"type":"MODIFIED","object":[]} => WrongType object
+{"type":"ADDED","object":{"kind":"ConfigMap","apiVersion":"v1","metadata":7}} => UnknownKind
+{"type":"ADDED","object":{"metadata":7}} => UnknownKind
+{"type":"DELETED","object":{"kind":7,"apiVersion":"v1"}} => UnknownKind
+{"type":"ADDED","object":{"kind":"Service","apiVersion":"apps/v1"}} => UnknownKind
+{"type":"ADDED","object":{"kind":"Server","apiVersion":"v1"}} => UnknownKind
+{"type":"ADDED","object":{"kind":"EndpointSlice","apiVersion":"policy.linkerd.io/v1"}} => UnknownKind
+{"type":"ADDED","object":{"kind":"HTTPRoute","apiVersion":"linkerd.io/v1"}} => UnknownKind
+{"type":"ADDED","object":{"kind":"Pod","apiVersion":"v1","metadata":7}} => NotBuilt
+{"type":"DELETED","object":{"kind":"Pod","metadata":{"name":"web-1"}}} => NotBuilt
+{"type":"ADDED","object":{"apiVersion":"v1","kind":"Service"}} => Missing object.metadata.name
+{"type":"ADDED","object":{"apiVersion":"v1","kind":"Service","metadata":{"name":"A"},"spec":7}} => BadName object.metadata.name
+{"type":"MODIFIED","object":{"apiVersion":"v1","kind":"Service","metadata":{"name":"a"},"spec":{"ports":[{"port":0}]}}} => BadValue object.spec.ports[0].port Range
+{"type":"DELETED","object":{"apiVersion":"v1","kind":"Service","metadata":"a"}} => WrongType object.metadata
+{"type":"DELETED","object":{"apiVersion":"v1","kind":"Service","metadata":{"name":"a","namespace":"a.b"}}} => BadName object.metadata.namespace
+{"kind":"ConfigMapList","apiVersion":"v1","items":7} => UnknownKind
+{"kind":"List","apiVersion":"v1","items":[]} => UnknownKind
+{"kind":"ServerList","apiVersion":"v1","items":7} => UnknownKind
+{"kind":"PodList","apiVersion":"v1","items":7} => NotBuilt
+{"kind":"ServiceList","apiVersion":"v1","items":7} => WrongType items
+{"kind":"ServiceList","apiVersion":"v1","items":{}} => WrongType items
+{"kind":"ServiceList","apiVersion":"v1","items":[null]} => WrongType items[0]
+{"kind":"ServiceList","apiVersion":"v1","items":[{"metadata":{"name":"a"}},7,{}]} => WrongType items[1]
+{"kind":"ServiceList","apiVersion":"v1","items":[{"metadata":{"name":"a"}},{"metadata":{"name":"b"}},{}]} => Missing items[2].metadata.name
+{"kind":"ServiceList","apiVersion":"v1","items":[{"metadata":{"name":"a"}},{"metadata":{"name":"a"}},{"metadata":7}]} => WrongType items[2].metadata
+{"kind":"ServiceList","apiVersion":"v1","items":[{"metadata":{"name":"a"}},{"metadata":{"name":"a"}}]} => RepeatedItem 1
+{"kind":"ServiceList","apiVersion":"v1","items":[{"metadata":{"name":"a"}},{"metadata":{"name":"b"}},{"metadata":{"name":"b"}},{"metadata":{"name":"a"}}]} => RepeatedItem 2
+{"kind":"ServiceList","apiVersion":"v1","items":[{"metadata":{"name":"a"}},{"metadata":{"name":"a","namespace":"b"}},{"metadata":{"name":"a","namespace":"default"}}]} => RepeatedItem 2
+{"kind":"HTTPRouteList","apiVersion":"gateway.networking.k8s.io/v1","items":[{"metadata":{"name":"a"}},{"metadata":{"name":"a"}}]} => RepeatedItem 1
+{"control":7} => BadQuery control
+{"control":"Subscribe"} => BadQuery control
+{"control":"stop"} => NotHere
+{"control":"cancel"} => NotBuilt
+{"control":"drain"} => NotBuilt
+{"control":"simulate"} => NotBuilt
+{"control":"subscribe"} => BadQuery id
+{"control":"subscribe","id":-1,"query":7} => BadQuery id
+{"control":"subscribe","id":1.0} => BadQuery id
+{"control":"subscribe","id":4294967296} => BadQuery id
+{"control":"subscribe","id":"1"} => BadQuery id
+{"control":"subscribe","id":1} => BadQuery query
+{"control":"subscribe","id":1,"query":[]} => BadQuery query
+{"control":"subscribe","id":1,"query":{"path":7}} => BadQuery query.method
+{"control":"subscribe","id":1,"query":{"method":"get","path":7}} => BadQuery query.method
+{"control":"subscribe","id":1,"query":{"method":7}} => BadQuery query.method
+{"control":"subscribe","id":1,"query":{"method":"GetProfile","path":7}} => NotBuilt
+{"control":"subscribe","id":1,"query":{"method":"WatchPort"}} => NotBuilt
+{"control":"subscribe","id":1,"query":{"method":"Watch"}} => NotBuilt
+{"control":"subscribe","id":1,"query":{"method":"Get","token":7}} => BadQuery query.path
+{"control":"subscribe","id":1,"query":{"method":"Get","path":7}} => BadQuery query.path
+{"control":"subscribe","id":1,"query":{"method":"Get","path":"web.app"}} => BadQuery query.path
+{"control":"subscribe","id":1,"query":{"method":"Get","path":"10.1.2.3:80"}} => BadQuery query.path
+{"control":"subscribe","id":1,"query":{"method":"Get","path":"web.app.svc.cluster.local","token":7}} => BadQuery query.token
+"#;
+
+/// How many objects may be held and subscriptions be live, how long a line may be, an input, and what is written.
+pub const LIMITED: &[(u32, u32, u64, &str, &str)] = &[
+    (
+        2,
+        10,
+        1048576,
+        r#"{"type":"ADDED","object":{"apiVersion":"v1","kind":"Service","metadata":{"name":"web","namespace":"app"},"spec":{"ports":[{"name":"http","port":80}]}}}
+{"type":"ADDED","object":{"apiVersion":"discovery.k8s.io/v1","kind":"EndpointSlice","metadata":{"name":"web-a","namespace":"app","labels":{"kubernetes.io/service-name":"web"}},"addressType":"IPv4","endpoints":[{"addresses":["10.1.2.3"]}],"ports":[{"name":"http","port":8080}]}}
+{"type":"ADDED","object":{"apiVersion":"v1","kind":"Service","metadata":{"name":"b","namespace":"app"},"spec":{"ports":[{"name":"http","port":80}]}}}
+{"type":"MODIFIED","object":{"apiVersion":"v1","kind":"Service","metadata":{"name":"web","namespace":"app"},"spec":{"ports":[{"name":"http","port":80}]}}}
+"#,
+        "refused 3 Full 2\n",
+    ),
+    (
+        2,
+        10,
+        1048576,
+        r#"{"type":"ADDED","object":{"apiVersion":"v1","kind":"Service","metadata":{"name":"web","namespace":"app"},"spec":{"ports":[{"name":"http","port":80}]}}}
+{"type":"ADDED","object":{"apiVersion":"discovery.k8s.io/v1","kind":"EndpointSlice","metadata":{"name":"web-a","namespace":"app","labels":{"kubernetes.io/service-name":"web"}},"addressType":"IPv4","endpoints":[{"addresses":["10.1.2.3"]}],"ports":[{"name":"http","port":8080}]}}
+{"kind":"ServiceList","apiVersion":"v1","items":[{"metadata":{"name":"a"}},{"metadata":{"name":"b"}}]}
+{"control":"subscribe","id":1,"query":{"method":"Get","path":"web.app.svc.cluster.local:80"}}
+"#,
+        "refused 3 Full 2\nframe 1 00000000130a110a0f0a0a0a050d0302010a10903f18904e\n",
+    ),
+    (
+        2,
+        10,
+        1048576,
+        r#"{"type":"ADDED","object":{"apiVersion":"v1","kind":"Service","metadata":{"name":"web","namespace":"app"},"spec":{"ports":[{"name":"http","port":80}]}}}
+{"type":"ADDED","object":{"apiVersion":"discovery.k8s.io/v1","kind":"EndpointSlice","metadata":{"name":"web-a","namespace":"app","labels":{"kubernetes.io/service-name":"web"}},"addressType":"IPv4","endpoints":[{"addresses":["10.1.2.3"]}],"ports":[{"name":"http","port":8080}]}}
+{"kind":"ServiceList","apiVersion":"v1"}
+{"type":"ADDED","object":{"apiVersion":"v1","kind":"Service","metadata":{"name":"b","namespace":"app"},"spec":{"ports":[{"name":"http","port":80}]}}}
+"#,
+        "",
+    ),
+    (
+        2,
+        10,
+        1048576,
+        r#"{"type":"ADDED","object":{"apiVersion":"v1","kind":"Service","metadata":{"name":"web","namespace":"app"},"spec":{"ports":[{"name":"http","port":80}]}}}
+{"type":"ADDED","object":{"apiVersion":"discovery.k8s.io/v1","kind":"EndpointSlice","metadata":{"name":"web-a","namespace":"app","labels":{"kubernetes.io/service-name":"web"}},"addressType":"IPv4","endpoints":[{"addresses":["10.1.2.3"]}],"ports":[{"name":"http","port":8080}]}}
+{"kind":"ServiceList","apiVersion":"v1","items":[{"metadata":{"name":"b"}}]}
+{"control":"subscribe","id":1,"query":{"method":"Get","path":"web.app.svc.cluster.local:80"}}
+"#,
+        "frame 1 00000000021a00\n",
+    ),
+    (
+        9,
+        1,
+        1048576,
+        r#"{"control":"subscribe","id":1,"query":{"method":"Get","path":"web.app.svc.cluster.local:80"}}
+{"control":"subscribe","id":2,"query":{"method":"Get","path":"web.app.svc.cluster.local:80"}}
+"#,
+        "refused 2 TooManySubs 1\nframe 1 00000000021a00\n",
+    ),
+    (
+        9,
+        9,
+        1048576,
+        r#"{"control":"subscribe","id":5,"query":{"method":"Get","path":"web.app.svc.cluster.local:80"}}
+{"control":"subscribe","id":1,"query":{"method":"Get","path":"web.app.svc.cluster.local:80"}}
+"#,
+        "refused 2 IdOrder 5\nframe 5 00000000021a00\n",
+    ),
+    (
+        9,
+        9,
+        1048576,
+        r#"{"control":"subscribe","id":5,"query":{"method":"Get","path":"web.app.svc.cluster.local:80"}}
+{"control":"subscribe","id":5,"query":{"method":"Get","path":"web.app.svc.cluster.local:80"}}
+"#,
+        "refused 2 IdOrder 5\nframe 5 00000000021a00\n",
+    ),
+    (
+        9,
+        1,
+        1048576,
+        r#"{"control":"subscribe","id":5,"query":{"method":"Get","path":"web.app.svc.cluster.local:80"}}
+{"control":"subscribe","id":1,"query":{"method":"Get","path":"web.app.svc.cluster.local:80"}}
+"#,
+        "refused 2 IdOrder 5\nframe 5 00000000021a00\n",
+    ),
+    (
+        9,
+        9,
+        8,
+        r#"         
+{        
+       
+{}
+ 
+"#,
+        "refused 1 TooLong\nrefused 2 TooLong\nrefused 4 NoForm\n",
+    ),
+    (
+        9,
+        9,
+        1048576,
+        r#"{"type":"ADDED","object":{"apiVersion":"v1","kind":"Service","metadata":{"name":"web","namespace":"app"},"spec":{"ports":[{"name":"http","port":80}]}}}
+{"type":"ADDED","object":{"apiVersion":"discovery.k8s.io/v1","kind":"EndpointSlice","metadata":{"name":"web-b","namespace":"app","labels":{"kubernetes.io/service-name":"web"}},"addressType":"IPv4","endpoints":[{"addresses":["10.1.2.4"]}],"ports":[{"name":"http","port":8080}]}}
+{"control":"subscribe","id":1,"query":{"method":"Get","path":"web.app.svc.cluster.local:80"}}
+{"kind":"EndpointSliceList","apiVersion":"discovery.k8s.io/v1","items":[{"metadata":{"name":"web-b"},"addressType":"IPv4"},{"metadata":{"name":"web-c"},"addressType":"IPv4"},{"metadata":{},"addressType":"IPv4"}]}
+"#,
+        "refused 4 Missing items[2].metadata.name\nframe 1 00000000130a110a0f0a0a0a050d0402010a10903f18904e\n",
+    ),
+];

@@ -1,0 +1,36 @@
+-- Readings of a line: what it says, or its first fault.
+use Rattle.std.specs.Prelude.{Result, Ok, Err}
+use Rattle.k8s_meta.specs.declared.fault.ReadFault.{ReadFault}
+use Rattle.k8s_meta.specs.declared.fault.ReadFault.TheVariants as reads
+use Rattle.watch_events.specs.declared.line.LineFault.{LineFault}
+use Rattle.watch_events.specs.declared.line.LineFault.TheVariants as faults
+
+infixl 10 ◌>>=◌
+-- one reading after another, up to the first fault
+abbrev pub ◌>>=◌ : {A B : Type 0} → Result A LineFault → (A → Result B LineFault) → Result B LineFault
+(Ok x) >>= f = f x
+(Err e) >>= f = Err e
+
+-- a fault of an object, or of a list, is the line's
+abbrev pub object_fault : ReadFault → LineFault
+object_fault reads.Memory = faults.Memory
+object_fault (reads.Missing path) = faults.Object (reads.Missing path)
+object_fault (reads.WrongType path) = faults.Object (reads.WrongType path)
+object_fault (reads.BadName path) = faults.Object (reads.BadName path)
+object_fault (reads.BadValue path what) = faults.Object (reads.BadValue path what)
+
+abbrev pub of_object : {A : Type 0} → Result A ReadFault → Result A LineFault
+of_object (Ok x) = Ok x
+of_object (Err fault) = Err (object_fault fault)
+
+-- of a fault of a control line, the path of its member
+abbrev pub query_fault : ReadFault → LineFault
+query_fault reads.Memory = faults.Memory
+query_fault (reads.Missing path) = faults.BadQuery path
+query_fault (reads.WrongType path) = faults.BadQuery path
+query_fault (reads.BadName path) = faults.BadQuery path
+query_fault (reads.BadValue path what) = faults.BadQuery path
+
+abbrev pub of_query : {A : Type 0} → Result A ReadFault → Result A LineFault
+of_query (Ok x) = Ok x
+of_query (Err fault) = Err (query_fault fault)

@@ -1,0 +1,137 @@
+ghost use Rattle.std.specs.Prelude.{◌≡◌, Err, option_and_then};
+ghost use Rattle.serde_json.specs.Find.{as_str};
+ghost use Rattle.k8s_meta.specs.Scalars.{number};
+ghost use Rattle.k8s_meta.specs.Spots.{◌·◌, seen};
+ghost use Rattle.k8s_meta.specs.Words.{choice, object, required};
+ghost use Rattle.k8s_meta.specs.declared.key.Key.TheVariants as keys;
+ghost use Rattle.watch_events.specs.Controls.{control_of, control_word, query_of, subscription_of};
+ghost use Rattle.watch_events.specs.Given.{Fails, Gives, GivesAs};
+ghost use Rattle.watch_events.specs.Queries.{method_of};
+ghost use Rattle.watch_events.specs.Reading.{of_query};
+ghost use Rattle.watch_events.specs.declared.line.Line.{Line as Said};
+ghost use Rattle.watch_events.specs.declared.line.LineFault.TheVariants.{BadQuery};
+
+use crate::fault::query_fault;
+use crate::line::{Line, LineFault};
+use crate::query::{MethodWord, read_get};
+use k8s_meta::key::Key;
+use k8s_meta::place::Place;
+use k8s_meta::words::Number32;
+use mesh_base::sub_id::SubId;
+use view_types::config::Config;
+use view_types::query::{Method, Query};
+
+/// What a control line asks for.
+#[derive(Clone, Copy)]
+pub enum ControlWord {
+    Subscribe,
+    Cancel,
+    Drain,
+    Simulate,
+    Stop,
+}
+
+fn control_word(word: &str) -> Option<ControlWord>
+    ensures { result ≡ control_word word.now }
+{
+    if word == "subscribe" {
+        Some(ControlWord::Subscribe)
+    } else if word == "cancel" {
+        Some(ControlWord::Cancel)
+    } else if word == "drain" {
+        Some(ControlWord::Drain)
+    } else if word == "simulate" {
+        Some(ControlWord::Simulate)
+    } else if word == "stop" {
+        Some(ControlWord::Stop)
+    } else {
+        None
+    }
+}
+
+const ID: Number32 = Number32 {
+    low: 0,
+    high: 4_294_967_295,
+};
+
+fn read_id<'a>(line: &'a Place<'a>) -> Result<u32, LineFault>
+    ensures { Gives result (of_query (required (number 0 4294967295) ((seen line.now) · keys.Id))) }
+{
+    match line.required(Key::Id, &ID) {
+        Ok(id) => Ok(id),
+        Err(fault) => Err(query_fault(fault)),
+    }
+}
+
+fn query_in<'a>(line: &'a Place<'a>) -> Result<Place<'a>, LineFault>
+    ensures { GivesAs seen result (of_query (required object ((seen line.now) · keys.Query))) }
+{
+    match line.required_part(Key::Query) {
+        Ok(query) => Ok(query),
+        Err(fault) => Err(query_fault(fault)),
+    }
+}
+
+fn read_method<'a>(query: &'a Place<'a>) -> Result<Method, LineFault>
+    ensures { Gives result (of_query (required (choice method_of) ((seen query.now) · keys.Method))) }
+{
+    match query.required(Key::Method, &MethodWord) {
+        Ok(method) => Ok(method),
+        Err(fault) => Err(query_fault(fault)),
+    }
+}
+
+fn read_query<'a>(config: &Config, method: Method, query: &'a Place<'a>) -> Result<Query, LineFault>
+    ensures { Gives result (query_of config.now method (seen query.now)) }
+{
+    match method {
+        Method::Get => match read_get(config, query) {
+            Ok(query) => Ok(query),
+            Err(fault) => Err(query_fault(fault)),
+        },
+        _ => Err(LineFault::NotBuilt),
+    }
+}
+
+#[tactic(auto, unfolding(crate::specs::Controls::subscription_of))]
+fn read_subscription<'a>(config: &Config, line: &'a Place<'a>) -> Result<Line, LineFault>
+    ensures { Gives result (subscription_of config.now (seen line.now)) }
+{
+    let id = read_id(line)?;
+    let query = query_in(line)?;
+    let method = read_method(&query)?;
+    let query = read_query(config, method, &query)?;
+    Ok(Line::Subscribe {
+        id: SubId(id),
+        query,
+    })
+}
+
+fn word_of<'a>(line: &'a Place<'a>) -> Option<ControlWord>
+    ensures { result ≡ option_and_then control_word (as_str ((seen line.now) · keys.Control).value) }
+{
+    match line.member(Key::Control).as_text() {
+        Some(word) => control_word(word),
+        None => None,
+    }
+}
+
+fn no_word<'a>(line: &'a Place<'a>) -> LineFault
+    ensures { Fails {A = Said} result (Err (BadQuery ((seen line.now) · keys.Control).at)) }
+{
+    query_fault(line.member(Key::Control).wrong_type())
+}
+
+/// What a control line says.
+pub fn read_control<'a>(config: &Config, line: &'a Place<'a>) -> Result<Line, LineFault>
+    ensures { Gives result (control_of config.now (seen line.now)) }
+{
+    match word_of(line) {
+        None => Err(no_word(line)),
+        Some(ControlWord::Subscribe) => read_subscription(config, line),
+        Some(ControlWord::Cancel) => Err(LineFault::NotBuilt),
+        Some(ControlWord::Drain) => Err(LineFault::NotBuilt),
+        Some(ControlWord::Simulate) => Err(LineFault::NotBuilt),
+        Some(ControlWord::Stop) => Ok(Line::Stop),
+    }
+}
