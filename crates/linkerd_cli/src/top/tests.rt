@@ -1,15 +1,22 @@
 mod rows;
 
+ghost use Rattle.std.specs.Prelude.{◌≤◌};
+
 use super::{Outcome, top};
-use crate::top::tests::rows::{LIMITED, REFUSED};
+use crate::top::tests::rows::{LIMITED, OBJECTS, REFUSED};
 use k8s_meta::duration::read_duration;
 use line_run::Status;
+use mesh_base::copied::Copied;
 use mesh_base::limits::Limits;
 use mesh_base::list::List;
 use mesh_base::text::Text;
 use mesh_outside::{MemPatterns, MemSink, MemSource};
 use std::alloc::Global;
 use std::test::Fail;
+use view_types::config::Config;
+use watch_events::event::Event;
+use watch_events::line::Line;
+use watch_events::read::read_line;
 
 const SERVICE: &str =
     r#"{"type":"ADDED","object":{"apiVersion":"v1","kind":"Service","metadata":{"name":"web","namespace":"app"},"spec":{"clusterIP":"10.96.0.10","ports":[{"name":"http","port":80}]}}}"#;
@@ -112,7 +119,9 @@ fn status_of(outcome: Outcome) -> Status {
 }
 
 // What the text of an input comes to.
-fn replayed_text(alloc: Global, limits: &Limits, text: &str) -> Result<(Status, String), Fail> {
+fn replayed_text(alloc: Global, limits: &Limits, text: &str) -> Result<(Status, String), Fail>
+    requires { 1 ≤ limits.now.frame_addrs }
+{
     let words = words_of(alloc, &["replay"])?;
     let mut input = source_of(alloc, text, &[])?;
     let mut out = sink_of(alloc, &[])?;
@@ -397,6 +406,27 @@ fn three_messages(rt: HostRuntime) -> Result<(), Fail> {
     let (status, written) = replayed(alloc, &[SERVICE, slice.as_str(), GET], "\n")?;
     assert_eq!(rt; status, Status::Done);
     assert_eq!(rt; written.as_str(), frames.as_str());
+    Ok(())
+}
+
+/// Whether the line is an event with an object, of which there is a copy.
+fn has_copy(alloc: Global, config: &Config, line: &str) -> bool {
+    match read_line(alloc, line.as_bytes(), config, &Limits::USUAL) {
+        Ok(Line::Event(Event::Set(object))) => object.copy(alloc).is_ok(),
+        _ => false,
+    }
+}
+
+#[test]
+fn objects_are_copied(rt: HostRuntime) -> Result<(), Fail> {
+    let alloc = rt.alloc();
+    let config = Config::usual(alloc)?;
+    for line in OBJECTS.lines() {
+        assert!(rt;
+            line.is_empty() || has_copy(alloc, &config, line),
+            "at {line}"
+        );
+    }
     Ok(())
 }
 
