@@ -9,5 +9,3 @@ pub mod pod;
 mod port_entry;
 pub mod service;
 pub mod slice;
-#[cfg(test)]
-mod tests;

@@ -13,7 +13,5 @@ pub mod method;
 mod name;
 pub mod policy_word;
 pub mod target_text;
-#[cfg(test)]
-mod tests;
 pub mod token;
 pub mod workload_text;

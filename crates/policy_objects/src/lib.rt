@@ -18,5 +18,3 @@ mod reference;
 mod selector;
 pub mod server;
 pub mod server_authz;
-#[cfg(test)]
-mod tests;

@@ -11,5 +11,3 @@ mod parts;
 pub mod profile;
 mod request;
 mod response;
-#[cfg(test)]
-mod tests;

@@ -8,6 +8,4 @@ pub mod fault;
 pub mod frame;
 pub mod laws;
 pub mod record;
-#[cfg(test)]
-mod tests;
 pub mod writing;

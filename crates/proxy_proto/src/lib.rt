@@ -8,6 +8,4 @@ mod endpoint;
 mod fields;
 pub mod laws;
 mod part;
-#[cfg(test)]
-mod tests;
 pub mod writing;

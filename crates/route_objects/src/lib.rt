@@ -10,5 +10,3 @@ mod matches;
 mod parent;
 pub mod route;
 mod rule;
-#[cfg(test)]
-mod tests;

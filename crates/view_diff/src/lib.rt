@@ -5,5 +5,3 @@
 
 pub mod batch;
 pub mod laws;
-#[cfg(test)]
-mod tests;

@@ -8,5 +8,3 @@ pub mod endpoints;
 pub mod laws;
 pub mod pairs;
 pub mod service;
-#[cfg(test)]
-mod tests;

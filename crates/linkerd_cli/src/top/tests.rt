@@ -1,84 +1,23 @@
+mod lines;
 mod rows;
 
 ghost use Rattle.std.specs.Prelude.{◌≤◌};
 
 use super::{Outcome, top};
-use crate::top::tests::rows::{LIMITED, OBJECTS, REFUSED};
-use k8s_meta::duration::read_duration;
+use crate::top::tests::lines::{GET, NO_ENDPOINTS, NO_SERVICE, SERVICE, SLICE, named};
+use crate::top::tests::rows::{ACCEPTED, LIMITED, OBJECTS, REFUSED};
 use line_run::Status;
 use mesh_base::copied::Copied;
 use mesh_base::limits::Limits;
 use mesh_base::list::List;
 use mesh_base::text::Text;
 use mesh_outside::{MemPatterns, MemSink, MemSource};
-use std::alloc::Global;
+use std::alloc::{AllocError, Global};
 use std::test::Fail;
 use view_types::config::Config;
 use watch_events::event::Event;
 use watch_events::line::Line;
 use watch_events::read::read_line;
-
-const SERVICE: &str =
-    r#"{"type":"ADDED","object":{"apiVersion":"v1","kind":"Service","metadata":{"name":"web","namespace":"app"},"spec":{"clusterIP":"10.96.0.10","ports":[{"name":"http","port":80}]}}}"#;
-
-const SERVICE_GONE: &str =
-    r#"{"type":"DELETED","object":{"apiVersion":"v1","kind":"Service","metadata":{"name":"web","namespace":"app"}}}"#;
-
-const UDP_FIRST: &str =
-    r#"{"type":"ADDED","object":{"apiVersion":"v1","kind":"Service","metadata":{"name":"web","namespace":"app"},"spec":{"ports":[{"name":"dns","port":80,"protocol":"UDP"},{"name":"http","port":80}]}}}"#;
-
-const SLICE: &str =
-    r#"{"type":"ADDED","object":{"apiVersion":"discovery.k8s.io/v1","kind":"EndpointSlice","metadata":{"name":"web-a","namespace":"app","labels":{"kubernetes.io/service-name":"web"}},"addressType":"IPv4","endpoints":[{"addresses":["10.1.2.3"]}],"ports":[{"name":"http","port":8080}]}}"#;
-
-const SLICE_MODIFIED: &str =
-    r#"{"type":"MODIFIED","object":{"apiVersion":"discovery.k8s.io/v1","kind":"EndpointSlice","metadata":{"name":"web-a","namespace":"app","labels":{"kubernetes.io/service-name":"web"}},"addressType":"IPv4","endpoints":[{"addresses":["10.1.2.3"]}],"ports":[{"name":"http","port":8080}]}}"#;
-
-const SLICE_LIST: &str =
-    r#"{"kind":"EndpointSliceList","apiVersion":"discovery.k8s.io/v1","metadata":{"resourceVersion":"7"},"items":[{"kind":"Pod","metadata":{"name":"web-c","namespace":"app","labels":{"kubernetes.io/service-name":"web"}},"addressType":"IPv4","endpoints":[{"addresses":["10.1.2.3"]}],"ports":[{"name":"http","port":8080}]}]}"#;
-
-const SERVER_LIST: &str =
-    r#"{"kind":"ServerList","apiVersion":"policy.linkerd.io/v1beta3","items":[{"metadata":{"name":"web"},"spec":{"port":80}}]}"#;
-
-const EMPTY_LIST: &str = r#"{"kind":"EndpointSliceList","apiVersion":"discovery.k8s.io/v1"}"#;
-
-const DELETED_BY_KEY: &str =
-    r#"{"type":"DELETED","object":{"apiVersion":"discovery.k8s.io/v1","kind":"EndpointSlice","metadata":{"name":"web-a","namespace":"app","labels":7},"addressType":7}}"#;
-
-const GET_WITH_TOKEN: &str =
-    r#"{"control":"subscribe","id":1,"query":{"method":"Get","path":"web.app.svc.cluster.local:80","token":"{\"ns\":\"cli\"}"}}"#;
-
-const SLICE_GONE: &str =
-    r#"{"type":"DELETED","object":{"apiVersion":"discovery.k8s.io/v1","kind":"EndpointSlice","metadata":{"name":"web-a","namespace":"app"}}}"#;
-
-const SAME_ADDRESS: &str =
-    r#"{"type":"ADDED","object":{"apiVersion":"discovery.k8s.io/v1","kind":"EndpointSlice","metadata":{"name":"web-b","namespace":"app","labels":{"kubernetes.io/service-name":"web"}},"addressType":"IPv4","endpoints":[{"addresses":["10.1.2.3"]},{"addresses":["10.1.2.4"]}],"ports":[{"name":"http","port":8080}]}}"#;
-
-const TWO_PORTS: &str =
-    r#"{"type":"ADDED","object":{"apiVersion":"discovery.k8s.io/v1","kind":"EndpointSlice","metadata":{"name":"web-a","namespace":"app","labels":{"kubernetes.io/service-name":"web"}},"addressType":"IPv4","endpoints":[{"addresses":["10.1.2.3"]}],"ports":[{"name":"http","port":9090},{"name":"http","port":8080},{"name":"other","port":7070}]}}"#;
-
-const NOT_READY: &str =
-    r#"{"type":"ADDED","object":{"apiVersion":"discovery.k8s.io/v1","kind":"EndpointSlice","metadata":{"name":"web-a","namespace":"app","labels":{"kubernetes.io/service-name":"web"}},"addressType":"IPv4","endpoints":[{"addresses":["10.1.2.3"],"conditions":{"ready":false}}],"ports":[{"name":"http","port":8080}]}}"#;
-
-const GET: &str =
-    r#"{"control":"subscribe","id":1,"query":{"method":"Get","path":"web.app.svc.cluster.local:80"}}"#;
-
-const GET_ZERO: &str =
-    r#"{"control":"subscribe","id":0,"query":{"method":"Get","path":"WEB.app.svc.cluster.local"}}"#;
-
-const GET_GREATEST: &str =
-    r#"{"control":"subscribe","id":4294967295,"query":{"method":"Get","path":"web.app.svc.cluster.local:80"}}"#;
-
-const ONE: &str = "frame 1 00000000130a110a0f0a0a0a050d0302010a10903f18904e\n";
-
-const BOTH: &str =
-    "frame 1 00000000240a220a0f0a0a0a050d0302010a10903f18904e0a0f0a0a0a050d0402010a10903f18904e\n";
-
-const BOTH_PORTS: &str =
-    "frame 1 00000000240a220a0f0a0a0a050d0302010a10903f18904e0a0f0a0a0a050d0302010a10824718904e\n";
-
-const NO_SERVICE: &str = "frame 1 00000000021a00\n";
-
-const NO_ENDPOINTS: &str = "frame 1 00000000041a020801\n";
 
 fn source_of(alloc: Global, text: &str, fails: &[u64]) -> Result<MemSource, Fail> {
     Ok(MemSource {
@@ -131,134 +70,44 @@ fn replayed_text(alloc: Global, limits: &Limits, text: &str) -> Result<(Status, 
     Ok((status_of(outcome), written))
 }
 
-// What the lines come to, each ended by `end`.
-fn replayed(alloc: Global, lines: &[&str], end: &str) -> Result<(Status, String), Fail> {
+// Whether the text of an input comes to this.
+fn comes_to(alloc: Global, text: &str, status: Status, expected: &str) -> Result<bool, Fail> {
+    let (ended, written) = replayed_text(alloc, &Limits::USUAL, text)?;
+    Ok(ended == status && written.as_str() == expected)
+}
+
+// The lines of these names, each ended by `end`.
+fn lines_named(alloc: Global, words: &str, end: &str) -> Result<String, AllocError> {
     let mut text = String::new(alloc);
-    for line in lines {
-        text.push_str(line)?;
+    for word in words.split(' ') {
+        text.push_str(named(word))?;
         text.push_str(end)?;
     }
-    replayed_text(alloc, &Limits::USUAL, &text)
+    Ok(text)
 }
 
 #[test]
 fn accepted_lines(rt: HostRuntime) -> Result<(), Fail> {
     let alloc = rt.alloc();
-    let cases: [(&str, &[&str], &str); 25] = [
-        (
-            "a Service, its slice and a subscription",
-            &[SERVICE, SLICE, GET],
-            ONE,
-        ),
-        ("an empty line between", &[SERVICE, "", SLICE, GET], ONE),
-        ("nothing", &[], ""),
-        ("no Service", &[GET], NO_SERVICE),
-        ("a Service alone", &[SERVICE, GET], NO_ENDPOINTS),
-        ("a slice without its Service", &[SLICE, GET], NO_SERVICE),
-        ("the Service after its slice", &[SLICE, GET, SERVICE], ONE),
-        (
-            "a shared address, the first slice first",
-            &[SERVICE, SLICE, SAME_ADDRESS, GET],
-            BOTH,
-        ),
-        (
-            "a shared address, the first slice last",
-            &[SERVICE, SAME_ADDRESS, SLICE, GET],
-            BOTH,
-        ),
-        (
-            "two ports of the name",
-            &[SERVICE, TWO_PORTS, GET],
-            BOTH_PORTS,
-        ),
-        (
-            "an endpoint that isn't ready",
-            &[SERVICE, NOT_READY, GET],
-            NO_ENDPOINTS,
-        ),
-        (
-            "a port of UDP before the one of TCP",
-            &[UDP_FIRST, SLICE, GET],
-            ONE,
-        ),
-        (
-            "a slice in place of another",
-            &[SERVICE, TWO_PORTS, SLICE, GET],
-            ONE,
-        ),
-        (
-            "a slice that went",
-            &[SERVICE, SLICE, SLICE_GONE, GET],
-            NO_ENDPOINTS,
-        ),
-        (
-            "a Service that went",
-            &[SERVICE, SERVICE_GONE, GET],
-            NO_SERVICE,
-        ),
-        (
-            "a Service that went twice",
-            &[SERVICE_GONE, SERVICE_GONE, GET],
-            NO_SERVICE,
-        ),
-        ("spaces and tabs alone", &["  \t", GET], NO_SERVICE),
-        (
-            "a slice modified that wasn't there",
-            &[SERVICE, SLICE_MODIFIED, GET],
-            ONE,
-        ),
-        (
-            "a list in place of all slices",
-            &[SERVICE, SAME_ADDRESS, TWO_PORTS, SLICE_LIST, GET],
-            ONE,
-        ),
-        (
-            "a list of another kind",
-            &[SERVICE, SLICE, SERVER_LIST, GET],
-            ONE,
-        ),
-        (
-            "a list without items",
-            &[SERVICE, SLICE, EMPTY_LIST, GET],
-            NO_ENDPOINTS,
-        ),
-        (
-            "a bookmark, whose object isn't read",
-            &[SERVICE, SLICE, r#"{"type":"BOOKMARK","object":7}"#, GET],
-            ONE,
-        ),
-        (
-            "of a deleted object the key alone",
-            &[SERVICE, SLICE, DELETED_BY_KEY, GET],
-            NO_ENDPOINTS,
-        ),
-        (
-            "members that are null",
-            &[
-                r#"{"control":null,"type":null,"kind":"ServiceList","apiVersion":"v1","items":null}"#,
-                GET,
-            ],
-            NO_SERVICE,
-        ),
-        (
-            "a token, which nothing here uses",
-            &[SERVICE, SLICE, GET_WITH_TOKEN],
-            ONE,
-        ),
-    ];
-    for (what, lines, expected) in cases {
-        let (status, written) = replayed(alloc, lines, "\n")?;
-        assert_eq!(rt; status, Status::Done, "at {what}");
-        assert_eq!(rt; written.as_str(), expected, "at {what}");
+    for row in ACCEPTED.lines() {
+        let (_, case) = row.split_once(": ").unwrap_or(("", "nothing => nothing"));
+        let (words, expected) = case.split_once(" => ").unwrap_or(("", ""));
+        let text = lines_named(alloc, words, "\n")?;
+        let same = comes_to(alloc, &text, Status::Done, named(expected))?;
+        assert!(rt; same, "at {row}");
+        let text = lines_named(alloc, words, "\r\n")?;
+        let same = comes_to(alloc, &text, Status::Done, named(expected))?;
+        assert!(rt; same, "at {row}");
     }
-    let (status, written) = replayed(alloc, &[SERVICE, SLICE, GET], "\r\n")?;
-    assert_eq!(rt; status, Status::Done);
-    assert_eq!(rt; written.as_str(), ONE);
-    let (_, written) = replayed(alloc, &[GET_ZERO, GET_GREATEST], "\n")?;
-    assert_eq!(rt;
-        written.as_str(),
-        "frame 0 00000000021a00\nframe 4294967295 00000000021a00\n"
-    );
+    Ok(())
+}
+
+#[test]
+fn least_and_greatest_id(rt: HostRuntime) -> Result<(), Fail> {
+    let text = lines_named(rt.alloc(), "get_zero get_greatest", "\n")?;
+    let expected = "frame 0 00000000021a00\nframe 4294967295 00000000021a00\n";
+    let same = comes_to(rt.alloc(), &text, Status::Done, expected)?;
+    assert!(rt; same);
     Ok(())
 }
 
@@ -266,15 +115,20 @@ fn accepted_lines(rt: HostRuntime) -> Result<(), Fail> {
 fn refused_lines(rt: HostRuntime) -> Result<(), Fail> {
     let alloc = rt.alloc();
     for row in REFUSED.lines() {
-        let Some((line, fault)) = row.split_once(" => ") else {
-            continue;
-        };
-        let (status, written) = replayed(alloc, &[line, GET], "\n")?;
+        let (line, fault) = row.split_once(" => ").unwrap_or(("{", "NotJson"));
+        let text = format!(in alloc; "{line}\n{GET}\n")?;
         let expected = format!(in alloc; "refused 1 {fault}\n{NO_SERVICE}")?;
-        assert_eq!(rt; status, Status::SomeRefused, "at {line}");
-        assert_eq!(rt; written.as_str(), expected.as_str(), "at {line}");
+        let same = comes_to(alloc, &text, Status::SomeRefused, &expected)?;
+        assert!(rt; same, "at {line}");
     }
     Ok(())
+}
+
+fn writes_within(alloc: Global, limits: &Limits, text: &str, expected: &str) -> Result<bool, Fail>
+    requires { 1 ≤ limits.now.frame_addrs }
+{
+    let (_, written) = replayed_text(alloc, limits, text)?;
+    Ok(written.as_str() == expected)
 }
 
 #[test]
@@ -287,8 +141,8 @@ fn small_limits(rt: HostRuntime) -> Result<(), Fail> {
             line,
             ..Limits::USUAL
         };
-        let (_, written) = replayed_text(alloc, &limits, text)?;
-        assert_eq!(rt; written.as_str(), expected, "at {text}");
+        let same = writes_within(alloc, &limits, text, expected)?;
+        assert!(rt; same, "at {text}");
     }
     Ok(())
 }
@@ -306,15 +160,12 @@ fn long_lines(rt: HostRuntime) -> Result<(), Fail> {
         text.push(' ')?;
     }
     let long = format!(in alloc; "{text}\n{GET}")?;
-    let (status, written) = replayed_text(alloc, &limits, &long)?;
-    assert_eq!(rt; (status, written.as_str()), (Status::Done, NO_ENDPOINTS));
+    let same = writes_within(alloc, &limits, &long, NO_ENDPOINTS)?;
+    assert!(rt; same);
     let longer = format!(in alloc; "{text} \n{GET}")?;
-    let (status, written) = replayed_text(alloc, &limits, &longer)?;
     let expected = format!(in alloc; "refused 1 TooLong\n{NO_SERVICE}")?;
-    assert_eq!(rt;
-        (status, written.as_str()),
-        (Status::SomeRefused, expected.as_str())
-    );
+    let same = writes_within(alloc, &limits, &longer, &expected)?;
+    assert!(rt; same);
     Ok(())
 }
 
@@ -403,9 +254,9 @@ fn three_messages(rt: HostRuntime) -> Result<(), Fail> {
     )?;
     slice.push_str(&points)?;
     slice.push_str(r#"],"ports":[{"name":"http","port":8080}]}}"#)?;
-    let (status, written) = replayed(alloc, &[SERVICE, slice.as_str(), GET], "\n")?;
-    assert_eq!(rt; status, Status::Done);
-    assert_eq!(rt; written.as_str(), frames.as_str());
+    let text = format!(in alloc; "{SERVICE}\n{slice}\n{GET}\n")?;
+    let same = comes_to(alloc, &text, Status::Done, &frames)?;
+    assert!(rt; same);
     Ok(())
 }
 
@@ -428,19 +279,4 @@ fn objects_are_copied(rt: HostRuntime) -> Result<(), Fail> {
         );
     }
     Ok(())
-}
-
-#[test]
-fn durations(rt: HostRuntime) {
-    let cases: [(&str, Option<u64>); 6] = [
-        ("1.5s", Some(1_500_000_000)),
-        ("1h0.000000001s", Some(3_600_000_000_001)),
-        ("0.0000000019s", None),
-        ("1", None),
-        ("9223372036854775807ns", Some(9_223_372_036_854_775_807)),
-        ("9223372036854775808ns", None),
-    ];
-    for (text, nanoseconds) in cases {
-        assert_eq!(rt; read_duration(text.as_bytes()), nanoseconds, "at {text}");
-    }
 }

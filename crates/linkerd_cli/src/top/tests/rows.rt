@@ -1,3 +1,32 @@
+/// A case, the names of its lines, and the name of what is written.
+pub const ACCEPTED: &str = "
+a Service, its slice and a subscription: service slice get => one
+an empty line between: service nothing slice get => one
+nothing: nothing => nothing
+no Service: get => no_service
+a Service alone: service get => no_endpoints
+a slice without its Service: slice get => no_service
+the Service after its slice: slice get service => one
+a shared address, the first slice first: service slice same_address get => both
+a shared address, the first slice last: service same_address slice get => both
+two ports of the name: service two_ports get => both_ports
+an endpoint that isn't ready: service not_ready get => no_endpoints
+a port of UDP before the one of TCP: udp_first slice get => one
+a slice in place of another: service two_ports slice get => one
+a slice that went: service slice slice_gone get => no_endpoints
+a Service that went: service service_gone get => no_service
+a Service that went twice: service_gone service_gone get => no_service
+spaces and tabs alone: blanks get => no_service
+a slice modified that wasn't there: service slice_modified get => one
+a list in place of all slices: service same_address two_ports slice_list get => one
+a list of another kind: service slice server_list get => one
+a list without items: service slice empty_list get => no_endpoints
+a bookmark, whose object isn't read: service slice bookmark get => one
+of a deleted object the key alone: service slice deleted_by_key get => no_endpoints
+members that are null: nulls get => no_service
+a token, which nothing here uses: service slice get_with_token => one
+";
+
 /// Lines, and why each is refused.
 pub const REFUSED: &str = r#"
 { => NotJson

@@ -1,4 +1,4 @@
-use crate::selector::{SelOp, SelRule, Selector};
+use label_select::selector::{SelOp, SelRule, Selector};
 use mesh_base::copied::Copied;
 use mesh_base::labels::Labels;
 use mesh_base::list::List;

@@ -1,5 +1,5 @@
-use crate::profile::read_profile;
 use k8s_meta::fault::ReadFault;
+use profile_objects::profile::read_profile;
 use serde_json::Value;
 use std::alloc::{AllocError, Global};
 use view_types::profile::{Override, Profile, ProfileRoute, ReqMatch, RespClass, RespMatch};

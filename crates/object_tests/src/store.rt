@@ -2,8 +2,6 @@ ghost use Rattle.std.specs.Prelude.{◌≡◌, IfOk};
 ghost use Rattle.mesh_base.specs.declared.key.Kind.TheVariants.{NetworkAuthentication};
 ghost use Rattle.view_types.specs.Objects.{kind_of, IsListOf};
 
-use crate::change::StoreFault;
-use crate::store::Store;
 use k8s_meta::meta::Meta;
 use mesh_base::boxed::Boxed;
 use mesh_base::key::Kind;
@@ -12,6 +10,8 @@ use mesh_base::list::List;
 use mesh_base::memory::Memory;
 use mesh_base::steps::Steps;
 use mesh_base::text::Text;
+use object_store::change::StoreFault;
+use object_store::store::Store;
 use std::alloc::Global;
 use std::test::Fail;
 use view_types::authn::NetAuthn;

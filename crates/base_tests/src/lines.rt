@@ -1,6 +1,6 @@
 ghost use Rattle.std.specs.Prelude.{ℕ, None};
 
-use crate::{LineMachine, Status, run_lines};
+use line_run::{LineMachine, Status, run_lines};
 use mesh_base::limits::Limits;
 use mesh_base::list::List;
 use mesh_outside::{MemSink, MemSource, Sink, SinkFault};

@@ -1,6 +1,6 @@
-use crate::frame::frame;
-use crate::writing::{put_chunk, put_fixed32, put_fixed64, put_number, put_varint};
 use mesh_base::list::List;
+use proto_wire::frame::frame;
+use proto_wire::writing::{put_chunk, put_fixed32, put_fixed64, put_number, put_varint};
 use std::test::Fail;
 
 /// Varints and records of the guide to the encoding, and the limits of a varint.

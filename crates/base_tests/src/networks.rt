@@ -1,5 +1,5 @@
-use crate::ip::{Ip, read_ip};
-use crate::net::{Net, read_net};
+use net_cidr::ip::{Ip, read_ip};
+use net_cidr::net::{Net, read_net};
 
 fn net(base: Ip, bits: u8) -> Option<Net> {
     Some(Net { base, bits })

@@ -1,12 +1,12 @@
-use crate::authn::{read_mesh_authn, read_net_authn};
-use crate::authz_policy::read_authz_policy;
-use crate::server::read_server;
-use crate::server_authz::read_server_authz;
 use k8s_meta::fault::ReadFault;
 use label_select::selector::SelOp;
 use net_cidr::block::Block;
 use net_cidr::ip::Ip;
 use net_cidr::net::Net;
+use policy_objects::authn::{read_mesh_authn, read_net_authn};
+use policy_objects::authz_policy::read_authz_policy;
+use policy_objects::server::read_server;
+use policy_objects::server_authz::read_server_authz;
 use serde_json::Value;
 use std::alloc::{AllocError, Global};
 use view_types::authn::{

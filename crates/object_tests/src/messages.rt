@@ -1,9 +1,9 @@
-use crate::writing::{frame_message, write_message};
 use mesh_base::labels::Labels;
 use mesh_base::list::List;
 use mesh_base::memory::Memory;
 use mesh_base::text::Text;
 use net_cidr::ip::Ip;
+use proxy_proto::writing::{frame_message, write_message};
 use std::alloc::Global;
 use std::test::Fail;
 use view_types::endpoint::EndpointRow;

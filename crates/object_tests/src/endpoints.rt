@@ -1,4 +1,3 @@
-use crate::endpoints::endpoints_among;
 use k8s_meta::meta::Meta;
 use mesh_base::boxed::Boxed;
 use mesh_base::labels::Labels;
@@ -7,6 +6,7 @@ use mesh_base::memory::Memory;
 use mesh_base::text::Text;
 use net_cidr::ip::Ip;
 use std::alloc::Global;
+use view_scratch::endpoints::endpoints_among;
 use view_types::object::Object;
 use view_types::service::{NamedPort, Service};
 use view_types::slice::{Family, Point, Slice};

@@ -1,10 +1,10 @@
-use crate::batch::first_batch;
 use mesh_base::labels::Labels;
 use mesh_base::limits::Limits;
 use mesh_base::list::List;
 use mesh_base::memory::Memory;
 use net_cidr::ip::Ip;
 use std::alloc::Global;
+use view_diff::batch::first_batch;
 use view_types::endpoint::{EndpointRow, EndpointView};
 use view_types::message::Message;
 

@@ -4,7 +4,7 @@ use Rattle.std.proofs.lemmas.List.Elements.{All-cons, All-nil}
 use Rattle.mesh_base.specs.declared.key.Kind.{Kind}
 use Rattle.view_types.specs.declared.object.Object.{Object}
 use Rattle.view_types.specs.Objects.{kind_of, IsListOf}
-use Rattle.object_store.proofs.tests.one_network.Goals as goal
+use Rattle.object_tests.proofs.store.one_network.Goals as goal
 
 alone : (kind : Kind) (o : Object) → kind_of o ≡ kind → IsListOf kind (o ∷ [])
 unfolding IsDistinct

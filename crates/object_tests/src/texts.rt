@@ -1,8 +1,8 @@
-use crate::target_text::{TargetFault, read_target};
-use crate::token::read_context;
-use crate::workload_text::read_workload;
 use mesh_base::memory::Memory;
 use mesh_base::text::Text;
+use mesh_text::target_text::{TargetFault, read_target};
+use mesh_text::token::read_context;
+use mesh_text::workload_text::read_workload;
 use net_cidr::ip::Ip;
 use std::alloc::Global;
 use view_types::config::Config;

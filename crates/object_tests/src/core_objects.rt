@@ -1,6 +1,6 @@
-use crate::pod::read_pod;
-use crate::service::read_service;
-use crate::slice::read_slice;
+use k8s_core::pod::read_pod;
+use k8s_core::service::read_service;
+use k8s_core::slice::read_slice;
 use k8s_meta::fault::ReadFault;
 use net_cidr::ip::Ip;
 use serde_json::Value;

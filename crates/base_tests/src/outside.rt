@@ -1,4 +1,4 @@
-use crate::{MemPatterns, MemSink, Patterns, ReadSource, Sink, Source, WriteSink};
+use mesh_outside::{MemPatterns, MemSink, Patterns, ReadSource, Sink, Source, WriteSink};
 use std::test::Fail;
 
 // With ample memory each is answered, and the bytes of std's reader and writer are passed on.

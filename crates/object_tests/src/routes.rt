@@ -1,10 +1,10 @@
 ghost use Rattle.std.specs.Prelude.{IsTrue};
 ghost use Rattle.route_objects.specs.Routes.{is_route};
 
-use crate::route::read_route;
 use k8s_meta::fault::ReadFault;
 use mesh_base::key::Kind;
 use mesh_base::text::Text;
+use route_objects::route::read_route;
 use serde_json::Value;
 use std::alloc::{AllocError, Global};
 use view_types::route::{
