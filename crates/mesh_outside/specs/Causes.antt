@@ -1,11 +1,31 @@
 -- When a fault of the outside may be answered: the count of faults rose in the call, or stands at its type's end.
-use Rattle.std.specs.Prelude.{◌≡◌, ◌+◌, ◌-◌, ◌^◌, ◌≤◌, ◌<◌, ℕ, List, length, min, Result, Ok, OnErr, IsErrOf}
+use Rattle.std.specs.Prelude.{◌≡◌, ◌+◌, ◌-◌, ◌^◌, ◌≤◌, ◌<◌, ℕ, Bool, true, false, ◌&&◌, ◌==◌, nat_lt, if◌then◌else◌, List, length, min, Result, Ok, Err, OnErr, IsErrOf}
 use Rattle.mesh_outside.specs.declared.sink.SinkFault.{SinkFault}
-use Rattle.mesh_outside.specs.declared.sink.SinkFault.TheVariants.{Failed}
+use Rattle.mesh_outside.specs.declared.sink.SinkFault.TheVariants.{Failed, Memory}
 
 -- a count that rises, and stands still at the end of its type
 abbrev pub one_more : ℕ → ℕ
 one_more n = min (n + 1) (2 ^ 64 - 1)
+
+-- a count after a call that is counted, or isn't
+abbrev pub counted : Bool → ℕ → ℕ
+counted is_counted count = if is_counted then one_more count else count
+
+-- a write failed, or took nothing of a piece that isn't empty
+abbrev pub is_fault : List ℕ → Result ℕ SinkFault → Bool
+is_fault piece (Ok n) = n == 0 && nat_lt 0 (length piece)
+is_fault piece (Err Failed) = true
+is_fault piece (Err Memory) = false
+
+-- a write had the memory that it needed
+abbrev pub had_memory : Result ℕ SinkFault → Bool
+had_memory (Ok n) = true
+had_memory (Err Failed) = true
+had_memory (Err Memory) = false
+
+-- the count of what never fails
+abbrev pub none_ever : ℕ
+none_ever = 0
 
 -- the count rose from before to now, or stands at the end of its type
 abbrev pub Rose : ℕ → ℕ → Type 0

@@ -1,7 +1,7 @@
 // What tells whether patterns match.
-ghost use Rattle.std.specs.Prelude.{◌≡◌, ◌≢◌, ◌≤◌, ℕ, Bool, List, [], Option, Some, IfOk, IfSome, IsErrOf, Ok, Err, if◌then◌else◌, true};
+ghost use Rattle.std.specs.Prelude.{◌≡◌, ◌≢◌, ◌≤◌, ℕ, Bool, List, [], Option, Some, IfOk, IfSome, IsErrOf, Ok, Err, if◌then◌else◌, true, false};
 ghost use Rattle.std.specs.Str.{bytes_eq};
-ghost use Rattle.mesh_outside.specs.Causes.{Rose};
+ghost use Rattle.mesh_outside.specs.Causes.{Rose, counted, none_ever};
 ghost use Rattle.mesh_outside.specs.Patterns.{is_among};
 
 use mesh_base::list::List;
@@ -86,13 +86,39 @@ impl Patterns for MemPatterns {
         ensures other { result ≢ Err PatternFault.Refused → self.new.count ≡ self.old.count }
         ensures refuses_same { self.new.refuse ≡ self.old.refuse }
 
-        // The field says which are refused, and the others are told without memory.
+        // The field says which are refused, and the others are told without memory. Refusals alone are counted.
         ensures answer { result ≡ (if is_among pattern.now self.old.refuse then Err PatternFault.Refused else Ok (bytes_eq pattern.now text.now)) }
+        ensures count { self.new.count ≡ counted (is_among pattern.now self.old.refuse) self.old.count }
     {
         if is_refused(self.refuse.as_slice(), pattern) {
             self.count = self.count.saturating_add(1);
             return Err(PatternFault::Refused);
         }
+        Ok(pattern == text)
+    }
+}
+
+/// Patterns that are their own text, none of which is refused.
+#[derive(Drop)]
+pub struct SurePatterns;
+
+impl Patterns for SurePatterns {
+    ghost tells = { λ s. Some bytes_eq };
+
+    ghost refuses = { λ s. Some (λ p. false) };
+
+    ghost refusals = { λ s. none_ever };
+
+    fn whole(&mut self, _alloc: Global, pattern: &str, text: &str) -> Result<bool, PatternFault>
+        ensures told { IfOk result (λ answer. answer ≡ bytes_eq pattern.now text.now) }
+        ensures later { none_ever ≤ none_ever }
+        ensures refused { IsErrOf result PatternFault.Refused → Rose none_ever none_ever }
+        ensures named { IsErrOf result PatternFault.Refused → false ≡ true }
+        ensures other { result ≢ Err PatternFault.Refused → none_ever ≡ none_ever }
+
+        // Each is told, and without memory.
+        ensures answer { result ≡ Ok (bytes_eq pattern.now text.now) }
+    {
         Ok(pattern == text)
     }
 }

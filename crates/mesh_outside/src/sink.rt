@@ -1,9 +1,9 @@
 // Where bytes go.
-ghost use Rattle.std.specs.Prelude.{◌≡◌, ◌≤◌, ◌↔◌, ◌⊎◌, List, [], ℕ, Some, None, length, Contains, IfOk, IsErrOf};
+ghost use Rattle.std.specs.Prelude.{◌≡◌, ◌≤◌, ◌↔◌, List, [], ℕ, Some, None, length, Contains, IfOk, IsErrOf};
 ghost use Rattle.std.specs.declared.option.Option.{Option};
 ghost use Rattle.std.specs.Io.{WritesAtMost};
 ghost use Rattle.std.specs.Io.KnownBytes.{WriteAppends};
-ghost use Rattle.mesh_outside.specs.Causes.{WriteHasCause, one_more};
+ghost use Rattle.mesh_outside.specs.Causes.{WriteHasCause, one_more, counted, is_fault, had_memory, none_ever};
 
 use mesh_base::list::List;
 use std::alloc::Global;
@@ -75,10 +75,11 @@ impl Sink for MemSink {
         ensures cause { WriteHasCause self.old.count self.new.count piece.now result }
         ensures memory { IsErrOf result SinkFault.Memory → (Some self.new.bytes.items ≡ Some self.old.bytes.items) × (self.new.count ≡ self.old.count) }
 
-        // The fields say which calls fail, and the others take the whole piece.
+        // The fields say which calls fail, and the others take the whole piece. A call that had no memory isn't counted.
         ensures fails { IsErrOf result SinkFault.Failed ↔ Contains self.old.fails (one_more self.old.calls) }
         ensures whole { IfOk result (λ n. n ≡ length piece.now) }
-        ensures calls { IsErrOf result SinkFault.Memory ⊎ (self.new.calls ≡ one_more self.old.calls) }
+        ensures calls { self.new.calls ≡ counted (had_memory result) self.old.calls }
+        ensures count { self.new.count ≡ counted (is_fault piece.now result) self.old.count }
         ensures same { self.new.fails ≡ self.old.fails }
     {
         let number = self.calls.saturating_add(1);
@@ -92,6 +93,35 @@ impl Sink for MemSink {
         }
         self.calls = number;
         Ok(piece.len())
+    }
+}
+
+/// Bytes in memory. No call fails, though there may be no memory.
+#[derive(Drop)]
+pub struct SureSink {
+    /// The bytes held.
+    pub bytes: Vec<u8>,
+}
+
+impl Sink for SureSink {
+    ghost held = { λ s. Some s.bytes.items };
+
+    ghost faults = { λ s. none_ever };
+
+    fn write(&mut self, piece: &[u8]) -> Result<usize, SinkFault>
+        ensures bound { WritesAtMost result piece.now }
+        ensures bytes { WriteAppends (Some self.old.bytes.items) (Some self.new.bytes.items) result piece.now }
+        ensures cause { WriteHasCause none_ever none_ever piece.now result }
+        ensures memory { IsErrOf result SinkFault.Memory → (Some self.new.bytes.items ≡ Some self.old.bytes.items) × (none_ever ≡ none_ever) }
+
+        // It takes the whole piece.
+        ensures whole { IfOk result (λ n. n ≡ length piece.now) }
+        ensures none { ¬ (IsErrOf result SinkFault.Failed) }
+    {
+        match self.bytes.extend_from_slice(piece) {
+            Ok(()) => Ok(piece.len()),
+            Err(_) => Err(SinkFault::Memory),
+        }
     }
 }
 
@@ -122,7 +152,8 @@ impl<W: Write> Sink for WriteSink<W> {
         ensures cause { WriteHasCause self.old.count self.new.count piece.now result }
         ensures memory { IsErrOf result SinkFault.Memory → (W.contents self.new.writer ≡ W.contents self.old.writer) × (self.new.count ≡ self.old.count) }
 
-        // It takes no memory.
+        // Faults alone are counted, and it takes no memory.
+        ensures count { self.new.count ≡ counted (is_fault piece.now result) self.old.count }
         ensures none { ¬ (IsErrOf result SinkFault.Memory) }
     {
         let written = self.writer.write(piece);

@@ -1,9 +1,9 @@
 // Where bytes come from.
-ghost use Rattle.std.specs.Prelude.{◌≡◌, ◌≤◌, ◌↔◌, List, [], ℕ, Some, None, min, length, drop, vec_len, Contains, IsErr, IfOk, is_err, if◌then◌else◌};
+ghost use Rattle.std.specs.Prelude.{◌≡◌, ◌≤◌, ◌↔◌, List, [], ℕ, Some, None, min, length, drop, vec_len, Contains, IsErr, IfOk, is_err};
 ghost use Rattle.std.specs.declared.option.Option.{Option};
 ghost use Rattle.std.specs.Io.{ReadsAtMost};
 ghost use Rattle.std.specs.Io.KnownBytes.{ReadConsumes};
-ghost use Rattle.mesh_outside.specs.Causes.{HasCause, one_more};
+ghost use Rattle.mesh_outside.specs.Causes.{HasCause, one_more, counted, none_ever};
 
 use mesh_base::list::List;
 use std::alloc::Global;
@@ -81,7 +81,7 @@ impl Source for MemSource {
         ensures fails { IsErr result ↔ Contains self.old.fails self.new.calls }
         ensures whole { IfOk result (λ n. n ≡ min (length buf.old) (vec_len self.old.bytes)) }
         ensures calls { self.new.calls ≡ one_more self.old.calls }
-        ensures count { self.new.count ≡ (if is_err result then one_more self.old.count else self.old.count) }
+        ensures count { self.new.count ≡ counted (is_err result) self.old.count }
         ensures same { self.new.fails ≡ self.old.fails }
     {
         self.calls = self.calls.saturating_add(1);
@@ -93,6 +93,34 @@ impl Source for MemSource {
         let front = &self.bytes.as_slice()[..n];
         buf[..n].copy_from_slice(front);
         remove_front(&mut self.bytes, n);
+        Ok(n)
+    }
+}
+
+/// Lent bytes. No call fails.
+#[derive(Drop)]
+pub struct SureSource<'a> {
+    /// The bytes left.
+    pub bytes: &'a [u8],
+}
+
+impl<'a> Source for SureSource<'a> {
+    ghost left = { λ s. Some s.bytes.now };
+
+    ghost faults = { λ s. none_ever };
+
+    fn read(&mut self, buf: &mut [u8]) -> Result<usize, Failed>
+        ensures bound { ReadsAtMost result buf.new }
+        ensures bytes { ReadConsumes (Some self.old.bytes.now) (Some self.new.bytes.now) result buf.new }
+        ensures cause { HasCause none_ever none_ever result }
+
+        // It gives as much as there is.
+        ensures whole { result ≡ Ok (min (length buf.old) (length self.old.bytes.now)) }
+    {
+        let bytes = self.bytes;
+        let n = buf.len().min(bytes.len());
+        buf[..n].copy_from_slice(&bytes[..n]);
+        self.bytes = &bytes[n..];
         Ok(n)
     }
 }
@@ -118,7 +146,14 @@ impl<R: Read> Source for ReadSource<R> {
 
     ghost faults = { λ s. s.count };
 
-    fn read(&mut self, buf: &mut [u8]) -> Result<usize, Failed> {
+    fn read(&mut self, buf: &mut [u8]) -> Result<usize, Failed>
+        ensures bound { ReadsAtMost result buf.new }
+        ensures bytes { ReadConsumes (R.remaining self.old.reader) (R.remaining self.new.reader) result buf.new }
+        ensures cause { HasCause self.old.count self.new.count result }
+
+        // Faults alone are counted.
+        ensures count { self.new.count ≡ counted (is_err result) self.old.count }
+    {
         match self.reader.read(buf) {
             Ok(n) => Ok(n),
             Err(_) => {
