@@ -9,7 +9,7 @@ use std::alloc::{AllocFailed, Global};
 use view_types::object::Object;
 
 /// What a call changed.
-#[derive(Debug, Drop)]
+#[derive(Drop)]
 pub struct Change {
     /// The objects that were replaced or removed, in the order of their keys.
     pub old: List<Object>,

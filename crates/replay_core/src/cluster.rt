@@ -14,7 +14,7 @@ use view_types::query::Query;
 use watch_events::event::Event;
 
 /// A live subscription.
-#[derive(Debug, Drop)]
+#[derive(Drop)]
 pub struct Subscription {
     pub id: SubId,
     pub query: Query,

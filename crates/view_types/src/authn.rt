@@ -10,14 +10,14 @@ use net_cidr::block::Block;
 use std::alloc::Global;
 
 /// Which Servers a ServerAuthorization is for.
-#[derive(Debug, Drop)]
+#[derive(Drop)]
 pub enum ServerRef {
     Named(Text),
     Chosen(Selector),
 }
 
 /// An identity as an object writes it.
-#[derive(Debug, Drop)]
+#[derive(Drop)]
 pub enum IdSpec {
     /// An identity, `*`, or `*` and a suffix.
     Written(Text),
@@ -28,7 +28,7 @@ pub enum IdSpec {
 }
 
 /// Whom a ServerAuthorization admits.
-#[derive(Debug, Drop)]
+#[derive(Drop)]
 pub enum AuthnSpec {
     Anyone,
     AnyTls,
@@ -36,7 +36,7 @@ pub enum AuthnSpec {
 }
 
 /// A ServerAuthorization, policy.linkerd.io/v1beta1.
-#[derive(Debug, Drop)]
+#[derive(Drop)]
 pub struct ServerAuthz {
     pub meta: Meta,
     pub server: ServerRef,
@@ -45,7 +45,7 @@ pub struct ServerAuthz {
 }
 
 /// What a reference refers to.
-#[derive(Clone, Copy, Debug, PartialEq, Eq, PartialOrd, Ord)]
+#[derive(Clone, Copy, PartialEq, Eq, PartialOrd, Ord)]
 pub enum RefKind {
     Server,
     LinkerdRoute,
@@ -58,7 +58,7 @@ pub enum RefKind {
 }
 
 /// A reference to another object. Without a namespace it means the object's own.
-#[derive(Debug, Drop)]
+#[derive(Drop)]
 pub struct Ref {
     pub kind: RefKind,
     pub ns: Option<Text>,
@@ -66,7 +66,7 @@ pub struct Ref {
 }
 
 /// An AuthorizationPolicy, policy.linkerd.io/v1alpha1.
-#[derive(Debug, Drop)]
+#[derive(Drop)]
 pub struct AuthzPolicy {
     pub meta: Meta,
     pub target: Ref,
@@ -74,14 +74,14 @@ pub struct AuthzPolicy {
 }
 
 /// A MeshTLSAuthentication, policy.linkerd.io/v1alpha1.
-#[derive(Debug, Drop)]
+#[derive(Drop)]
 pub struct MeshAuthn {
     pub meta: Meta,
     pub ids: List<IdSpec>,
 }
 
 /// A NetworkAuthentication, policy.linkerd.io/v1alpha1.
-#[derive(Debug, Drop)]
+#[derive(Drop)]
 pub struct NetAuthn {
     pub meta: Meta,
     pub blocks: List<Block>,

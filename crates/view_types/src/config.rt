@@ -11,7 +11,7 @@ use net_cidr::net::Net;
 use std::alloc::Global;
 
 /// What is configured for a run.
-#[derive(Debug, Drop)]
+#[derive(Drop)]
 pub struct Config {
     pub cluster_domain: Text,
     pub trust_domain: Text,

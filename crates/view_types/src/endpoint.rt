@@ -10,7 +10,7 @@ use net_cidr::ip::Ip;
 use std::alloc::Global;
 
 /// An endpoint of a Service.
-#[derive(Debug, Drop)]
+#[derive(Drop)]
 pub struct EndpointRow {
     pub ip: Ip,
     pub port: u16,
@@ -25,7 +25,7 @@ pub struct EndpointRow {
 }
 
 /// The endpoints of a Service, by address and port, each pair once. With rows the Service exists.
-#[derive(Debug, Drop)]
+#[derive(Drop)]
 pub struct EndpointView {
     pub exists: bool,
     pub rows: List<EndpointRow>,

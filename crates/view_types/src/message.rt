@@ -1,14 +1,13 @@
-ghost use Rattle.std.specs.Prelude.{◌≡◌, ◌↔◌, IfOk, IsTrue};
+ghost use Rattle.std.specs.Prelude.{◌≡◌, IfOk};
 
 use crate::endpoint::EndpointRow;
 use mesh_base::copied::Copied;
 use mesh_base::list::List;
 use mesh_base::memory::Memory;
-use mesh_base::same::Same;
 use std::alloc::Global;
 
 /// What is sent to a subscriber.
-#[derive(Debug, Drop)]
+#[derive(Drop)]
 pub enum Message {
     /// Endpoints that are new or have changed.
     Add(List<EndpointRow>),
@@ -21,16 +20,6 @@ impl Copied for Message {
         match self {
             Message::Add(list) => Ok(Message::Add(list.copy(alloc)?)),
             Message::NoEndpoints(exists) => Ok(Message::NoEndpoints(*exists)),
-        }
-    }
-}
-
-impl Same for Message {
-    fn is_same(&self, other: &Message) -> bool {
-        match (self, other) {
-            (Message::Add(mine), Message::Add(others)) => mine.is_same(others),
-            (Message::NoEndpoints(mine), Message::NoEndpoints(others)) => mine.is_same(others),
-            _ => false,
         }
     }
 }

@@ -18,7 +18,7 @@ use std::alloc::Global;
 use std::cmp::Ordering;
 
 /// An object of the cluster. What it holds stands behind a pointer, so that a list of objects moves little.
-#[derive(Debug, Drop)]
+#[derive(Drop)]
 pub enum Object {
     Pod(Boxed<Pod>),
     Service(Boxed<Service>),

@@ -11,7 +11,7 @@ use mesh_base::text::Text;
 use std::alloc::Global;
 
 /// The profile of a target.
-#[derive(Debug, Drop)]
+#[derive(Drop)]
 pub struct ProfileView {
     /// The full name of the Service, or empty.
     pub fqn: Text,
@@ -22,7 +22,7 @@ pub struct ProfileView {
 }
 
 /// The outbound view of a target.
-#[derive(Debug, Drop)]
+#[derive(Drop)]
 pub enum OutboundView {
     Absent,
     Forward {

@@ -10,7 +10,7 @@ use net_cidr::ip::Ip;
 use std::alloc::Global;
 
 /// A Pod, v1.
-#[derive(Debug, Drop)]
+#[derive(Drop)]
 pub struct Pod {
     pub meta: Meta,
     /// The name of its service account.

@@ -3,7 +3,7 @@ ghost use Rattle.std.specs.Prelude.{◌≡◌, ◌↔◌, IsTrue};
 use mesh_base::same::Same;
 
 /// What a server admits where no authorization decides.
-#[derive(Clone, Copy, Debug, PartialEq, Eq)]
+#[derive(Clone, Copy, PartialEq, Eq)]
 pub enum Policy {
     AllUnauthenticated,
     AllAuthenticated,
@@ -14,7 +14,7 @@ pub enum Policy {
 }
 
 /// The protocol of a server.
-#[derive(Clone, Copy, Debug, PartialEq, Eq)]
+#[derive(Clone, Copy, PartialEq, Eq)]
 pub enum Protocol {
     Unknown,
     Http1,

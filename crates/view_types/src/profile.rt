@@ -10,7 +10,7 @@ use mesh_base::text::Text;
 use std::alloc::Global;
 
 /// Which requests a route of a profile is for.
-#[derive(Debug, Drop)]
+#[derive(Drop)]
 pub enum ReqMatch {
     Method(Text),
     /// A regular expression.
@@ -21,7 +21,7 @@ pub enum ReqMatch {
 }
 
 /// Which responses a class of a profile is for.
-#[derive(Debug, Drop)]
+#[derive(Drop)]
 pub enum RespMatch {
     /// The least and the greatest status code.
     Status(u16, u16),
@@ -31,14 +31,14 @@ pub enum RespMatch {
 }
 
 /// A class of responses.
-#[derive(Debug, Drop)]
+#[derive(Drop)]
 pub struct RespClass {
     pub condition: RespMatch,
     pub failure: bool,
 }
 
 /// A route of a profile.
-#[derive(Debug, Drop)]
+#[derive(Drop)]
 pub struct ProfileRoute {
     pub name: Text,
     pub condition: ReqMatch,
@@ -49,7 +49,7 @@ pub struct ProfileRoute {
 }
 
 /// Where traffic goes in place of the Service.
-#[derive(Debug, Drop)]
+#[derive(Drop)]
 pub struct Override {
     pub authority: Text,
     /// In thousandths.
@@ -57,7 +57,7 @@ pub struct Override {
 }
 
 /// A ServiceProfile, linkerd.io/v1alpha2.
-#[derive(Debug, Drop)]
+#[derive(Drop)]
 pub struct Profile {
     pub meta: Meta,
     pub routes: List<ProfileRoute>,

@@ -7,7 +7,7 @@ use net_cidr::ip::Ip;
 use std::alloc::Global;
 
 /// What a proxy may subscribe to.
-#[derive(Clone, Copy, Debug, PartialEq, Eq)]
+#[derive(Clone, Copy, PartialEq, Eq)]
 pub enum Method {
     Get,
     GetProfile,
@@ -16,21 +16,21 @@ pub enum Method {
 }
 
 /// Where traffic is to go. A port is from 1 to 65535.
-#[derive(Debug, Drop)]
+#[derive(Drop)]
 pub enum Target {
     Service { ns: Text, name: Text, port: u16 },
     Address { ip: Ip, port: u16 },
 }
 
 /// What a client says of itself.
-#[derive(Debug, Drop)]
+#[derive(Drop)]
 pub struct Context {
     pub ns: Option<Text>,
     pub node: Option<Text>,
 }
 
 /// What a subscription asks for.
-#[derive(Debug, Drop)]
+#[derive(Drop)]
 pub enum Query {
     Get {
         ns: Text,

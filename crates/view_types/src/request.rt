@@ -8,7 +8,7 @@ use net_cidr::ip::Ip;
 use std::alloc::Global;
 
 /// How a client is known.
-#[derive(Debug, Drop)]
+#[derive(Drop)]
 pub enum ClientTls {
     Plain,
     Anonymous,
@@ -17,7 +17,7 @@ pub enum ClientTls {
 }
 
 /// The HTTP part of a simulated request.
-#[derive(Debug, Drop)]
+#[derive(Drop)]
 pub struct HttpRequest {
     pub method: Text,
     pub path: Text,
@@ -27,7 +27,7 @@ pub struct HttpRequest {
 }
 
 /// A simulated request to a port of a Pod.
-#[derive(Debug, Drop)]
+#[derive(Drop)]
 pub struct Request {
     pub ns: Text,
     pub pod: Text,

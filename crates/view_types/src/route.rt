@@ -10,14 +10,14 @@ use mesh_base::text::Text;
 use std::alloc::Global;
 
 /// What a route may be attached to.
-#[derive(Clone, Copy, Debug, PartialEq, Eq, PartialOrd, Ord)]
+#[derive(Clone, Copy, PartialEq, Eq, PartialOrd, Ord)]
 pub enum ParentKind {
     Server,
     Service,
 }
 
 /// What a route is attached to, in its own namespace.
-#[derive(Debug, Drop)]
+#[derive(Drop)]
 pub struct Parent {
     pub kind: ParentKind,
     pub name: Text,
@@ -25,7 +25,7 @@ pub struct Parent {
 }
 
 /// Which paths match.
-#[derive(Debug, Drop)]
+#[derive(Drop)]
 pub enum PathMatch {
     Exact(Text),
     Prefix(Text),
@@ -33,7 +33,7 @@ pub enum PathMatch {
 }
 
 /// Which header or query part matches.
-#[derive(Debug, Drop)]
+#[derive(Drop)]
 pub struct NameMatch {
     pub name: Text,
     pub value: Text,
@@ -42,7 +42,7 @@ pub struct NameMatch {
 }
 
 /// Which requests match. All parts have to.
-#[derive(Debug, Drop)]
+#[derive(Drop)]
 pub struct HttpMatch {
     pub path: PathMatch,
     pub headers: List<NameMatch>,
@@ -51,7 +51,7 @@ pub struct HttpMatch {
 }
 
 /// What is done to a request. It is carried, and not acted on.
-#[derive(Debug, Drop)]
+#[derive(Drop)]
 pub enum Filter {
     Headers {
         add: List<(Text, Text)>,
@@ -67,7 +67,7 @@ pub enum Filter {
 }
 
 /// Where requests go.
-#[derive(Debug, Drop)]
+#[derive(Drop)]
 pub struct BackendRef {
     /// It refers to a Service.
     pub service: bool,
@@ -79,7 +79,7 @@ pub struct BackendRef {
 }
 
 /// A rule of a route. Its matches are alternatives.
-#[derive(Debug, Drop)]
+#[derive(Drop)]
 pub struct Rule {
     pub matches: List<HttpMatch>,
     pub filters: List<Filter>,
@@ -91,7 +91,7 @@ pub struct Rule {
 }
 
 /// An HTTPRoute, of policy.linkerd.io or of gateway.networking.k8s.io.
-#[derive(Debug, Drop)]
+#[derive(Drop)]
 pub struct Route {
     /// One of the two kinds of routes.
     pub kind: Kind,

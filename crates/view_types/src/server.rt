@@ -9,14 +9,14 @@ use mesh_base::text::Text;
 use std::alloc::Global;
 
 /// A port by its number, or by the name of a container's port.
-#[derive(Debug, Drop)]
+#[derive(Drop)]
 pub enum PortRef {
     Number(u16),
     Named(Text),
 }
 
 /// A Server, policy.linkerd.io/v1beta3.
-#[derive(Debug, Drop)]
+#[derive(Drop)]
 pub struct ServerSpec {
     pub meta: Meta,
     /// None selects no Pod.

@@ -12,14 +12,14 @@ use net_cidr::block::Block;
 use std::alloc::Global;
 
 /// The kind of an authorization.
-#[derive(Clone, Copy, Debug, PartialEq, Eq)]
+#[derive(Clone, Copy, PartialEq, Eq)]
 pub enum AuthzKind {
     ServerAuthorization,
     AuthorizationPolicy,
 }
 
 /// Whom an authorization admits.
-#[derive(Debug, Drop)]
+#[derive(Drop)]
 pub enum Authn {
     Anyone,
     AnyTls,
@@ -32,7 +32,7 @@ pub enum Authn {
 }
 
 /// An authorization in a view.
-#[derive(Debug, Drop)]
+#[derive(Drop)]
 pub struct AuthzRow {
     pub kind: AuthzKind,
     pub name: Text,
@@ -41,7 +41,7 @@ pub struct AuthzRow {
 }
 
 /// A backend in a view.
-#[derive(Debug, Drop)]
+#[derive(Drop)]
 pub struct BackendRow {
     pub ns: Text,
     pub name: Text,
@@ -52,7 +52,7 @@ pub struct BackendRow {
 }
 
 /// A rule in a view.
-#[derive(Debug, Drop)]
+#[derive(Drop)]
 pub struct RuleRow {
     pub matches: List<HttpMatch>,
     pub filters: List<Filter>,
@@ -64,7 +64,7 @@ pub struct RuleRow {
 }
 
 /// A route in a view.
-#[derive(Debug, Drop)]
+#[derive(Drop)]
 pub struct RouteRow {
     pub kind: Kind,
     pub name: Text,
@@ -75,7 +75,7 @@ pub struct RouteRow {
 }
 
 /// What holds for a port of a Pod.
-#[derive(Debug, Drop)]
+#[derive(Drop)]
 pub struct ServerRow {
     pub protocol: Protocol,
     pub policy: Policy,
@@ -86,7 +86,7 @@ pub struct ServerRow {
 }
 
 /// The inbound view of a port of a Pod.
-#[derive(Debug, Drop)]
+#[derive(Drop)]
 pub enum ServerView {
     Absent,
     Present(ServerRow),

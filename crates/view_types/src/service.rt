@@ -9,7 +9,7 @@ use net_cidr::ip::Ip;
 use std::alloc::Global;
 
 /// A port with a name, of a Service, an EndpointSlice or a container.
-#[derive(Debug, Drop)]
+#[derive(Drop)]
 pub struct NamedPort {
     /// Empty where the port has none.
     pub name: Text,
@@ -20,7 +20,7 @@ pub struct NamedPort {
 }
 
 /// A Service, v1.
-#[derive(Debug, Drop)]
+#[derive(Drop)]
 pub struct Service {
     pub meta: Meta,
     /// The type is ExternalName.

@@ -10,7 +10,7 @@ use net_cidr::ip::Ip;
 use std::alloc::Global;
 
 /// What the addresses of an EndpointSlice are.
-#[derive(Clone, Copy, Debug, PartialEq, Eq)]
+#[derive(Clone, Copy, PartialEq, Eq)]
 pub enum Family {
     V4,
     V6,
@@ -18,7 +18,7 @@ pub enum Family {
 }
 
 /// An endpoint of an EndpointSlice.
-#[derive(Debug, Drop)]
+#[derive(Drop)]
 pub struct Point {
     /// Empty for host names.
     pub addrs: List<Ip>,
@@ -28,7 +28,7 @@ pub struct Point {
 }
 
 /// An EndpointSlice, discovery.k8s.io/v1.
-#[derive(Debug, Drop)]
+#[derive(Drop)]
 pub struct Slice {
     pub meta: Meta,
     pub family: Family,

@@ -9,7 +9,7 @@ use mesh_base::same::Same;
 use std::alloc::Global;
 
 /// What a query shows of the objects held.
-#[derive(Debug, Drop)]
+#[derive(Drop)]
 pub enum View {
     Endpoints(EndpointView),
     Profile(ProfileView),

@@ -3,7 +3,7 @@ use mesh_base::list::List;
 use view_types::object::Object;
 
 /// What a watch event or a list says.
-#[derive(Debug, Drop)]
+#[derive(Drop)]
 pub enum Event {
     /// The object is held from now on.
     Set(Object),

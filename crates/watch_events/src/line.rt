@@ -9,7 +9,7 @@ use mesh_base::text::Text;
 use view_types::query::Query;
 
 /// What a line says.
-#[derive(Debug, Drop)]
+#[derive(Drop)]
 pub enum Line {
     /// Spaces, tabs and carriage returns alone, or nothing.
     Blank,
