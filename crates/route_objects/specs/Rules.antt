@@ -4,7 +4,7 @@ use Rattle.k8s_meta.specs.Amounts.{duration}
 use Rattle.k8s_meta.specs.Lists.{each, each_some}
 use Rattle.k8s_meta.specs.Scalars.{name, namespace, number}
 use Rattle.k8s_meta.specs.Spots.{Spot, ◌·◌, ◌>>=◌}
-use Rattle.k8s_meta.specs.Words.{choice, default, object, optional, part, required, required_if, text}
+use Rattle.k8s_meta.specs.Words.{choice, default, object, optional, part, required, some, text}
 use Rattle.k8s_meta.specs.declared.fault.ReadFault.{ReadFault}
 use Rattle.k8s_meta.specs.declared.key.Key.TheVariants as keys
 use Rattle.route_objects.specs.Filters.{filter_at}
@@ -77,7 +77,10 @@ some_match (m ∷ ms) = m ∷ ms
 abbrev pub is_service : List ℕ → List ℕ → Bool
 is_service group kind = bytes_eq kind (codes "Service") && is_core group
 
--- A Service has to have a port.
+-- the port, which a Service has to have
+unfoldable pub backend_port : Bool → Spot → Result (Option ℕ) ReadFault
+backend_port service s = if service then some (required (number 1 65535)) s else optional (number 1 65535) s
+
 unfoldable pub backend_at : List ℕ → Spot → Result BackendRef ReadFault
 backend_at own b = do
   b ← object b
@@ -85,7 +88,7 @@ backend_at own b = do
   kind ← default (codes "Service") text (b · keys.Kind)
   name ← required name (b · keys.Name)
   ns ← default own namespace (b · keys.Namespace)
-  port ← required_if (is_service group kind) 0 (number 1 65535) (b · keys.Port)
+  port ← backend_port (is_service group kind) (b · keys.Port)
   weight ← default 1 (number 0 1000000) (b · keys.Weight)
   Ok (record { service = is_service group kind; ns = ns; name = name; port = port; weight = weight })
 

@@ -1,7 +1,7 @@
 ghost use Rattle.std.specs.Prelude.{◌≡◌, ◌∷◌, [], IfOk};
 ghost use Rattle.k8s_meta.specs.Spots.{◌·◌, Reads, seen};
 ghost use Rattle.k8s_meta.specs.declared.key.Key.TheVariants as keys;
-ghost use Rattle.route_objects.specs.Rules.{backend_at, default_match, default_rule, is_service, rule_at, rules_at, some_match};
+ghost use Rattle.route_objects.specs.Rules.{backend_at, backend_port, default_match, default_rule, is_service, rule_at, rules_at, some_match};
 
 use crate::filter::RuleFilter;
 use crate::matches::RuleMatch;
@@ -113,7 +113,7 @@ impl<'b> Reader for Backend<'b> {
         let name = place.required(Key::Name, &Name)?;
         let ns = place.text_or(Key::Namespace, &Namespace, self.own)?;
         let service = is_service(group, kind);
-        let port = place.required_if(service, Key::Port, &PORT, 0)?;
+        let port = port_of(place, service)?;
         let weight = place.default(Key::Weight, &WEIGHT, 1)?;
         Ok(BackendRef {
             service,
@@ -123,6 +123,18 @@ impl<'b> Reader for Backend<'b> {
             weight,
         })
     }
+}
+
+/// The port, which a Service has to have.
+#[tactic(auto, unfolding(crate::specs::Rules::backend_port))]
+fn port_of<'a>(place: &'a Place<'a>, service: bool) -> Result<Option<u16>, ReadFault>
+    ensures { Reads result (backend_port service ((seen place.now) · keys.Port)) }
+{
+    if service {
+        let port = place.required(Key::Port, &PORT)?;
+        return Ok(Some(port));
+    }
+    place.optional(Key::Port, &PORT)
 }
 
 fn is_service(group: &str, kind: &str) -> bool

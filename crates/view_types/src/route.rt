@@ -73,8 +73,7 @@ pub struct BackendRef {
     pub service: bool,
     pub ns: Text,
     pub name: Text,
-    /// 0 where it has none.
-    pub port: u16,
+    pub port: Option<u16>,
     pub weight: u32,
 }
 
