@@ -8,8 +8,7 @@ use Rattle.mesh_base.specs.KeyOrder.{key_cmp}
 use Rattle.mesh_base.specs.Keyed.{keyed, IsKeyed, keyed_map}
 use Rattle.mesh_base.proofs.KeyOrder.{keys_exact}
 use Rattle.view_types.specs.declared.object.Object.{Object}
-use Rattle.view_types.specs.Objects.{key_of}
-use Rattle.object_store.specs.Changes.{AtKeys}
+use Rattle.view_types.specs.Objects.{AtKeys, key_of}
 
 equal : (r : Ordering) → is_eq r ≡ true → r ≡ Equal
 equal Less e = cc

@@ -12,10 +12,6 @@ use Rattle.object_store.specs.declared.change.StoreFault.{StoreFault}
 use Rattle.object_store.specs.declared.change.StoreFault.TheVariants.{Memory, Full}
 use Rattle.object_store.specs.Held.{Held}
 
--- each object is held at its own key
-abbrev pub AtKeys : ObjectMap → Type 0
-AtKeys m = (k : ObjKey) (o : Object) → get m k ≡ Some o → key_of o ≡ k
-
 -- the key is new, and as many objects are held as may be
 abbrev pub lacks_room : ObjectMap → ℕ → ObjKey → Bool
 lacks_room m limit k = not (contains_key m k) && (len m == limit)

@@ -5,9 +5,9 @@ ghost use Rattle.std.specs.FinMap as map;
 ghost use Rattle.mesh_base.specs.KeyOrder.{key_cmp};
 ghost use Rattle.mesh_base.specs.Keyed.{IsKeyed};
 ghost use Rattle.mesh_base.specs.Places.{IsHit, IsGap};
-ghost use Rattle.view_types.specs.Objects.{key_of, kind_of};
+ghost use Rattle.view_types.specs.Objects.{AtKeys, key_of, kind_of};
 ghost use Rattle.object_store.specs.Relisted.{exceeds, of_kind, relisted};
-ghost use Rattle.object_store.specs.Changes.{AtKeys, IsFull, lacks_room};
+ghost use Rattle.object_store.specs.Changes.{IsFull, lacks_room};
 
 use crate::change::StoreFault;
 use crate::kinds::{count_others, part};

@@ -1,9 +1,9 @@
 ghost use Rattle.std.specs.Prelude.{◌≡◌, ◌≤◌, ◌+◌, ◌-◌, ◌^◌, min, true, false, is_some, if◌then◌else◌, IsErr, IfSome, IfOk, IfErr, OnOk, OnErr, IsErrOf};
 ghost use Rattle.std.specs.Option.{option_copied};
 ghost use Rattle.std.specs.FinMap as map;
-ghost use Rattle.view_types.specs.Objects.{key_of, IsListOf};
+ghost use Rattle.view_types.specs.Objects.{AtKeys, key_of, IsListOf};
 ghost use Rattle.object_store.specs.Relisted.{Relists, exceeds};
-ghost use Rattle.object_store.specs.Changes.{AtKeys, Puts, Takes, Refuses, IsFull, lacks_room};
+ghost use Rattle.object_store.specs.Changes.{Puts, Takes, Refuses, IsFull, lacks_room};
 
 use crate::change::{Change, StoreFault};
 use crate::objects::Objects;

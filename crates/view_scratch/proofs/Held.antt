@@ -17,12 +17,12 @@ use Rattle.mesh_base.specs.KeyOrder.{key_cmp}
 use Rattle.mesh_base.specs.declared.key.Kind.TheVariants as kind
 use Rattle.mesh_base.specs.declared.key.ObjKey.{ObjKey}
 use Rattle.view_types.specs.Endpoints.{service_among, service_in, slice_in, slices_among}
-use Rattle.view_types.specs.Objects.{key_of}
+use Rattle.view_types.specs.Objects.{AtKeys, key_of}
 use Rattle.view_types.specs.declared.object.Object.{Object}
 use Rattle.view_types.specs.declared.object.Object.TheVariants as object
 use Rattle.view_types.specs.declared.service.Service.{Service}
 use Rattle.view_types.specs.declared.slice.Slice.{Slice}
-use Rattle.view_scratch.specs.Laws.{AtKeys, ServiceIsHeld, SlicesByName}
+use Rattle.view_scratch.specs.Laws.{ServiceIsHeld, SlicesByName}
 use Rattle.view_scratch.proofs.Among.{Among, among_map, from_found, from_map}
 use Rattle.view_scratch.proofs.Given.{both_hold, if_so, slice_is}
 

@@ -9,7 +9,7 @@ use Rattle.mesh_base.specs.declared.key.Kind.TheVariants as kind
 use Rattle.mesh_base.specs.declared.key.ObjKey.{ObjKey}
 use Rattle.net_cidr.specs.declared.ip.Ip.{Ip}
 use Rattle.view_types.specs.Endpoints.{endpoints_among, first_rows, has_addresses, pair_cmp, pair_of, port_name, service_among, service_of, slices_among}
-use Rattle.view_types.specs.Objects.{key_of}
+use Rattle.view_types.specs.Objects.{AtKeys}
 use Rattle.view_types.specs.declared.endpoint.EndpointRow.{EndpointRow}
 use Rattle.view_types.specs.declared.object.Object.{Object}
 use Rattle.view_types.specs.declared.object.Object.TheVariants as object
@@ -56,10 +56,6 @@ pub record AreFirst (rows first : List EndpointRow) : Type 0 where
 
 abbrev pub FirstRowsAreFirst : Type 0
 FirstRowsAreFirst = (rows : List EndpointRow) → AreFirst rows (first_rows rows)
-
--- each object is held at its own key
-abbrev pub AtKeys : FinMap key_cmp Object → Type 0
-AtKeys held = (k : ObjKey) (o : Object) → get held k ≡ Some o → key_of o ≡ k
 
 -- the Service of a view is the one that is held
 abbrev pub ServiceIsHeld : Type 0

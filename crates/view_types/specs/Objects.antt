@@ -1,8 +1,8 @@
 -- What the objects of all kinds share.
-use Rattle.std.specs.Prelude.{◌≡◌, List, map}
+use Rattle.std.specs.Prelude.{◌≡◌, List, Some, map}
 use Rattle.std.specs.List.{All, IsDistinct}
 use Rattle.std.specs.Ordering.{eq_by_cmp}
-use Rattle.std.specs.FinMap.{FinMap}
+use Rattle.std.specs.FinMap.{FinMap, get}
 use Rattle.mesh_base.specs.KeyOrder.{key_cmp}
 use Rattle.mesh_base.specs.declared.key.Kind.{Kind}
 use Rattle.mesh_base.specs.declared.key.Kind.TheVariants as kind
@@ -44,6 +44,10 @@ key_of o = let meta = meta_of o in record { kind = kind_of o; ns = meta.ns; name
 -- objects by their keys
 abbrev pub ObjectMap : Type 0
 ObjectMap = FinMap key_cmp Object
+
+-- each object is held at its own key
+abbrev pub AtKeys : ObjectMap → Type 0
+AtKeys held = (k : ObjKey) (o : Object) → get held k ≡ Some o → key_of o ≡ k
 
 -- a list of objects of one kind, no two of them with one key
 pub record IsListOf (kind : Kind) (items : List Object) : Type 0 where
