@@ -9,6 +9,7 @@ use Rattle.std.proofs.lemmas.Bool.Decides.{eqb_tells}
 use Rattle.std.proofs.lemmas.List.{append-nil, length-append}
 use Rattle.std.proofs.lemmas.Nat.{div_below}
 use Rattle.std.proofs.Math.Nat.{mod-add-div}
+use Rattle.net_cidr.specs.Texts.{FitsIp}
 use Rattle.net_cidr.specs.declared.ip.Ip.{Ip}
 use Rattle.net_cidr.specs.declared.ip.Ip.TheVariants.{V4, V6}
 use Rattle.view_types.specs.declared.endpoint.EndpointRow.{EndpointRow}
@@ -19,7 +20,7 @@ use Rattle.proto_wire.specs.Wire.{scan_in, spelled, spelling}
 use Rattle.proto_wire.proofs.Spellings.{spelling-append}
 use Rattle.proxy_proto.specs.Messages.{chunk, number_field, fixed64_field, bool_field, text_field, optional_field, each_field, half_records, ip_records, address_records, label_records, identity_records, h2_field, hint_records, hint_field, row_records, message_records, canonical}
 use Rattle.proxy_proto.specs.Reading.{records_of, value_at, number_from, fixed64_from, chunk_from, inside, each_in, ip_in, label_in, some_text, identity_in, tunnel_in, row_in, message_in}
-use Rattle.proxy_proto.specs.Sendable.{IpFits, PortFits, IsSendableRow, IsSendable}
+use Rattle.proxy_proto.specs.Sendable.{PortFits, IsSendableRow, IsSendable}
 use Rattle.proxy_proto.proofs.Found.{IsSound, recorded, body_short, all_inside, sound_append, sound_number, sound_fixed64, sound_chunk, sound_optional, sound_each, skip, not_number, not_fixed64, not_optional, not_each, found_number, found_fixed64, only_number, only_fixed64, each_skip, each_back}
 
 nothing_read : records_of [] ≡ []
@@ -45,12 +46,12 @@ high_half n lt = div_below n (2 ^ 64) (2 ^ 64) (lit< tt) lt
 low_half : (n : ℕ) → n % 2 ^ 64 < 2 ^ 64
 low_half n = omega arith
 
-ip_sound : (ip : Ip) → IpFits ip → AllByRecursion IsSound (ip_records ip)
+ip_sound : (ip : Ip) → FitsIp ip → AllByRecursion IsSound (ip_records ip)
 unfolding ip_records
 ip_sound (V4 n) fits = (record { named = lit< tt; number = lit< tt; value = fits }, tt)
 ip_sound (V6 n) fits = (sound_chunk 2 (spelling (half_records (n / 2 ^ 64) (n % 2 ^ 64))) (lit< tt) (lit< tt), tt)
 
-ip_back : (ip : Ip) → IpFits ip → length (spelling (ip_records ip)) < 2 ^ 64 → ip_in (ip_records ip) ≡ ip
+ip_back : (ip : Ip) → FitsIp ip → length (spelling (ip_records ip)) < 2 ^ 64 → ip_in (ip_records ip) ≡ ip
 unfolding ip_records ip_in
 ip_back (V4 n) fits lt = refl
 ip_back (V6 n) fits lt =
@@ -67,7 +68,7 @@ address_sound : (ip : Ip) (port : ℕ) → port < 65536 → AllByRecursion IsSou
 unfolding address_records
 address_sound ip port lt = (sound_chunk 1 (spelling (ip_records ip)) (lit< tt) (lit< tt), sound_number 2 port (lit< tt) (lit< tt) (omega arith))
 
-address_ip : (ip : Ip) (port : ℕ) → IpFits ip → length (spelling (address_records ip port)) < 2 ^ 64 → ip_in (inside 1 (address_records ip port)) ≡ ip
+address_ip : (ip : Ip) (port : ℕ) → FitsIp ip → length (spelling (address_records ip port)) < 2 ^ 64 → ip_in (inside 1 (address_records ip port)) ≡ ip
 unfolding address_records
 address_ip ip port fits lt =
     let short = first_short 1 (spelling (ip_records ip)) (number_field 2 port) in

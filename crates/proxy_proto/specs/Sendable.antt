@@ -2,23 +2,18 @@
 -- bits.
 use Rattle.std.specs.Prelude.{ℕ, ◌<◌, ◌≢◌, ◌^◌, [], Option, Some, None, length}
 use Rattle.std.specs.List.{AllByRecursion}
-use Rattle.net_cidr.specs.declared.ip.Ip.{Ip}
-use Rattle.net_cidr.specs.declared.ip.Ip.TheVariants.{V4, V6}
+use Rattle.net_cidr.specs.Texts.{FitsIp}
 use Rattle.view_types.specs.declared.endpoint.EndpointRow.{EndpointRow}
 use Rattle.view_types.specs.declared.message.Message.{Message}
 use Rattle.proxy_proto.specs.Messages.{canonical}
 use Rattle.proxy_proto.specs.Plain.{rows_in}
-
-abbrev pub IpFits : Ip → Type 0
-IpFits (V4 n) = n < 2 ^ 32
-IpFits (V6 n) = n < 2 ^ 128
 
 abbrev pub PortFits : Option ℕ → Type 0
 PortFits None = Unit {0}
 PortFits (Some port) = port < 65536
 
 pub record IsSendableRow (row : EndpointRow) : Type 0 where
-  pub ip : IpFits row.ip
+  pub ip : FitsIp row.ip
   pub port : row.port < 65536
   pub weight : row.weight < 2 ^ 32
   pub tunnel : PortFits row.tunnel
