@@ -8,17 +8,13 @@
 #[cfg(test)]
 mod batches;
 #[cfg(test)]
-mod core_objects;
-#[cfg(test)]
 mod endpoints;
 #[cfg(test)]
 mod messages;
 #[cfg(test)]
-mod policies;
+mod rows;
 #[cfg(test)]
-mod profiles;
-#[cfg(test)]
-mod routes;
+mod show;
 #[cfg(test)]
 mod store;
 #[cfg(test)]

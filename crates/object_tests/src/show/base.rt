@@ -1,0 +1,169 @@
+use super::{Page, Show};
+use k8s_meta::fault::ReadFault;
+use k8s_meta::meta::Meta;
+use label_select::selector::{SelOp, SelRule, Selector};
+use mesh_base::key::{Kind, ObjKey};
+use mesh_base::labels::Labels;
+use mesh_base::text::Text;
+use net_cidr::block::Block;
+use net_cidr::ip::Ip;
+use net_cidr::net::Net;
+
+impl Show for bool {
+    fn show(&self, page: &mut Page) {
+        page.put(if *self { "true" } else { "false" });
+    }
+}
+
+impl Show for u8 {
+    fn show(&self, page: &mut Page) {
+        page.put_number(u64::from(*self));
+    }
+}
+
+impl Show for u16 {
+    fn show(&self, page: &mut Page) {
+        page.put_number(u64::from(*self));
+    }
+}
+
+impl Show for u32 {
+    fn show(&self, page: &mut Page) {
+        page.put_number(u64::from(*self));
+    }
+}
+
+impl Show for u64 {
+    fn show(&self, page: &mut Page) {
+        page.put_number(*self);
+    }
+}
+
+impl Show for Text {
+    fn show(&self, page: &mut Page) {
+        page.put("\"");
+        page.put(self.as_str());
+        page.put("\"");
+    }
+}
+
+impl Show for Labels {
+    fn show(&self, page: &mut Page) {
+        page.put("{");
+        for (i, (key, value)) in self.entries().iter().enumerate() {
+            if i > 0 {
+                page.put(",");
+            }
+            key.show(page);
+            page.put(":");
+            value.show(page);
+        }
+        page.put("}");
+    }
+}
+
+/// Dotted, or 32 hexadecimal digits.
+impl Show for Ip {
+    fn show(&self, page: &mut Page) {
+        match self {
+            Ip::V4(number) => {
+                let [a, b, c, d] = number.to_be_bytes();
+                a.show(page);
+                page.put(".");
+                b.show(page);
+                page.put(".");
+                c.show(page);
+                page.put(".");
+                d.show(page);
+            }
+            Ip::V6(number) => {
+                page.put_hex((*number >> 64) as u64);
+                page.put_hex((*number % (1 << 64)) as u64);
+            }
+        }
+    }
+}
+
+impl Show for Net {
+    fn show(&self, page: &mut Page) {
+        self.base.show(page);
+        page.put("/");
+        self.bits.show(page);
+    }
+}
+
+impl Show for Block {
+    fn show(&self, page: &mut Page) {
+        page.first("net", &self.net);
+        page.last("except", &self.except);
+    }
+}
+
+impl Show for SelOp {
+    fn show(&self, page: &mut Page) {
+        page.put(match self {
+            SelOp::OneOf => "OneOf",
+            SelOp::NoneOf => "NoneOf",
+            SelOp::Present => "Present",
+            SelOp::Lacking => "Lacking",
+        });
+    }
+}
+
+impl Show for SelRule {
+    fn show(&self, page: &mut Page) {
+        page.first("key", &self.key);
+        page.next("op", &self.op);
+        page.last("values", &self.values);
+    }
+}
+
+impl Show for Selector {
+    fn show(&self, page: &mut Page) {
+        page.first("exact", &self.exact);
+        page.last("rules", &self.rules);
+    }
+}
+
+impl Show for Kind {
+    fn show(&self, page: &mut Page) {
+        page.put(match self {
+            Kind::Pod => "Pod",
+            Kind::Service => "Service",
+            Kind::EndpointSlice => "EndpointSlice",
+            Kind::ServiceProfile => "ServiceProfile",
+            Kind::Server => "Server",
+            Kind::ServerAuthorization => "ServerAuthorization",
+            Kind::AuthorizationPolicy => "AuthorizationPolicy",
+            Kind::MeshTLSAuthentication => "MeshTLSAuthentication",
+            Kind::NetworkAuthentication => "NetworkAuthentication",
+            Kind::LinkerdRoute => "LinkerdRoute",
+            Kind::GatewayRoute => "GatewayRoute",
+        });
+    }
+}
+
+impl Show for ObjKey {
+    fn show(&self, page: &mut Page) {
+        page.first("kind", &self.kind);
+        page.next("ns", &self.ns);
+        page.last("name", &self.name);
+    }
+}
+
+impl Show for Meta {
+    fn show(&self, page: &mut Page) {
+        page.first("ns", &self.ns);
+        page.next("name", &self.name);
+        page.next("labels", &self.labels);
+        page.next("notes", &self.notes);
+        page.last("created", &self.created);
+    }
+}
+
+/// As it is printed. One for want of memory has no text.
+impl Show for ReadFault {
+    fn show(&self, page: &mut Page) {
+        page.put_fault(self);
+    }
+}
