@@ -1,4 +1,4 @@
-"""Makes the lines of a feed as an API server writes them, for the measurements beside this file."""
+"""Makes the lines of a feed as an API server writes them, for the measurements in this folder."""
 import json
 
 

@@ -1,4 +1,4 @@
-"""Runs a program over a file and tells its processor time and peak memory."""
+"""Runs a program over a file and reports its processor time and peak memory."""
 import json
 import os
 import subprocess
@@ -39,7 +39,9 @@ def best(words, path, times=3):
 
 
 def table(title, path, keeps=False):
-    """Prints the program beside Python's json.loads over the same lines, and gives the ratio of their times."""
+    """Prints the program beside Python's json.loads over the same lines, and returns the ratio of their times."""
+    if not os.access(PROGRAM, os.X_OK):
+        sys.exit("there is no proved program: run tools/prove first")
     size = os.path.getsize(path) / 1e6
     ours = best([PROGRAM, "replay"], path)
     theirs = best([sys.executable, "-c", PYTHON if keeps else PYTHON_READ_ALONE], path)

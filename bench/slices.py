@@ -1,10 +1,10 @@
 #!/usr/bin/env python3
-"""99,900 EndpointSlice lines of about 1.2 KB as an API server writes them, through the program and through Python's
-json.loads. Needs the built program (./linkerd_cli builds it).
+"""Runs 99,900 EndpointSlice lines of about 1.2 KB, as an API server writes them, through the program and through Python's
+json.loads. Needs the proved program (tools/prove).
 
-The first table is a cluster's list as an API server sends it, in order of the keys. The second has as many events on a
-tenth of the slices: the memory falls with the objects held. The third has the first's lines in scattered order, where
-each new object moves those behind it in the sorted list. The fourth adds a hundred subscriptions to the second, each of
+The first table is the list of a cluster as an API server sends it, in order of the keys. The second has as many events
+on a tenth of the slices: the memory falls with the objects held. The third has the lines of the first in random order, in
+which each new object moves those after it in the sorted list. The fourth adds a hundred subscriptions to the second, each of
 which costs a pass over the objects held at the end of the input."""
 import os
 import random
@@ -36,7 +36,7 @@ def main():
     runs = (
         ("99,900 slices in order of their keys", by_key(range(LINES)), 1),
         ("99,900 events on 9,990 slices", by_key(held) * 10, 1),
-        ("99,900 slices in scattered order", random.sample(range(LINES), LINES), 1),
+        ("99,900 slices in random order", random.sample(range(LINES), LINES), 1),
         ("99,900 events on 9,990 slices, 100 subscriptions", by_key(held) * 10, 100),
     )
     with tempfile.TemporaryDirectory() as folder:

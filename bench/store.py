@@ -1,9 +1,10 @@
 #!/usr/bin/env python3
 """What the store costs, on EndpointSlices of about 1.2 KB as an API server writes them, beside Python's json.loads over
-the same lines with a dict. Needs the built program (./linkerd_cli builds it).
+the same lines with a dict. Needs the proved program (tools/prove).
 
-Objects set in scattered order of their keys (each new one moves those behind it in the sorted list), twice as many of
-them, one list line of all of them (sorted once), and events on objects that are held."""
+Objects set in random order of their keys (each new one moves those after it in the sorted list), twice as many of them, one
+list line of all of them (sorted once), a list line of nearly the greatest length, and events on objects that are held. The
+peak memory of a list line is about 14 times its length, because its JSON tree is."""
 import json
 import os
 import random
@@ -13,6 +14,7 @@ from feed import service_line, slice_line, subscribe_line
 from measure import table
 
 HELD = 20_000
+LONGEST = 55_000  # in one list line of at most 64 MiB
 EVENTS = 100_000
 
 
@@ -48,9 +50,10 @@ def main():
     random.seed(1)
     events = [random.randrange(HELD) for _ in range(EVENTS)]
     runs = (
-        ("20,000 objects set in scattered order", added(scattered(HELD))),
-        ("40,000 objects set in scattered order", added(scattered(2 * HELD))),
+        ("20,000 objects set in random order", added(scattered(HELD))),
+        ("40,000 objects set in random order", added(scattered(2 * HELD))),
         ("one list line of 20,000 objects", listed(scattered(HELD))),
+        ("one list line of 55,000 objects", listed(scattered(LONGEST))),
         ("20,000 objects, then 100,000 events on them", (line for part in (listed(range(HELD)), modified(events)) for line in part)),
     )
     with tempfile.TemporaryDirectory() as folder:
