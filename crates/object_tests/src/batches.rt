@@ -1,3 +1,4 @@
+use crate::told::is_shown;
 use mesh_base::labels::Labels;
 use mesh_base::limits::Limits;
 use mesh_base::list::List;
@@ -55,5 +56,21 @@ fn first_batches(rt: HostRuntime) -> Result<(), Memory> {
         let sizes_of_none = sizes(alloc, &none)?;
         assert_eq!(rt; sizes_of_none.as_slice(), [Err(exists)].as_slice());
     }
+    Ok(())
+}
+
+#[test]
+fn rows_of_a_batch(rt: HostRuntime) -> Result<(), Memory> {
+    let alloc = rt.alloc();
+    let limits = Limits {
+        frame_addrs: 2,
+        ..Limits::USUAL
+    };
+    let two = first_batch(alloc, &view(alloc, true, 3)?, &limits)?;
+    let expected =
+        "[Add([{ip:0.0.0.0,port:8080,weight:10000,labels:{},identity:-,tunnel:-,h2:false},
+        {ip:0.0.0.1,port:8080,weight:10000,labels:{},identity:-,tunnel:-,h2:false}]),
+        Add([{ip:0.0.0.2,port:8080,weight:10000,labels:{},identity:-,tunnel:-,h2:false}])]";
+    assert!(rt; is_shown(alloc, &two, expected));
     Ok(())
 }

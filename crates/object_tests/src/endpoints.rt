@@ -1,133 +1,84 @@
-use k8s_meta::meta::Meta;
-use mesh_base::boxed::Boxed;
-use mesh_base::labels::Labels;
+use crate::rows::object_of;
+use crate::told::is_shown;
 use mesh_base::list::List;
 use mesh_base::memory::Memory;
 use mesh_base::text::Text;
-use net_cidr::ip::Ip;
+use serde_json::Value;
 use std::alloc::Global;
 use view_scratch::endpoints::endpoints_among;
 use view_types::object::Object;
-use view_types::service::{NamedPort, Service};
-use view_types::slice::{Family, Point, Slice};
 
-const A: Ip = Ip::V4(0x0a01_0203);
+/// A port of the Service `web` of `app`, the objects in order of their keys, and the endpoints.
+const VIEWS: &str = r#"80
+Service {"metadata":{"name":"web","namespace":"app"},"spec":{"ports":[{"name":"http","port":80}]}}
+EndpointSlice {"metadata":{"name":"web-1","namespace":"app","labels":{"kubernetes.io/service-name":"web"}},"addressType":"IPv4","endpoints":[{"addresses":["10.1.2.3"]},{"addresses":["10.1.2.4"]}],"ports":[{"name":"http","port":8080}]}
+EndpointSlice {"metadata":{"name":"web-2","namespace":"app","labels":{"kubernetes.io/service-name":"web"}},"addressType":"IPv4","endpoints":[{"addresses":["10.1.2.4"]},{"addresses":["10.1.2.4"]}],"ports":[{"name":"http","port":8080}]}
+    => {exists:true,rows:[
+    {ip:10.1.2.3,port:8080,weight:10000,labels:{},identity:-,tunnel:-,h2:false},
+    {ip:10.1.2.4,port:8080,weight:10000,labels:{},identity:-,tunnel:-,h2:false}]}
 
-const B: Ip = Ip::V4(0x0a01_0204);
+80
+Service {"metadata":{"name":"web","namespace":"app"},"spec":{"ports":[{"name":"http","port":80}]}}
+EndpointSlice {"metadata":{"name":"web-1","namespace":"app","labels":{"kubernetes.io/service-name":"web"}},"addressType":"IPv4","endpoints":[{"addresses":["10.1.2.4"]},{"addresses":["10.1.2.4"]}],"ports":[{"name":"http","port":8080}]}
+EndpointSlice {"metadata":{"name":"web-2","namespace":"app","labels":{"kubernetes.io/service-name":"web"}},"addressType":"IPv4","endpoints":[{"addresses":["10.1.2.4"]},{"addresses":["10.1.2.3"]}],"ports":[{"name":"http","port":8080}]}
+    => {exists:true,rows:[
+    {ip:10.1.2.3,port:8080,weight:10000,labels:{},identity:-,tunnel:-,h2:false},
+    {ip:10.1.2.4,port:8080,weight:10000,labels:{},identity:-,tunnel:-,h2:false}]}
 
-fn meta(alloc: Global, name: &str) -> Result<Meta, Memory> {
-    let mut labels = Labels::new(alloc);
-    labels.put(
-        Text::from_str(alloc, "kubernetes.io/service-name")?,
-        Text::from_str(alloc, "web")?,
-    )?;
-    Ok(Meta {
-        ns: Text::from_str(alloc, "app")?,
-        name: Text::from_str(alloc, name)?,
-        labels,
-        notes: Labels::new(alloc),
-        created: None,
-    })
+53
+Service {"metadata":{"name":"web","namespace":"app"},"spec":{"ports":[{"name":"dns","port":53,"protocol":"UDP"},{"name":"dns-tcp","port":53}]}}
+EndpointSlice {"metadata":{"name":"web-1","namespace":"app","labels":{"kubernetes.io/service-name":"web"}},"addressType":"IPv4","endpoints":[{"addresses":["10.1.2.4"]},{"addresses":["10.1.2.3"],"conditions":{"ready":false}}],"ports":[{"name":"dns-tcp","port":5354},{"name":"dns","port":5300},{"name":"dns-tcp","port":5353},{"name":"dns-tcp","port":5355,"protocol":"UDP"}]}
+    => {exists:true,rows:[
+    {ip:10.1.2.4,port:5353,weight:10000,labels:{},identity:-,tunnel:-,h2:false},
+    {ip:10.1.2.4,port:5354,weight:10000,labels:{},identity:-,tunnel:-,h2:false}]}
+
+80
+Service {"metadata":{"name":"web","namespace":"app"},"spec":{"ports":[{"name":"dns","port":53,"protocol":"UDP"},{"name":"dns-tcp","port":53}]}}
+EndpointSlice {"metadata":{"name":"web-1","namespace":"app","labels":{"kubernetes.io/service-name":"web"}},"addressType":"IPv4","endpoints":[{"addresses":["10.1.2.4"]}],"ports":[{"name":"dns-tcp","port":5354}]}
+    => {exists:true,rows:[]}
+
+80
+Service {"metadata":{"name":"web","namespace":"other"},"spec":{"ports":[{"name":"http","port":80}]}}
+EndpointSlice {"metadata":{"name":"web-1","namespace":"app","labels":{"kubernetes.io/service-name":"web"}},"addressType":"IPv4","endpoints":[{"addresses":["10.1.2.4"]}],"ports":[{"name":"http","port":8080}]}
+    => {exists:false,rows:[]}"#;
+
+/// The object of a line, if it reads.
+fn object_in(alloc: Global, line: &str) -> Option<Object> {
+    let (kind, text) = line.split_once(' ')?;
+    let value = Value::from_str(alloc, text).ok()?;
+    object_of(alloc, kind, &value)?.ok()
 }
 
-fn ports(alloc: Global, entries: &[(&str, u16, bool)]) -> Result<List<NamedPort>, Memory> {
-    let mut ports = List::new(alloc);
-    for (name, port, tcp) in entries {
-        ports.add(NamedPort {
-            name: Text::from_str(alloc, name)?,
-            port: *port,
-            tcp: *tcp,
-        })?;
+/// The objects of all lines, if each reads.
+fn objects_in(alloc: Global, lines: &str) -> Option<List<Object>> {
+    let mut objects = List::new(alloc);
+    for line in lines.split('\n') {
+        objects.add(object_in(alloc, line)?).ok()?;
     }
-    Ok(ports)
+    Some(objects)
 }
 
-fn service(alloc: Global, entries: &[(&str, u16, bool)]) -> Result<Object, Memory> {
-    let service = Service {
-        meta: meta(alloc, "web")?,
-        external: false,
-        addrs: List::new(alloc),
-        ports: ports(alloc, entries)?,
+/// Whether a row is told as it says. One that doesn't split or read isn't.
+fn is_so(alloc: Global, row: &str) -> Result<bool, Memory> {
+    let Some((given, expected)) = row.split_once("\n    => ") else {
+        return Ok(false);
     };
-    Ok(Object::Service(Boxed::new(alloc, service)?))
-}
-
-/// A slice with a point for each address.
-fn slice(
-    alloc: Global,
-    name: &str,
-    addresses: &[(Ip, bool)],
-    entries: &[(&str, u16, bool)],
-) -> Result<Object, Memory> {
-    let mut points = List::new(alloc);
-    for (ip, ready) in addresses {
-        let mut addrs = List::new(alloc);
-        addrs.add(*ip)?;
-        points.add(Point {
-            addrs,
-            ready: *ready,
-            pod: None,
-        })?;
-    }
-    let slice = Slice {
-        meta: meta(alloc, name)?,
-        family: Family::V4,
-        points,
-        ports: ports(alloc, entries)?,
+    let Some((port, lines)) = given.split_once('\n') else {
+        return Ok(false);
     };
-    Ok(Object::EndpointSlice(Boxed::new(alloc, slice)?))
-}
-
-fn pairs(alloc: Global, objects: &[Object], port: u16) -> Result<Vec<(Ip, u16)>, Memory> {
+    let (Ok(port), Some(objects)) = (port.parse::<u16>(), objects_in(alloc, lines)) else {
+        return Ok(false);
+    };
     let ns = Text::from_str(alloc, "app")?;
     let name = Text::from_str(alloc, "web")?;
-    let view = endpoints_among(alloc, objects, &ns, &name, port)?;
-    let mut pairs = Vec::new(alloc);
-    for row in view.rows.as_slice() {
-        pairs.push((row.ip, row.port))?;
-    }
-    Ok(pairs)
+    let view = endpoints_among(alloc, objects.as_slice(), &ns, &name, port)?;
+    Ok(is_shown(alloc, &view, expected))
 }
 
 #[test]
-fn shared_addresses(rt: HostRuntime) -> Result<(), Memory> {
-    let alloc = rt.alloc();
-    let http = [("http", 8080, true)];
-    for (first, second) in [
-        ([(A, true), (B, true)], [(B, true), (B, true)]),
-        ([(B, true), (B, true)], [(B, true), (A, true)]),
-    ] {
-        let objects = [
-            service(alloc, &[("http", 80, true)])?,
-            slice(alloc, "web-1", &first, &http)?,
-            slice(alloc, "web-2", &second, &http)?,
-        ];
-        let pairs = pairs(alloc, &objects, 80)?;
-        assert_eq!(rt; pairs.as_slice(), [(A, 8080), (B, 8080)].as_slice());
+fn endpoints(rt: HostRuntime) -> Result<(), Memory> {
+    for row in VIEWS.split("\n\n") {
+        assert!(rt; is_so(rt.alloc(), row)?, "at {row}");
     }
-    Ok(())
-}
-
-#[test]
-fn ports_and_readiness(rt: HostRuntime) -> Result<(), Memory> {
-    let alloc = rt.alloc();
-    let objects = [
-        service(alloc, &[("dns", 53, false), ("dns-tcp", 53, true)])?,
-        slice(
-            alloc,
-            "web-1",
-            &[(B, true), (A, false)],
-            &[
-                ("dns-tcp", 5354, true),
-                ("dns", 5300, true),
-                ("dns-tcp", 5353, true),
-                ("dns-tcp", 5355, false),
-            ],
-        )?,
-    ];
-    let pairs_of_53 = pairs(alloc, &objects, 53)?;
-    assert_eq!(rt; pairs_of_53.as_slice(), [(B, 5353), (B, 5354)].as_slice());
-    let pairs_of_80 = pairs(alloc, &objects, 80)?;
-    assert_eq!(rt; pairs_of_80.len(), 0);
     Ok(())
 }

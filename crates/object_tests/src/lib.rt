@@ -8,6 +8,8 @@
 #[cfg(test)]
 mod batches;
 #[cfg(test)]
+mod copies;
+#[cfg(test)]
 mod endpoints;
 #[cfg(test)]
 mod messages;
@@ -19,3 +21,5 @@ mod show;
 mod store;
 #[cfg(test)]
 mod texts;
+#[cfg(test)]
+mod told;

@@ -5,10 +5,12 @@
 
 mod base;
 mod core;
+mod object;
 mod page;
 mod policy;
 mod profile;
 mod query;
 mod route;
+mod view;
 
 pub use page::{Page, Show};

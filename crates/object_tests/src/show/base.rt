@@ -4,7 +4,9 @@ use k8s_meta::meta::Meta;
 use label_select::selector::{SelOp, SelRule, Selector};
 use mesh_base::key::{Kind, ObjKey};
 use mesh_base::labels::Labels;
+use mesh_base::memory::Memory;
 use mesh_base::text::Text;
+use mesh_text::target_text::TargetFault;
 use net_cidr::block::Block;
 use net_cidr::ip::Ip;
 use net_cidr::net::Net;
@@ -161,9 +163,24 @@ impl Show for Meta {
     }
 }
 
-/// As it is printed. One for want of memory has no text.
+impl Show for Memory {
+    fn show(&self, page: &mut Page) {
+        page.put("out of memory");
+    }
+}
+
+/// As it is printed.
 impl Show for ReadFault {
     fn show(&self, page: &mut Page) {
         page.put_fault(self);
+    }
+}
+
+impl Show for TargetFault {
+    fn show(&self, page: &mut Page) {
+        match self {
+            TargetFault::Memory => Memory.show(page),
+            TargetFault::Bad => page.put("Bad"),
+        }
     }
 }

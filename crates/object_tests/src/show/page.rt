@@ -37,7 +37,7 @@ impl Page {
         self.note(done);
     }
 
-    /// As it is printed. One for want of memory has no text.
+    /// As it is printed. One for lack of memory has no text.
     pub fn put_fault(&mut self, fault: &ReadFault) {
         let done = write!(self.text, "{fault}");
         self.note(done);

@@ -1,0 +1,334 @@
+//! Each copy that no table of objects takes: what is asked for, and what is shown.
+
+use crate::told::tell;
+use mesh_base::copied::Copied;
+use mesh_base::key::{Kind, ObjKey};
+use mesh_base::labels::Labels;
+use mesh_base::list::List;
+use mesh_base::memory::Memory;
+use mesh_base::same::Same;
+use mesh_base::text::Text;
+use net_cidr::block::Block;
+use net_cidr::ip::Ip;
+use net_cidr::net::Net;
+use std::alloc::Global;
+use view_types::authn::RefKind;
+use view_types::config::Config;
+use view_types::endpoint::{EndpointRow, EndpointView};
+use view_types::mark::Mark;
+use view_types::message::Message;
+use view_types::outbound::{OutboundView, ProfileView};
+use view_types::policy::{Policy, Protocol};
+use view_types::profile::{Override, ProfileRoute, ReqMatch};
+use view_types::query::{Context, Query, Target};
+use view_types::request::{ClientTls, HttpRequest, Request};
+use view_types::route::{Filter, HttpMatch, ParentKind, PathMatch};
+use view_types::server_view::{
+    Authn, AuthzKind, AuthzRow, BackendRow, RouteRow, RuleRow, ServerRow, ServerView,
+};
+use view_types::view::View;
+
+/// The text of a string, which is empty where there is no memory.
+fn text(alloc: Global, text: &str) -> Text {
+    match Text::from_str(alloc, text) {
+        Ok(made) => made,
+        Err(Memory) => Text::from_string(String::new(alloc)),
+    }
+}
+
+/// A list of one, which is empty where there is no memory.
+fn one<T: Drop>(alloc: Global, item: T) -> List<T> {
+    let mut items = List::new(alloc);
+    let _ = items.add(item);
+    items
+}
+
+fn context(alloc: Global) -> Context {
+    Context {
+        ns: Some(text(alloc, "app")),
+        node: Some(text(alloc, "n1")),
+    }
+}
+
+fn target(alloc: Global) -> Target {
+    Target::Service {
+        ns: text(alloc, "app"),
+        name: text(alloc, "web"),
+        port: 80,
+    }
+}
+
+fn request(alloc: Global) -> Request {
+    Request {
+        ns: text(alloc, "app"),
+        pod: text(alloc, "web-1"),
+        port: 8080,
+        client: Ip::V4(1),
+        tls: ClientTls::Identity(text(alloc, "id")),
+        http: Some(HttpRequest {
+            method: text(alloc, "GET"),
+            path: text(alloc, "/"),
+            host: text(alloc, "web"),
+            query: text(alloc, "a=b"),
+            headers: one(alloc, (text(alloc, "x"), text(alloc, "y"))),
+        }),
+    }
+}
+
+fn bare_request(alloc: Global, tls: ClientTls) -> Request {
+    Request {
+        ns: text(alloc, "app"),
+        pod: text(alloc, "web-1"),
+        port: 1,
+        client: Ip::V6(1),
+        tls,
+        http: None,
+    }
+}
+
+const GET: &str = r#"Get{ns:"app",name:"web",port:80,ctx:{ns:"app",node:"n1"}}"#;
+
+const PROFILE: &str = r#"Profile{target:{ns:"app",name:"web",port:80},ctx:{ns:"app",node:"n1"}}"#;
+
+const TRAFFIC: &str = "Traffic({ip:0.0.0.1,port:80})";
+
+const REQUEST: &str = r#"{ns:"app",pod:"web-1",port:8080,client:0.0.0.1,tls:Identity("id"),
+    http:{method:"GET",path:"/",host:"web",query:"a=b",headers:[("x","y")]}}"#;
+
+const PLAIN: &str =
+    r#"{ns:"app",pod:"web-1",port:1,client:00000000000000000000000000000001,tls:Plain,http:-}"#;
+
+const ANONYMOUS: &str =
+    r#"{ns:"app",pod:"web-1",port:1,client:00000000000000000000000000000001,tls:Anonymous,http:-}"#;
+
+const CONFIG: &str =
+    r#"{cluster_domain:"cluster.local",trust_domain:"cluster.local",control_ns:"linkerd",
+    cluster_nets:[10.0.0.0/8,100.64.0.0/10,172.16.0.0/12,192.168.0.0/16],default_policy:AllUnauthenticated}"#;
+
+fn copies_query(alloc: Global, query: Query, expected: &str) -> bool {
+    tell(alloc, Ok::<Query, Memory>(query)).is(expected)
+}
+
+fn copies_request(alloc: Global, request: Request, expected: &str) -> bool {
+    tell(alloc, Ok::<Request, Memory>(request)).is(expected)
+}
+
+#[test]
+fn what_is_asked_for(rt: HostRuntime) {
+    let alloc = rt.alloc();
+    assert!(rt; tell(alloc, Config::usual(alloc)).is(CONFIG));
+    let get = Query::Get {
+        ns: text(alloc, "app"),
+        name: text(alloc, "web"),
+        port: 80,
+        ctx: context(alloc),
+    };
+    assert!(rt; copies_query(alloc, get, GET));
+    let profile = Query::Profile {
+        target: target(alloc),
+        ctx: context(alloc),
+    };
+    assert!(rt; copies_query(alloc, profile, PROFILE));
+    let port = Query::Port {
+        ns: text(alloc, "app"),
+        pod: text(alloc, "web-1"),
+        port: 80,
+    };
+    assert!(rt; copies_query(alloc, port, r#"Port{ns:"app",pod:"web-1",port:80}"#));
+    let address = Target::Address {
+        ip: Ip::V4(1),
+        port: 80,
+    };
+    assert!(rt; copies_query(alloc, Query::Traffic { target: address }, TRAFFIC));
+    assert!(rt; copies_request(alloc, request(alloc), REQUEST));
+    assert!(rt; copies_request(alloc, bare_request(alloc, ClientTls::Plain), PLAIN));
+    assert!(rt; copies_request(alloc, bare_request(alloc, ClientTls::Anonymous), ANONYMOUS));
+}
+
+fn copies_mark(alloc: Global, mark: Mark, expected: &str) -> bool {
+    tell(alloc, Ok::<Mark, Memory>(mark)).is(expected)
+}
+
+#[test]
+fn marks(rt: HostRuntime) {
+    let alloc = rt.alloc();
+    let key = ObjKey {
+        kind: Kind::Pod,
+        ns: text(alloc, "app"),
+        name: text(alloc, "web-1"),
+    };
+    let expected = r#"Obj({kind:Pod,ns:"app",name:"web-1"})"#;
+    assert!(rt; copies_mark(alloc, Mark::Obj(key), expected));
+    let mark = Mark::SlicesOf(text(alloc, "app"), text(alloc, "web"));
+    assert!(rt; copies_mark(alloc, mark, r#"SlicesOf{ns:"app",service:"web"}"#));
+    let mark = Mark::ServersIn(text(alloc, "app"));
+    assert!(rt; copies_mark(alloc, mark, r#"ServersIn("app")"#));
+    let mark = Mark::ServerAuthzIn(text(alloc, "app"));
+    assert!(rt; copies_mark(alloc, mark, r#"ServerAuthzIn("app")"#));
+    let mark = Mark::PolicyOn(text(alloc, "app"), RefKind::Server, text(alloc, "web"));
+    assert!(rt; copies_mark(alloc, mark, r#"PolicyOn{ns:"app",kind:Server,name:"web"}"#));
+    let mark = Mark::RouteOn(text(alloc, "app"), ParentKind::Service, text(alloc, "web"));
+    assert!(rt; copies_mark(alloc, mark, r#"RouteOn{ns:"app",kind:Service,name:"web"}"#));
+    assert!(rt; copies_mark(alloc, Mark::IpService(Ip::V4(1)), "IpService(0.0.0.1)"));
+    assert!(rt; copies_mark(alloc, Mark::IpPod(Ip::V4(1)), "IpPod(0.0.0.1)"));
+}
+
+fn endpoint(alloc: Global) -> EndpointRow {
+    let mut labels = Labels::new(alloc);
+    let _ = labels.put(text(alloc, "pod"), text(alloc, "web-1"));
+    EndpointRow {
+        ip: Ip::V4(1),
+        port: 8080,
+        weight: 10_000,
+        labels,
+        identity: Some(text(alloc, "id")),
+        tunnel: Some(4143),
+        h2: true,
+    }
+}
+
+fn profile_view(alloc: Global) -> ProfileView {
+    ProfileView {
+        fqn: text(alloc, "web.app.svc.cluster.local"),
+        opaque: true,
+        routes: one(
+            alloc,
+            ProfileRoute {
+                name: text(alloc, "a"),
+                condition: ReqMatch::Path(text(alloc, "/")),
+                classes: List::new(alloc),
+                retryable: true,
+                timeout: Some(1),
+            },
+        ),
+        overrides: one(
+            alloc,
+            Override {
+                authority: text(alloc, "b"),
+                weight: 1,
+            },
+        ),
+        endpoint: Some(endpoint(alloc)),
+    }
+}
+
+fn authz_row(alloc: Global, authn: Authn) -> AuthzRow {
+    let net = Net {
+        base: Ip::V4(0),
+        bits: 0,
+    };
+    AuthzRow {
+        kind: AuthzKind::AuthorizationPolicy,
+        name: text(alloc, "a"),
+        blocks: one(
+            alloc,
+            Block {
+                net,
+                except: one(alloc, net),
+            },
+        ),
+        authn,
+    }
+}
+
+fn clients(alloc: Global) -> Authn {
+    Authn::Clients {
+        ids: one(alloc, text(alloc, "id")),
+        suffixes: one(alloc, text(alloc, ".app")),
+        everyone: true,
+    }
+}
+
+fn rule_row(alloc: Global) -> RuleRow {
+    RuleRow {
+        matches: one(
+            alloc,
+            HttpMatch {
+                path: PathMatch::Exact(text(alloc, "/")),
+                headers: List::new(alloc),
+                query: List::new(alloc),
+                method: Some(text(alloc, "GET")),
+            },
+        ),
+        filters: one(
+            alloc,
+            Filter::Redirect {
+                scheme: Some(text(alloc, "https")),
+                host: None,
+                port: Some(1),
+                status: 302,
+            },
+        ),
+        backends: one(
+            alloc,
+            BackendRow {
+                ns: text(alloc, "app"),
+                name: text(alloc, "web"),
+                port: 80,
+                weight: 1,
+                missing: true,
+            },
+        ),
+        request_timeout: Some(1),
+        backend_timeout: Some(2),
+    }
+}
+
+fn route_row(alloc: Global) -> RouteRow {
+    RouteRow {
+        kind: Kind::GatewayRoute,
+        name: text(alloc, "a"),
+        created: Some(text(alloc, "2024-01-01T00:00:00Z")),
+        hosts: one(alloc, text(alloc, "web")),
+        rules: one(alloc, rule_row(alloc)),
+        authz: one(alloc, authz_row(alloc, Authn::AnyTls)),
+    }
+}
+
+fn server_row(alloc: Global) -> ServerRow {
+    ServerRow {
+        protocol: Protocol::Grpc,
+        policy: Policy::Audit,
+        server: Some(text(alloc, "web")),
+        authz: one(alloc, authz_row(alloc, clients(alloc))),
+        routes: one(alloc, route_row(alloc)),
+    }
+}
+
+/// Whether there is a copy, and it is the same as its source.
+fn is_copied<T: Copied + Same>(alloc: Global, value: &T) -> bool {
+    match value.copy(alloc) {
+        Ok(copy) => copy.is_same(value),
+        Err(Memory) => false,
+    }
+}
+
+#[test]
+fn what_is_shown(rt: HostRuntime) {
+    let alloc = rt.alloc();
+    let view = EndpointView {
+        exists: true,
+        rows: one(alloc, endpoint(alloc)),
+    };
+    assert!(rt; is_copied(alloc, &View::Endpoints(view)));
+    assert!(rt; is_copied(alloc, &View::Profile(profile_view(alloc))));
+    assert!(rt; is_copied(alloc, &View::Server(ServerView::Absent)));
+    assert!(rt; is_copied(alloc, &View::Server(ServerView::Present(server_row(alloc)))));
+    assert!(rt; is_copied(alloc, &authz_row(alloc, Authn::Anyone)));
+    assert!(rt; is_copied(alloc, &View::Outbound(OutboundView::Absent)));
+    let forward = OutboundView::Forward {
+        endpoint: endpoint(alloc),
+        opaque: true,
+    };
+    assert!(rt; is_copied(alloc, &View::Outbound(forward)));
+    let service = OutboundView::Service {
+        ns: text(alloc, "app"),
+        name: text(alloc, "web"),
+        port: 80,
+        opaque: true,
+        routes: one(alloc, route_row(alloc)),
+    };
+    assert!(rt; is_copied(alloc, &View::Outbound(service)));
+    assert!(rt; is_copied(alloc, &Message::Add(one(alloc, endpoint(alloc)))));
+    assert!(rt; is_copied(alloc, &Message::NoEndpoints(true)));
+}
