@@ -22,7 +22,7 @@ impl Reader for ClusterIp {
 
     ghost reading = { λ _. cluster_ip };
 
-    #[tactic(auto, unfolding(crate::specs::Addresses::cluster_ip, k8s_meta::specs::Words::unless))]
+    #[tactic(auto, unfolding(k8s_meta::specs::Spots::then, crate::specs::Addresses::cluster_ip, k8s_meta::specs::Words::unless))]
     fn read<'a>(&self, place: &'a Place<'a>) -> Result<Option<Ip>, ReadFault> {
         let text = place.text()?;
         if is_no_address(text) {

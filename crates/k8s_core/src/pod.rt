@@ -31,7 +31,7 @@ pub fn read_pod(alloc: Global, object: &Value, at: &str) -> Result<Pod, ReadFaul
 }
 
 /// The Pod at a place.
-#[tactic(auto, unfolding(crate::specs::Pods::pod_at))]
+#[tactic(auto, unfolding(k8s_meta::specs::Spots::then, crate::specs::Pods::pod_at))]
 pub fn pod_of<'a>(object: &'a Place<'a>) -> Result<Pod, ReadFault>
     ensures { Reads result (pod_at (seen object.now)) }
 {
@@ -74,7 +74,7 @@ impl Reader for Container {
 
     ghost reading = { λ _. container_at };
 
-    #[tactic(auto, unfolding(crate::specs::Pods::container_at))]
+    #[tactic(auto, unfolding(k8s_meta::specs::Spots::then, crate::specs::Pods::container_at))]
     fn read<'a>(&self, place: &'a Place<'a>) -> Result<List<NamedPort>, ReadFault> {
         place.object()?;
         place.each(
@@ -94,7 +94,7 @@ impl Reader for PodIp {
 
     ghost reading = { λ _. pod_ip_at };
 
-    #[tactic(auto, unfolding(crate::specs::Pods::pod_ip_at))]
+    #[tactic(auto, unfolding(k8s_meta::specs::Spots::then, crate::specs::Pods::pod_ip_at))]
     fn read<'a>(&self, place: &'a Place<'a>) -> Result<Option<Ip>, ReadFault> {
         place.object()?;
         place.default(Key::Ip, &Filled(Address), None)

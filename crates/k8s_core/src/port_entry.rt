@@ -20,7 +20,7 @@ impl Reader for PortEntry {
 
     ghost reading = { λ r. port_at r.key };
 
-    #[tactic(auto, unfolding(crate::specs::NamedPorts::port_at))]
+    #[tactic(auto, unfolding(k8s_meta::specs::Spots::then, crate::specs::NamedPorts::port_at))]
     fn read<'a>(&self, place: &'a Place<'a>) -> Result<NamedPort, ReadFault> {
         place.object()?;
         let name = place.text_or(Key::Name, &AnyText, "")?;
@@ -42,7 +42,7 @@ impl Reader for SlicePort {
 
     ghost reading = { λ _. slice_port_at };
 
-    #[tactic(auto, unfolding(crate::specs::NamedPorts::slice_port_at))]
+    #[tactic(auto, unfolding(k8s_meta::specs::Spots::then, crate::specs::NamedPorts::slice_port_at))]
     fn read<'a>(&self, place: &'a Place<'a>) -> Result<Option<NamedPort>, ReadFault> {
         place.object()?;
         let name = place.text_or(Key::Name, &AnyText, "")?;

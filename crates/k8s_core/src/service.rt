@@ -23,7 +23,7 @@ pub fn read_service(alloc: Global, object: &Value, at: &str) -> Result<Service, 
 }
 
 /// The Service at a place.
-#[tactic(auto, unfolding(crate::specs::Services::service_at))]
+#[tactic(auto, unfolding(k8s_meta::specs::Spots::then, crate::specs::Services::service_at))]
 pub fn service_of<'a>(object: &'a Place<'a>) -> Result<Service, ReadFault>
     ensures { Reads result (service_at (seen object.now)) }
 {

@@ -32,7 +32,7 @@ pub fn read_slice(alloc: Global, object: &Value, at: &str) -> Result<Slice, Read
 }
 
 /// The EndpointSlice at a place.
-#[tactic(auto, unfolding(crate::specs::Slices::slice_at))]
+#[tactic(auto, unfolding(k8s_meta::specs::Spots::then, crate::specs::Slices::slice_at))]
 pub fn slice_of<'a>(object: &'a Place<'a>) -> Result<Slice, ReadFault>
     ensures { Reads result (slice_at (seen object.now)) }
 {
@@ -62,7 +62,7 @@ impl Reader for FamilyWord {
 
     ghost reading = { λ _. choice family_of };
 
-    #[tactic(auto, unfolding(k8s_meta::specs::Words::choice))]
+    #[tactic(auto, unfolding(k8s_meta::specs::Spots::then, k8s_meta::specs::Words::choice))]
     fn read<'a>(&self, place: &'a Place<'a>) -> Result<Family, ReadFault> {
         let text = place.text()?;
         place.valid(What::Choice, family_of(text))
@@ -95,7 +95,7 @@ impl<'b> Reader for Endpoint<'b> {
 
     ghost reading = { λ r. point_at r.family r.own.now };
 
-    #[tactic(auto, unfolding(crate::specs::Slices::point_at))]
+    #[tactic(auto, unfolding(k8s_meta::specs::Spots::then, crate::specs::Slices::point_at))]
     fn read<'a>(&self, place: &'a Place<'a>) -> Result<Point, ReadFault> {
         place.object()?;
         let addrs = place.each_some(
@@ -123,7 +123,7 @@ impl Reader for SliceAddress {
 
     ghost reading = { λ r. address_at r.family };
 
-    #[tactic(auto, unfolding(crate::specs::Slices::address_at))]
+    #[tactic(auto, unfolding(k8s_meta::specs::Spots::then, crate::specs::Slices::address_at))]
     fn read<'a>(&self, place: &'a Place<'a>) -> Result<Option<Ip>, ReadFault> {
         let text = place.text()?;
         place.valid(
@@ -144,7 +144,7 @@ fn in_family(family: Family, ip: Option<Ip>) -> Option<Option<Ip>>
     }
 }
 
-#[tactic(auto, unfolding(crate::specs::Slices::target_at))]
+#[tactic(auto, unfolding(k8s_meta::specs::Spots::then, crate::specs::Slices::target_at))]
 fn target_of<'a>(place: &'a Place<'a>, own: &str) -> Result<Option<(Text, Text)>, ReadFault>
     ensures { Reads result (target_at own.now (seen place.now)) }
 {

@@ -1,5 +1,5 @@
 -- How a fault is written: its word, the path of the member, and what is wrong with its value.
-use Rattle.std.specs.Prelude.{ℕ, List, [], ◌∷◌, ◌++◌, codes}
+use Rattle.std.specs.Prelude.{ℕ, List, [], ◌++◌, codes}
 use Rattle.k8s_meta.specs.declared.fault.ReadFault.{ReadFault}
 use Rattle.k8s_meta.specs.declared.fault.ReadFault.TheVariants.{Memory, Missing, WrongType, BadName, BadValue}
 use Rattle.k8s_meta.specs.declared.fault.What.{What}

@@ -1,7 +1,7 @@
 -- The metadata of an object.
 use Rattle.std.specs.Prelude.{codes, ℕ, ◌&&◌, ◌==◌, List, [], ◌∷◌, Bool, true, false, Option, Some, None, Result, Ok, nat_le, if◌then◌else◌}
 use Rattle.k8s_meta.specs.Lists.{label_map}
-use Rattle.k8s_meta.specs.Scalars.{name, namespace}
+use Rattle.k8s_meta.specs.Scalars.{name_within, namespace}
 use Rattle.k8s_meta.specs.Spots.{Spot, ◌·◌, ◌>>=◌}
 use Rattle.k8s_meta.specs.Words.{default, object, optional, part, required, text}
 use Rattle.k8s_meta.specs.declared.fault.ReadFault.{ReadFault}
@@ -25,13 +25,17 @@ abbrev pub time_of : Option (List ℕ) → Option (List ℕ)
 time_of (Some t) = if is_time t then Some t else None
 time_of None = None
 
-unfoldable pub meta_at : Spot → Result Meta ReadFault
-meta_at o = do
+-- the metadata, where the name has at most so many bytes
+unfoldable pub meta_within : ℕ → Spot → Result Meta ReadFault
+meta_within most o = do
   o ← object o
   m ← part (o · keys.Metadata)
-  name ← required name (m · keys.Name)
+  name ← required (name_within most) (m · keys.Name)
   ns ← default (codes "default") namespace (m · keys.Namespace)
   labels ← label_map (m · keys.Labels)
   notes ← label_map (m · keys.Annotations)
   created ← optional text (m · keys.CreationTimestamp)
   Ok (record { ns = ns; name = name; labels = labels; notes = notes; created = time_of created })
+
+abbrev pub meta_at : Spot → Result Meta ReadFault
+meta_at = meta_within 253

@@ -29,19 +29,23 @@ is_made_of passes most t = if length t == 0 then false else (if nat_lt most (len
 unfoldable pub is_name : List ℕ → Bool
 is_name = is_made_of is_name_byte 253
 
--- a DNS label's bytes and length
-unfoldable pub is_namespace : List ℕ → Bool
-is_namespace = is_made_of is_label_byte 63
-
 -- a text that passes
 abbrev pub named : (List ℕ → Bool) → List ℕ → List ℕ → Result (List ℕ) ReadFault
 named test at t = if test t then Ok t else Err (faults.BadName at)
 
-unfoldable pub name : Spot → Result (List ℕ) ReadFault
-name s = text s >>= named is_name s.at
+-- a name of at most so many bytes
+unfoldable pub name_within : ℕ → Spot → Result (List ℕ) ReadFault
+name_within most s = text s >>= named (is_made_of is_name_byte most) s.at
 
-unfoldable pub namespace : Spot → Result (List ℕ) ReadFault
-namespace s = text s >>= named is_namespace s.at
+abbrev pub name : Spot → Result (List ℕ) ReadFault
+name = name_within 253
+
+-- a label of at most so many bytes
+unfoldable pub label_within : ℕ → Spot → Result (List ℕ) ReadFault
+label_within most s = text s >>= named (is_made_of is_label_byte most) s.at
+
+abbrev pub namespace : Spot → Result (List ℕ) ReadFault
+namespace = label_within 63
 
 abbrev pub within : List ℕ → ℕ → ℕ → ℕ → Result ℕ ReadFault
 within at low high n = if nat_le low n && nat_le n high then Ok n else Err (faults.BadValue at what.Range)

@@ -38,11 +38,14 @@ item_spot at n d = record { at = item_path at n; value = d }
 abbrev pub is_absent : Spot → Bool
 is_absent s = is_some (as_null s.value)
 
-infixl 10 ◌>>=◌
 -- one reading after another, up to the first fault
+unfoldable pub then : {A B : Type 0} → Result A ReadFault → (A → Result B ReadFault) → Result B ReadFault
+then (Ok x) f = f x
+then (Err e) f = Err e
+
+infixl 10 ◌>>=◌
 abbrev pub ◌>>=◌ : {A B : Type 0} → Result A ReadFault → (A → Result B ReadFault) → Result B ReadFault
-(Ok x) >>= f = f x
-(Err e) >>= f = Err e
+r >>= f = then r f
 
 -- The fault is the reading's, unless memory ran out.
 abbrev pub Fails : {Y : Type 0} → ReadFault → Result Y ReadFault → Type 0

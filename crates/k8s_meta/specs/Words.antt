@@ -1,7 +1,9 @@
 -- The words of the member tables: each reads what stands at a spot, or gives the first fault.
-use Rattle.std.specs.Prelude.{ℕ, ◌==◌, length, Bool, List, Option, Some, None, Result, Ok, Err, if◌then◌else◌}
+use Rattle.std.specs.Prelude.{ℕ, ◌==◌, length, Bool, List, Option, Some, None, Result, Ok, Err, option_and_then, if◌then◌else◌}
+use Rattle.std.specs.Result.{result_ok}
+use Rattle.std.specs.Str.{is_utf8}
 use Rattle.serde_json.specs.Find.{as_bool, as_str, as_array, as_object}
-use Rattle.serde_json.specs.Data.{Items}
+use Rattle.serde_json.specs.Data.{Data, Items}
 use Rattle.k8s_meta.specs.Spots.{Spot, is_absent, ◌>>=◌}
 use Rattle.k8s_meta.specs.declared.fault.What.{What}
 use Rattle.k8s_meta.specs.declared.fault.What.TheVariants as what
@@ -18,8 +20,15 @@ abbrev pub valid : {A : Type 0} → List ℕ → What → Option A → Result A 
 valid at what None = Err (faults.BadValue at what)
 valid at what (Some x) = Ok x
 
+abbrev pub if_utf8 : List ℕ → Option (List ℕ)
+if_utf8 t = if is_utf8 t then Some t else None
+
+-- a string, whose bytes are UTF-8
+unfoldable pub string_in : Data → Option (List ℕ)
+string_in d = option_and_then if_utf8 (as_str d)
+
 unfoldable pub text : Spot → Result (List ℕ) ReadFault
-text s = typed s.at (as_str s.value)
+text s = typed s.at (string_in s.value)
 
 unfoldable pub boolean : Spot → Result Bool ReadFault
 boolean s = typed s.at (as_bool s.value)
@@ -63,3 +72,7 @@ filled read s = unless (λ t. length t == 0) None (some read) s
 -- what has to be there in one case alone
 unfoldable pub required_if : {A : Type 0} → Bool → A → (Spot → Result A ReadFault) → Spot → Result A ReadFault
 required_if needed x read s = if needed then required read s else default x read s
+
+-- what is read, where that has no fault: a member that never gives one
+abbrev pub lenient : {A : Type 0} → (Spot → Result A ReadFault) → Spot → Option A
+lenient read s = result_ok (read s)

@@ -1,9 +1,10 @@
 ghost use Rattle.std.specs.Prelude.{◌≡◌};
 ghost use Rattle.k8s_meta.specs.declared.fault.ReadFault.TheVariants.{Memory};
 
+use mesh_base::copied::Copied;
 use mesh_base::memory;
 use mesh_base::text::Text;
-use std::alloc::{AllocError, AllocFailed};
+use std::alloc::{AllocError, AllocFailed, Global};
 
 /// What is wrong with a value of the right type.
 #[derive(Clone, Copy, Debug, PartialEq, Eq)]
@@ -27,6 +28,21 @@ pub enum ReadFault {
     WrongType { path: Text },
     BadName { path: Text },
     BadValue { path: Text, what: What },
+}
+
+impl Copied for ReadFault {
+    fn copy(&self, _alloc: Global) -> Result<ReadFault, memory::Memory> {
+        match self {
+            ReadFault::Memory => Ok(ReadFault::Memory),
+            ReadFault::Missing { path } => Ok(ReadFault::Missing { path: path.copy()? }),
+            ReadFault::WrongType { path } => Ok(ReadFault::WrongType { path: path.copy()? }),
+            ReadFault::BadName { path } => Ok(ReadFault::BadName { path: path.copy()? }),
+            ReadFault::BadValue { path, what } => Ok(ReadFault::BadValue {
+                path: path.copy()?,
+                what: *what,
+            }),
+        }
+    }
 }
 
 impl From<memory::Memory> for ReadFault {

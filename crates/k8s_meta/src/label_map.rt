@@ -7,6 +7,7 @@ ghost use Rattle.k8s_meta.specs.Spots.{◌·◌, Reads, seen};
 use crate::fault::ReadFault;
 use crate::key::Key;
 use crate::place::Place;
+use crate::strings::string_in;
 use mesh_base::labels::Labels;
 use mesh_base::memory::Memory;
 use mesh_base::text::Text;
@@ -21,7 +22,7 @@ fn labels_of(alloc: Global, members: &Map<String, Value>) -> Result<Option<Label
         if value.is_null() {
             continue;
         }
-        let Some(text) = value.as_str() else {
+        let Some(text) = string_in(value) else {
             return Ok(None);
         };
         let key = Text::from_str(alloc, key.as_str())?;

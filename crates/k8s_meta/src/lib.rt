@@ -6,12 +6,15 @@
 //! word, and its contract is `Reads result (table (seen place))` of `specs/Spots`. Metadata is `specs/Metadata`.
 #![tactic(auto)]
 
+pub mod choice;
 pub mod duration;
 pub mod fault;
 mod fault_text;
+mod gather;
 pub mod key;
 mod label_map;
 pub mod laws;
+mod members;
 pub mod meta;
 pub mod names;
 pub mod path;
@@ -20,5 +23,6 @@ pub mod ports;
 pub mod quantity;
 pub mod reader;
 mod runs;
+pub mod strings;
 mod trim;
 pub mod words;

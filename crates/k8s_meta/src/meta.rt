@@ -1,13 +1,13 @@
 ghost use Rattle.std.specs.Prelude.{◌≡◌, IfOk};
 ghost use Rattle.serde_json.specs.View.{view};
 ghost use Rattle.k8s_meta.specs.Lawful.{IsLawfulMeta};
-ghost use Rattle.k8s_meta.specs.Metadata.{all_fit, fits, is_time, meta_at, time_of};
+ghost use Rattle.k8s_meta.specs.Metadata.{all_fit, fits, is_time, meta_at, meta_within, time_of};
 ghost use Rattle.k8s_meta.specs.Spots.{Reads, seen};
 
 use crate::fault::ReadFault;
 use crate::key::Key;
 use crate::place::Place;
-use crate::words::{AnyText, Name, Namespace};
+use crate::words::{AnyText, NameWithin, Namespace};
 use mesh_base::copied::Copied;
 use mesh_base::labels::Labels;
 use mesh_base::memory::Memory;
@@ -48,13 +48,21 @@ pub fn read_meta(alloc: Global, object: &Value, at: &str) -> Result<Meta, ReadFa
 }
 
 /// The metadata of the object that stands at a place.
-#[tactic(auto, unfolding(crate::specs::Metadata::meta_at))]
 pub fn meta_of<'a>(object: &'a Place<'a>) -> Result<Meta, ReadFault>
-    ensures { Reads result (meta_at (seen object.now)) }
+    ensures lawful { IfOk result IsLawfulMeta }
+    ensures value { Reads result (meta_at (seen object.now)) }
+{
+    meta_within(object, 253)
+}
+
+/// The same, where the name has at most so many bytes.
+#[tactic(auto, unfolding(crate::specs::Spots::then, crate::specs::Metadata::meta_within))]
+pub fn meta_within<'a>(object: &'a Place<'a>, most: usize) -> Result<Meta, ReadFault>
+    ensures { Reads result (meta_within most (seen object.now)) }
 {
     object.object()?;
     let metadata = object.part(Key::Metadata)?;
-    let name = metadata.required(Key::Name, &Name)?;
+    let name = metadata.required(Key::Name, &NameWithin { most })?;
     let ns = metadata.text_or(Key::Namespace, &Namespace, "default")?;
     let labels = metadata.labels(Key::Labels)?;
     let notes = metadata.labels(Key::Annotations)?;

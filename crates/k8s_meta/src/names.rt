@@ -1,6 +1,6 @@
 ghost use Rattle.std.specs.Prelude.{◌≡◌, not};
 ghost use Rattle.std.specs.List.{list_any};
-ghost use Rattle.k8s_meta.specs.Scalars.{is_label_byte, is_name, is_name_byte, is_namespace};
+ghost use Rattle.k8s_meta.specs.Scalars.{is_label_byte, is_made_of, is_name, is_name_byte};
 
 #[tactic(auto, unfolding(crate::specs::Scalars::is_label_byte))]
 fn is_label_byte(byte: u8) -> bool
@@ -16,42 +16,48 @@ fn is_name_byte(byte: u8) -> bool
     is_label_byte(byte) || byte == b'.'
 }
 
-/// The name of an object.
-#[tactic(auto, unfolding(crate::specs::Scalars::is_name))]
-pub fn is_name(text: &str) -> bool
-    ensures { result ≡ is_name text.now }
-{
-    if text.is_empty() {
-        return false;
-    }
-    if text.len() > 253 {
-        return false;
-    }
-    !has_other_byte(text.as_bytes())
-}
-
 fn has_other_byte(text: &[u8]) -> bool
     ensures { result ≡ list_any (λ b. not (is_name_byte b)) text.now }
 {
     text.iter().any(|b| !is_name_byte(*b))
 }
 
-/// The name of a namespace.
-#[tactic(auto, unfolding(crate::specs::Scalars::is_namespace))]
-pub fn is_namespace(text: &str) -> bool
-    ensures { result ≡ is_namespace text.now }
+fn has_byte_of_no_label(text: &[u8]) -> bool
+    ensures { result ≡ list_any (λ b. not (is_label_byte b)) text.now }
+{
+    text.iter().any(|b| !is_label_byte(*b))
+}
+
+/// Whether the bytes are some, at most so many, and each of `a-z`, `0-9`, `-` and `.`.
+pub fn is_name_within(text: &[u8], most: usize) -> bool
+    ensures { result ≡ is_made_of is_name_byte most text.now }
 {
     if text.is_empty() {
         return false;
     }
-    if text.len() > 63 {
+    if text.len() > most {
         return false;
     }
-    !has_no_label_byte(text.as_bytes())
+    !has_other_byte(text)
 }
 
-fn has_no_label_byte(text: &[u8]) -> bool
-    ensures { result ≡ list_any (λ b. not (is_label_byte b)) text.now }
+/// Whether the bytes are some, at most so many, and each of `a-z`, `0-9` and `-`.
+pub fn is_label_within(text: &[u8], most: usize) -> bool
+    ensures { result ≡ is_made_of is_label_byte most text.now }
 {
-    text.iter().any(|b| !is_label_byte(*b))
+    if text.is_empty() {
+        return false;
+    }
+    if text.len() > most {
+        return false;
+    }
+    !has_byte_of_no_label(text)
+}
+
+/// The name of an object.
+#[tactic(auto, unfolding(crate::specs::Scalars::is_name))]
+pub fn is_name(text: &[u8]) -> bool
+    ensures { result ≡ is_name text.now }
+{
+    is_name_within(text, 253)
 }

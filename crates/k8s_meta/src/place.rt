@@ -1,20 +1,16 @@
-ghost use Rattle.std.specs.Prelude.{◌≡◌, ◌≤◌, ◌++◌, IfOk, OnOk, option_map, option_to_list};
-ghost use Rattle.serde_json.specs.Find.{get, as_array, as_object, as_str};
+ghost use Rattle.std.specs.Prelude.{◌≡◌, ◌≤◌, IfOk, option_map};
+ghost use Rattle.serde_json.specs.Find.{get, as_array, as_object};
 ghost use Rattle.serde_json.specs.View.{number_view, view, items_view, members_view};
 ghost use Rattle.k8s_meta.specs.Keys.{key_text};
 ghost use Rattle.k8s_meta.specs.Scalars.{number, whole};
 ghost use Rattle.k8s_meta.specs.Spots.{◌·◌, Gives, IsFault, Reads, is_absent, item_spot, or_null, seen, value_seen};
-ghost use Rattle.k8s_meta.specs.Words.{boolean, list, object, text, typed, valid};
+ghost use Rattle.k8s_meta.specs.Words.{boolean, list, object, string_in, text, typed, valid};
 ghost use Rattle.k8s_meta.specs.declared.fault.ReadFault.TheVariants as faults;
-ghost use Rattle.k8s_meta.specs.Lists.{each, each_from, each_some, kept};
-ghost use Rattle.k8s_meta.specs.Words.{default, optional, part, required, required_if};
 
 use crate::fault::{ReadFault, What};
 use crate::key::Key;
 use crate::path::Path;
-use crate::reader::Reader;
-use mesh_base::list::List;
-use mesh_base::memory::Memory;
+use crate::strings::string_in;
 use mesh_base::text::Text;
 use serde_json::{Map, Number, Value};
 use std::alloc::Global;
@@ -51,12 +47,13 @@ impl<'a> Place<'a> {
         self.value
     }
 
-    /// The text that stands here, if it is one.
+    /// The string that stands here, if it is one.
+    #[tactic(auto, unfolding(crate::specs::Words::string_in))]
     pub fn as_text(&self) -> Option<&'a str>
-        ensures { option_map (λ s. s.now) result ≡ as_str (seen self.now).value }
+        ensures { option_map (λ s. s.now) result ≡ string_in (seen self.now).value }
     {
         match self.value {
-            Some(value) => value.as_str(),
+            Some(value) => string_in(value),
             None => None,
         }
     }
@@ -161,7 +158,7 @@ impl<'a> Place<'a> {
         }
     }
 
-    #[tactic(auto, unfolding(crate::specs::Words::object))]
+    #[tactic(auto, unfolding(crate::specs::Spots::then, crate::specs::Words::object))]
     pub fn object(&self) -> Result<(), ReadFault>
         ensures { Gives (λ _. seen self.now) result (object (seen self.now)) }
     {
@@ -206,10 +203,7 @@ impl<'a> Place<'a> {
     pub fn text(&self) -> Result<&'a str, ReadFault>
         ensures { Gives (λ s. s.now) result (text (seen self.now)) }
     {
-        let Some(value) = self.value else {
-            return Err(self.wrong_type());
-        };
-        match value.as_str() {
+        match self.as_text() {
             Some(text) => Ok(text),
             None => Err(self.wrong_type()),
         }
@@ -229,7 +223,7 @@ impl<'a> Place<'a> {
     }
 
     /// A whole number of 64 bits, from low to high.
-    #[tactic(auto, unfolding(crate::specs::Scalars::number))]
+    #[tactic(auto, unfolding(crate::specs::Spots::then, crate::specs::Scalars::number))]
     pub fn number(&self, low: u64, high: u64) -> Result<u64, ReadFault>
         ensures value { Reads result (number low high (seen self.now)) }
         ensures most { IfOk result (λ n. n ≤ high) }
@@ -261,139 +255,6 @@ impl<'a> Place<'a> {
             None => Err(self.bad_value(What::Range)),
         }
     }
-
-    /// The member, an object, empty where it is absent.
-    #[tactic(auto, unfolding(crate::specs::Words::part, crate::specs::Words::default))]
-    pub fn part(&'a self, key: Key) -> Result<Place<'a>, ReadFault>
-        ensures { Gives seen result (part ((seen self.now) · key)) }
-    {
-        let place = self.member(key);
-        if place.is_absent() {
-            return Ok(place);
-        }
-        place.object()?;
-        Ok(place)
-    }
-
-    /// The member, an object, which has to be there.
-    #[tactic(auto, unfolding(crate::specs::Words::required))]
-    pub fn required_part(&'a self, key: Key) -> Result<Place<'a>, ReadFault>
-        ensures { Gives seen result (required object ((seen self.now) · key)) }
-    {
-        let place = self.member(key);
-        if place.is_absent() {
-            return Err(place.missing());
-        }
-        place.object()?;
-        Ok(place)
-    }
-
-    /// The member, which has to be there.
-    #[tactic(auto, unfolding(crate::specs::Words::required))]
-    pub fn required<R: Reader>(&'a self, key: Key, reader: &R) -> Result<R::Made, ReadFault>
-        ensures { Reads result (required (R.reading reader.now) ((seen self.now) · key)) }
-    {
-        let place = self.member(key);
-        if place.is_absent() {
-            return Err(place.missing());
-        }
-        reader.read(&place)
-    }
-
-    /// The member, if it is there.
-    #[tactic(auto, unfolding(crate::specs::Words::optional, crate::specs::Words::default))]
-    pub fn optional<R: Reader>(&'a self, key: Key, reader: &R) -> Result<Option<R::Made>, ReadFault>
-        ensures { Reads result (optional (R.reading reader.now) ((seen self.now) · key)) }
-    {
-        let place = self.member(key);
-        if place.is_absent() {
-            return Ok(None);
-        }
-        let found = reader.read(&place)?;
-        Ok(Some(found))
-    }
-
-    /// The member, or another value where it is absent.
-    #[tactic(auto, unfolding(crate::specs::Words::default))]
-    pub fn default<R: Reader>(
-        &'a self,
-        key: Key,
-        reader: &R,
-        other: R::Made,
-    ) -> Result<R::Made, ReadFault>
-        ensures { Reads result (default other (R.reading reader.now) ((seen self.now) · key)) }
-    {
-        let place = self.member(key);
-        if place.is_absent() {
-            return Ok(other);
-        }
-        reader.read(&place)
-    }
-
-    /// The member, which has to be there where it is needed, or else another value where it is absent.
-    #[tactic(auto, unfolding(crate::specs::Words::required_if))]
-    pub fn required_if<R: Reader>(
-        &'a self,
-        needed: bool,
-        key: Key,
-        reader: &R,
-        other: R::Made,
-    ) -> Result<R::Made, ReadFault>
-        ensures { Reads result (required_if needed other (R.reading reader.now) ((seen self.now) · key)) }
-    {
-        if needed {
-            self.required(key, reader)
-        } else {
-            self.default(key, reader, other)
-        }
-    }
-
-    /// The text at a member, or another one where it is absent, without a copy.
-    #[tactic(auto, unfolding(crate::specs::Words::default))]
-    pub fn str_or(&'a self, key: Key, other: &'a str) -> Result<&'a str, ReadFault>
-        ensures { Gives (λ s. s.now) result (default other.now text ((seen self.now) · key)) }
-    {
-        let place = self.member(key);
-        if place.is_absent() {
-            return Ok(other);
-        }
-        place.text()
-    }
-
-    /// The member, or another text where it is absent.
-    #[tactic(auto, unfolding(crate::specs::Words::default))]
-    pub fn text_or<R: Reader<Made = Text>>(
-        &'a self,
-        key: Key,
-        reader: &R,
-        other: &str,
-    ) -> Result<Text, ReadFault>
-        ensures { Reads result (default other.now (R.reading reader.now) ((seen self.now) · key)) }
-    {
-        let place = self.member(key);
-        if place.is_absent() {
-            return Ok(Text::from_str(self.alloc, other)?);
-        }
-        reader.read(&place)
-    }
-
-    /// The items of the list at a member, which is empty where it is absent.
-    pub fn each<R: Reader>(&'a self, key: Key, reader: &R) -> Result<List<R::Made>, ReadFault>
-        ensures { Reads result (each (R.reading reader.now) ((seen self.now) · key)) }
-    {
-        each_here(&self.member(key), reader)
-    }
-
-    /// The values of those items of the list at a member that give one.
-    pub fn each_some<T: Drop, R: Reader<Made = Option<T>>>(
-        &'a self,
-        key: Key,
-        reader: &R,
-    ) -> Result<List<T>, ReadFault>
-        ensures { Reads result (each_some (R.reading reader.now) ((seen self.now) · key)) }
-    {
-        each_some_here(&self.member(key), reader)
-    }
 }
 
 fn value_of<'a>(value: Option<&'a Value>, key: &str) -> Option<&'a Value>
@@ -402,69 +263,5 @@ fn value_of<'a>(value: Option<&'a Value>, key: &str) -> Option<&'a Value>
     match value {
         None => None,
         Some(value) => value.get(key),
-    }
-}
-
-#[tactic(auto, unfolding(crate::specs::Lists::each, crate::specs::Words::default))]
-fn each_here<'a, R: Reader>(place: &'a Place<'a>, reader: &R) -> Result<List<R::Made>, ReadFault>
-    ensures { Reads result (each (R.reading reader.now) (seen place.now)) }
-{
-    if place.is_absent() {
-        return Ok(List::new(place.alloc));
-    }
-    let list = place.list()?;
-    each_of(place, list, reader)
-}
-
-fn each_of<'a, R: Reader>(
-    place: &'a Place<'a>,
-    list: &'a [Value],
-    reader: &R,
-) -> Result<List<R::Made>, ReadFault>
-    ensures { Reads result (each_from (R.reading reader.now) (seen place.now).at 0 (items_view list.now)) }
-{
-    let mut found = List::new(place.alloc);
-    for i in 0..list.len() {
-        let item = reader.read(&place.item(i, &list[i]))?;
-        found.add(item)?;
-    }
-    Ok(found)
-}
-
-#[tactic(auto, unfolding(crate::specs::Lists::each, crate::specs::Words::default))]
-fn each_some_here<'a, T: Drop, R: Reader<Made = Option<T>>>(
-    place: &'a Place<'a>,
-    reader: &R,
-) -> Result<List<T>, ReadFault>
-    ensures { Reads result (each_some (R.reading reader.now) (seen place.now)) }
-{
-    if place.is_absent() {
-        return Ok(List::new(place.alloc));
-    }
-    let list = place.list()?;
-    each_some_of(place, list, reader)
-}
-
-fn each_some_of<'a, T: Drop, R: Reader<Made = Option<T>>>(
-    place: &'a Place<'a>,
-    list: &'a [Value],
-    reader: &R,
-) -> Result<List<T>, ReadFault>
-    ensures { Reads result (kept (each_from (R.reading reader.now) (seen place.now).at 0 (items_view list.now))) }
-{
-    let mut found = List::new(place.alloc);
-    for i in 0..list.len() {
-        let item = reader.read(&place.item(i, &list[i]))?;
-        add_some(&mut found, item)?;
-    }
-    Ok(found)
-}
-
-fn add_some<T: Drop>(found: &mut List<T>, item: Option<T>) -> Result<(), Memory>
-    ensures { OnOk result (found.new ≡ found.old ++ option_to_list item) }
-{
-    match item {
-        Some(item) => found.add(item),
-        None => Ok(()),
     }
 }

@@ -1,14 +1,10 @@
-ghost use Rattle.std.specs.Prelude.{◌≡◌, ℕ, not, OnOk, IfOk, Result};
-ghost use Rattle.std.specs.List.{list_any};
-ghost use Rattle.k8s_meta.specs.Lists.{label_map};
-ghost use Rattle.k8s_meta.specs.Scalars.{is_label_byte, is_made_of, is_name, is_name_byte, is_namespace, name, namespace, number, ip, net};
+ghost use Rattle.k8s_meta.specs.Scalars.{name, name_within, namespace, number, ip, net};
 ghost use Rattle.k8s_meta.specs.Amounts.{duration, quantity};
-ghost use Rattle.k8s_meta.specs.Spots.{Reads, seen};
 ghost use Rattle.k8s_meta.specs.Words.{boolean, filled, text};
 
 use crate::duration::read_duration;
 use crate::fault::{ReadFault, What};
-use crate::names::{is_name, is_namespace};
+use crate::names::{is_label_within, is_name_within};
 use crate::place::Place;
 use crate::quantity::read_quantity;
 use crate::reader::Reader;
@@ -16,7 +12,7 @@ use mesh_base::text::Text;
 use net_cidr::ip::{Ip, read_ip};
 use net_cidr::net::{Net, read_net};
 
-/// Any text.
+/// Any string.
 #[derive(Clone, Copy)]
 pub struct AnyText;
 
@@ -31,7 +27,29 @@ impl Reader for AnyText {
     }
 }
 
-/// A text of 1 to 253 bytes among `a-z`, `0-9`, `-` and `.`.
+/// A string of 1 byte to so many, each of `a-z`, `0-9`, `-` and `.`.
+#[derive(Clone, Copy)]
+pub struct NameWithin {
+    pub most: usize,
+}
+
+impl Reader for NameWithin {
+    type Made = Text;
+
+    ghost reading = { λ r. name_within r.most };
+
+    #[tactic(auto, unfolding(crate::specs::Spots::then, crate::specs::Scalars::name_within))]
+    fn read<'a>(&self, place: &'a Place<'a>) -> Result<Text, ReadFault> {
+        let text = place.text()?;
+        if is_name_within(text.as_bytes(), self.most) {
+            Ok(Text::from_str(place.alloc(), text)?)
+        } else {
+            Err(place.bad_name())
+        }
+    }
+}
+
+/// The name of an object: a string of 1 to 253 bytes of `a-z`, `0-9`, `-` and `.`.
 #[derive(Clone, Copy)]
 pub struct Name;
 
@@ -40,18 +58,12 @@ impl Reader for Name {
 
     ghost reading = { λ _. name };
 
-    #[tactic(auto, unfolding(crate::specs::Scalars::name))]
     fn read<'a>(&self, place: &'a Place<'a>) -> Result<Text, ReadFault> {
-        let text = place.text()?;
-        if is_name(text) {
-            Ok(Text::from_str(place.alloc(), text)?)
-        } else {
-            Err(place.bad_name())
-        }
+        NameWithin { most: 253 }.read(place)
     }
 }
 
-/// A text of 1 to 63 bytes among `a-z`, `0-9` and `-`.
+/// The name of a namespace: a string of 1 to 63 bytes of `a-z`, `0-9` and `-`.
 #[derive(Clone, Copy)]
 pub struct Namespace;
 
@@ -60,10 +72,10 @@ impl Reader for Namespace {
 
     ghost reading = { λ _. namespace };
 
-    #[tactic(auto, unfolding(crate::specs::Scalars::namespace))]
+    #[tactic(auto, unfolding(crate::specs::Spots::then, crate::specs::Scalars::label_within))]
     fn read<'a>(&self, place: &'a Place<'a>) -> Result<Text, ReadFault> {
         let text = place.text()?;
-        if is_namespace(text) {
+        if is_label_within(text.as_bytes(), 63) {
             Ok(Text::from_str(place.alloc(), text)?)
         } else {
             Err(place.bad_name())
@@ -136,7 +148,7 @@ impl Reader for Address {
 
     ghost reading = { λ _. ip };
 
-    #[tactic(auto, unfolding(crate::specs::Scalars::ip))]
+    #[tactic(auto, unfolding(crate::specs::Spots::then, crate::specs::Scalars::ip))]
     fn read<'a>(&self, place: &'a Place<'a>) -> Result<Ip, ReadFault> {
         let text = place.text()?;
         place.valid(What::Address, read_ip(text.as_bytes()))
@@ -152,7 +164,7 @@ impl Reader for Network {
 
     ghost reading = { λ _. net };
 
-    #[tactic(auto, unfolding(crate::specs::Scalars::net))]
+    #[tactic(auto, unfolding(crate::specs::Spots::then, crate::specs::Scalars::net))]
     fn read<'a>(&self, place: &'a Place<'a>) -> Result<Net, ReadFault> {
         let text = place.text()?;
         place.valid(What::Network, read_net(text.as_bytes()))
@@ -168,7 +180,7 @@ impl Reader for Nanoseconds {
 
     ghost reading = { λ _. duration };
 
-    #[tactic(auto, unfolding(crate::specs::Amounts::duration))]
+    #[tactic(auto, unfolding(crate::specs::Spots::then, crate::specs::Amounts::duration))]
     fn read<'a>(&self, place: &'a Place<'a>) -> Result<u64, ReadFault> {
         let text = place.text()?;
         place.valid(What::Duration, read_duration(text.as_bytes()))
@@ -194,7 +206,7 @@ impl Reader for Thousandths {
     }
 }
 
-/// A text, where the empty one counts as absent.
+/// A string, where the empty one counts as absent.
 #[derive(Clone, Copy)]
 pub struct Filled<R>(pub R);
 
@@ -203,7 +215,7 @@ impl<R: Reader> Reader for Filled<R> {
 
     ghost reading = { λ r. filled (R.reading r.0) };
 
-    #[tactic(auto, unfolding(crate::specs::Words::filled, crate::specs::Words::unless))]
+    #[tactic(auto, unfolding(crate::specs::Spots::then, crate::specs::Words::filled, crate::specs::Words::unless))]
     fn read<'a>(&self, place: &'a Place<'a>) -> Result<Option<R::Made>, ReadFault> {
         let text = place.text()?;
         if text.is_empty() {

@@ -10,7 +10,7 @@ returns-in_default c = refuses c.loop-key.found c.loop-key.key-iterator c.next.n
 
 pub loop-key-preserved : goal.loop-key-preserved
 loop-key-preserved c =
-    rw (c.in_ok-put.ensures.ok, c.in_ok-key.ensures, c.in_ok-value.ensures, c.as_str-in-loop-key.ensures.value) (takes c.loop-key.found c.loop-key.key-iterator c.next.new.self c.args.members.now.entries c.in-Some.key.now c.in-Some.value.now c.in-Some-as_str.text.now c.in-Some.ensures.steps (sym c.if-is_null.ensures) (sym c.in-Some-as_str.ensures) c.loop-key.invariant)
+    rw (c.in_ok-put.ensures.ok, c.in_ok-key.ensures, c.in_ok-value.ensures, c.as_str.ensures.value) (takes c.loop-key.found c.loop-key.key-iterator c.next.new.self c.args.members.now.entries c.in-Some.key.now c.in-Some.value.now c.in-Some-string_in.text.now c.in-Some.ensures.steps (sym c.if-is_null.ensures) (sym c.in-Some-string_in.ensures) c.loop-key.invariant)
 
 pub returns : goal.returns
 returns c = ends c.loop-key.found c.loop-key.key-iterator c.args.members.now.entries c.in-None.ensures.steps.0 c.loop-key.invariant

@@ -1,0 +1,7 @@
+-- What a reading gives.
+use Rattle.std.specs.Prelude.{◌≡◌, Ok}
+use Rattle.k8s_meta.specs.Spots.{Reading, Spot}
+
+-- Each value that the reading gives is such.
+abbrev pub GivesOnly : {A : Type 0} → (A → Type 0) → Reading A → Type 0
+GivesOnly {A} P read = (s : Spot) (x : A) → read s ≡ Ok x → P x
