@@ -13,7 +13,6 @@ pub mod limits;
 pub mod list;
 pub mod memory;
 pub mod numeral;
-pub mod order;
 pub mod pieces;
 pub mod same;
 pub mod steps;

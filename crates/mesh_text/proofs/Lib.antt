@@ -4,4 +4,5 @@ pub mod JsonReading
 pub mod MethodTexts
 pub mod Names
 pub mod Pieces
+pub mod PortRefs
 pub mod Tokens

@@ -6,5 +6,6 @@ pub mod Json
 pub mod Methods
 pub mod Names
 pub mod PolicyWords
+pub mod PortRefs
 pub mod Targets
 pub mod Workloads

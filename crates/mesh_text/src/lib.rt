@@ -1,9 +1,9 @@
-//! The short texts that proxies, objects and command lines write: targets, workloads, context tokens, policies, request
-//! methods, API groups, and JSON itself.
+//! The short texts that proxies, objects and command lines write: targets, workloads, context tokens, policies, ports,
+//! request methods, API groups, and JSON itself.
 //!
 //! Stands on mesh_base, net_cidr, k8s_meta and view_types, on serde_json for tokens and on http for methods. Each call
 //! gives what its definition says: `specs/Targets`, `specs/Workloads`, `specs/Contexts`, `specs/PolicyWords`,
-//! `specs/Methods`, `specs/Groups`, `specs/Json`.
+//! `specs/PortRefs`, `specs/Methods`, `specs/Groups`, `specs/Json`.
 #![tactic(auto)]
 
 pub mod group;
@@ -12,6 +12,7 @@ pub mod laws;
 pub mod method;
 mod name;
 pub mod policy_word;
+pub mod port_ref;
 pub mod target_text;
 pub mod token;
 pub mod workload_text;

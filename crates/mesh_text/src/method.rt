@@ -1,6 +1,5 @@
 ghost use Rattle.std.specs.Prelude.{◌≡◌, IfOk};
 ghost use Rattle.mesh_text.specs.Methods.{is_method, method};
-ghost use Rattle.k8s_meta.specs.Spots.{Reads, seen};
 
 use http::Method;
 use http::method::MethodError;
@@ -20,7 +19,7 @@ impl Reader for MethodText {
 
     ghost reading = { λ _. method };
 
-    #[tactic(auto, unfolding(crate::specs::Methods::method))]
+    #[tactic(auto, unfolding(k8s_meta::specs::Spots::then, crate::specs::Methods::method))]
     fn read<'a>(&self, place: &'a Place<'a>) -> Result<Text, ReadFault> {
         let text = place.text()?;
         if is_method(place.alloc(), text)? {

@@ -1,8 +1,9 @@
 ghost use Rattle.mesh_text.specs.Answers.{Answers};
 ghost use Rattle.mesh_text.specs.Workloads.{workload_of};
 
-use crate::name::{is_name, name_text};
+use crate::name::name_text;
 use crate::target_text::TargetFault;
+use k8s_meta::names::is_name;
 use mesh_base::pieces::cut;
 use mesh_base::text::Text;
 use std::alloc::Global;
