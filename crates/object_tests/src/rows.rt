@@ -2,7 +2,7 @@
 //!
 //! A row that has no arrow, no kind or no JSON, or whose kind isn't known, fails as one does that is told otherwise.
 
-mod core;
+mod core_kinds;
 mod policy;
 mod profile;
 mod route;
@@ -95,13 +95,18 @@ fn is_so(alloc: Global, row: &str) -> bool {
 // An empty table splits into one empty row, which isn't so.
 #[test]
 fn rows(rt: HostRuntime) {
-    for table in [core::FAULTS, policy::FAULTS, profile::FAULTS, route::FAULTS] {
+    for table in [
+        core_kinds::FAULTS,
+        policy::FAULTS,
+        profile::FAULTS,
+        route::FAULTS,
+    ] {
         for row in table.split('\n') {
             assert!(rt; is_so(rt.alloc(), row), "at {row}");
         }
     }
     for table in [
-        core::OBJECTS,
+        core_kinds::OBJECTS,
         policy::OBJECTS,
         profile::OBJECTS,
         route::OBJECTS,

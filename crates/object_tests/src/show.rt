@@ -4,7 +4,7 @@
 //! what is absent is `-`.
 
 mod base;
-mod core;
+mod core_kinds;
 mod object;
 mod page;
 mod policy;
