@@ -2,10 +2,11 @@
 ghost use Rattle.std.specs.Prelude.{◌≡◌, ◌≢◌, ◌+◌, ◌<◌, ◌≤◌, ◌^◌, ◌⊎◌, ℕ, Bool, true, false, List, [], Option, length, take, IfOk, OnErr, Some};
 ghost use Rattle.std.specs.Io.KnownBytes.{Keeps, Consumes, IsAtEnd};
 ghost use Rattle.mesh_outside.specs.Causes.{Rose, Unrisen, HasCause};
-ghost use Rattle.line_run.specs.Rows.{Row, past_of};
-ghost use Rattle.line_run.specs.Run.{IsAnswered, IsTooLong, Come, Says, Stopped, OnEnd, OnStop, Whole, Part, TookLimit};
+ghost use Rattle.line_run.specs.Rows.{NoBreak, past_of};
+ghost use Rattle.line_run.specs.Run.{IsAnswered, IsTooLong, OnEnd, OnStop, Whole, Part, TookLimit};
+ghost use Rattle.line_run.specs.Within.{now_of, Come, Says, Stopped};
 
-use crate::cutter::Cutter;
+use crate::feeder::Feeder;
 use crate::write::flush;
 use crate::{LineMachine, Status};
 use mesh_base::limits::Limits;
@@ -76,8 +77,7 @@ pub fn run_lines<M: LineMachine, S: Source, K: Sink>(
     ensures read_later { S.faults source.old ≤ S.faults source.new }
     ensures write_later { K.faults sink.old ≤ K.faults sink.new }
 {
-    let mut cutter = Cutter::new(alloc, limits.line);
-    let mut out = Vec::new(alloc);
+    let mut feeder = Feeder::new(alloc);
     let Ok(mut store) = new_block(alloc) else {
         return Status::Memory;
     };
@@ -89,13 +89,13 @@ pub fn run_lines<M: LineMachine, S: Source, K: Sink>(
             return Status::ReadFault;
         };
         if n == 0 {
-            return end(&mut cutter, machine, &mut out, sink);
+            return end(&mut feeder, limits.line, machine, sink);
         }
         taken += n as u64;
-        if let Err(fault) = cutter.feed(machine, &block[..n], &mut out, sink) {
+        if let Err(fault) = feeder.feed(limits.line, machine, &block[..n], sink) {
             return status_of(fault);
         }
-        if let Err(fault) = flush(&mut out, sink) {
+        if let Err(fault) = flush(&mut feeder.out, sink) {
             return status_of(fault);
         }
     }
@@ -104,26 +104,29 @@ pub fn run_lines<M: LineMachine, S: Source, K: Sink>(
 
 // Ends the run: the last line, what the machine writes at the end, and the status.
 fn end<M: LineMachine, K: Sink>(
-    cutter: &mut Cutter,
+    feeder: &mut Feeder,
+    limit: u64,
     machine: &mut M,
-    out: &mut Vec<u8>,
     sink: &mut K,
 ) -> Status
-    requires { cutter.old.lines + 1 < 2 ^ 64 }
+    requires part { NoBreak feeder.old.cutter.part.items }
+    requires room { feeder.old.lines + 1 < 2 ^ 64 }
+    ensures refused { OnEnd result (λ refused. feeder.new.refused ≡ refused) }
+    ensures out { OnEnd result (λ refused. feeder.new.out.items ≡ []) }
     ensures whole { OnEnd result (λ refused. (start : M) (held : Option (List ℕ)) (taken : List ℕ)
-        → Come (M.stands start) cutter.old.limit held (K.held sink.old) taken out.old.items cutter.old.partial.items [] machine.old cutter.old.lines cutter.old.refused
-        → Says (M.ended start) held (K.held sink.new) (past_of cutter.old.limit taken) [] machine.new refused) }
+        → Come (M.stands start) limit held taken feeder.old.cutter.part.items (now_of machine.old (K.held sink.old) feeder.old)
+        → Says (M.ended start) held (past_of limit taken) (now_of machine.new (K.held sink.new) feeder.new)) }
     ensures part { OnStop result ((start : M) (held : Option (List ℕ)) (taken : List ℕ)
-        → Come (M.stands start) cutter.old.limit held (K.held sink.old) taken out.old.items cutter.old.partial.items [] machine.old cutter.old.lines cutter.old.refused
-        → Stopped (M.stands start) (M.ending start) (M.ended start) held (K.held sink.new) (past_of cutter.old.limit taken)) }
+        → Come (M.stands start) limit held taken feeder.old.cutter.part.items (now_of machine.old (K.held sink.old) feeder.old)
+        → Stopped (M.stands start) (M.ending start) (M.ended start) held (K.held sink.new) (past_of limit taken)) }
     ensures write { result ≡ Status.WriteFault → Rose (K.faults sink.old) (K.faults sink.new) }
     ensures others { (result ≢ Status.ReadFault) × (result ≢ Status.InputTooLong) }
     ensures write_later { K.faults sink.old ≤ K.faults sink.new }
 {
-    if let Err(fault) = cutter.finish(machine, out, sink) {
+    if let Err(fault) = feeder.finish(limit, machine, sink) {
         return status_of(fault);
     }
-    if cutter.refused {
+    if feeder.refused {
         Status::SomeRefused
     } else {
         Status::Done
