@@ -1,3 +1,6 @@
+ghost use Rattle.std.specs.Prelude.{◌≡◌};
+ghost use Rattle.mesh_base.specs.Limits.{usual_limits};
+
 /// How much a run may take and hold. Each limit is at least 1.
 #[derive(Clone, Copy, Debug, PartialEq, Eq)]
 pub struct Limits {
@@ -34,4 +37,11 @@ impl Limits {
         input: 4_294_967_296,
         request: 65_536,
     };
+
+    /// The limits that the programs use, by the table in `specs/Limits`.
+    pub fn usual() -> Limits
+        ensures { result ≡ usual_limits }
+    {
+        Limits::USUAL
+    }
 }
