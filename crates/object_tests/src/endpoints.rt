@@ -5,7 +5,7 @@ use mesh_base::memory::Memory;
 use mesh_base::text::Text;
 use serde_json::Value;
 use std::alloc::Global;
-use view_scratch::endpoints::endpoints_among;
+use view_scratch::endpoints::endpoints;
 use view_types::object::Object;
 
 /// A port of the Service `web` of `app`, the objects in order of their keys, and the endpoints.
@@ -71,8 +71,12 @@ fn is_so(alloc: Global, row: &str) -> Result<bool, Memory> {
     };
     let ns = Text::from_str(alloc, "app")?;
     let name = Text::from_str(alloc, "web")?;
-    let view = endpoints_among(alloc, objects.as_slice(), &ns, &name, port)?;
-    Ok(is_shown(alloc, &view, expected))
+    let view = endpoints(alloc, objects, &ns, &name, port)?;
+    let mut pairs = Vec::new(alloc);
+    for row in view.rows.as_slice() {
+        pairs.push((row.ip, row.port))?;
+    }
+    Ok(pairs)
 }
 
 #[test]

@@ -1,2 +1,3 @@
-mod Carried
+mod Cut
+pub mod Folded
 mod Pieces

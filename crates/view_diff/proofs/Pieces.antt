@@ -1,7 +1,7 @@
 -- Pieces of a list: the first, and then those of the rest.
-use Rattle.std.proofs.Common.{◌≡◌, ℕ, zero, suc, ◌+◌, ◌-◌, ◌<◌, ◌≤◌, min, List, [], ◌∷◌, ◌++◌, length, map, take, drop, refl, sym, ap, subst, ◌∙◌, append-nil, append_assoc, arith}
+use Rattle.std.proofs.Common.{◌≡◌, ℕ, zero, suc, ◌<◌, ◌≤◌, min, List, [], ◌∷◌, ◌++◌, length, map, take, drop, refl, sym, ap, subst, ◌∙◌, append-nil, append_assoc, arith}
 use Rattle.std.proofs.lemmas.List.{length-append, length-drop, take_all, take_at, drop_all, drop_at}
-use Rattle.view_types.specs.Batch.{in_pieces, pieces_up_to}
+use Rattle.view_rules.specs.Batch.{in_pieces, pieces_up_to}
 
 -- more room than there are items makes no difference
 enough_room : {X : Type 0} (n m size : ℕ) (xs : List X) → 1 ≤ size → length xs ≤ n → length xs ≤ m → pieces_up_to n size xs ≡ pieces_up_to m size xs

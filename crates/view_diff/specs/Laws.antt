@@ -1,24 +1,34 @@
--- What the first batch of a view carries.
-use Rattle.std.specs.Prelude.{◌≡◌, ◌+◌, ◌<◌, ◌≤◌, ℕ, List, [], length, slice_index_or, All, flat_map}
+-- What the messages of a first batch are, and what is seen by folding them.
+use Rattle.std.specs.Prelude.{◌≡◌, ◌+◌, ◌<◌, ◌≤◌, ℕ, List, Some, length, slice_index_or, All}
 use Rattle.mesh_base.specs.declared.limits.Limits.{Limits}
-use Rattle.view_types.specs.Batch.{first_batch}
-use Rattle.view_types.specs.declared.endpoint.EndpointRow.{EndpointRow}
+use Rattle.view_types.specs.Objects.{ObjectMap}
 use Rattle.view_types.specs.declared.endpoint.EndpointView.{EndpointView}
 use Rattle.view_types.specs.declared.message.Message.{Message}
 use Rattle.view_types.specs.declared.message.Message.TheVariants.{Add, NoEndpoints}
+use Rattle.view_types.specs.declared.query.Query.{Query}
+use Rattle.view_types.specs.declared.view.View.TheVariants.{Endpoints}
+use Rattle.view_rules.specs.Batch.{first_batch, first_messages}
+use Rattle.view_rules.specs.Fold.{IsOrderly, fold}
+use Rattle.view_rules.specs.Views.{view_of}
 
-abbrev pub rows_in : Message → List EndpointRow
-rows_in (Add rows) = rows
-rows_in (NoEndpoints exists) = []
+abbrev pub count_in : Message → ℕ
+count_in (Add rows) = length rows
+count_in (NoEndpoints exists) = 0
 
-pub record Carries (size : ℕ) (rows : List EndpointRow) (messages : List Message) : Type 0 where
-  -- joined, the messages' rows are the rows
-  pub joined : flat_map rows_in messages ≡ rows
-  -- each message but the last has exactly as many as may be, and the last no more
-  pub full : (k : ℕ) (d : Message) → k + 1 < length messages → length (rows_in (slice_index_or messages k d)) ≡ size
-  pub within : All (λ m. length (rows_in m) ≤ size) messages
+pub record IsCut (size : ℕ) (view : EndpointView) (messages : List Message) : Type 0 where
+  -- each message but the last has exactly as many rows as may be, and the last no more
+  pub full : (k : ℕ) (d : Message) → k + 1 < length messages → count_in (slice_index_or messages k d) ≡ size
+  pub within : All (λ m. count_in m ≤ size) messages
   -- where there are rows, no message is without
-  pub some : 0 < length rows → All (λ m. 0 < length (rows_in m)) messages
+  pub some : 0 < length view.rows → All (λ m. 0 < count_in m) messages
 
-abbrev pub FirstBatchCarries : Type 0
-FirstBatchCarries = (view : EndpointView) (limits : Limits) → 1 ≤ limits.frame_addrs → Carries limits.frame_addrs view.rows (first_batch view limits)
+abbrev pub FirstBatchIsCut : Type 0
+FirstBatchIsCut = (view : EndpointView) (limits : Limits) → 1 ≤ limits.frame_addrs → IsCut limits.frame_addrs view (first_batch view limits)
+
+-- folding the first batch of a view gives the view
+abbrev pub FirstBatchFolds : Type 0
+FirstBatchFolds = (view : EndpointView) (limits : Limits) → 1 ≤ limits.frame_addrs → IsOrderly view → fold (first_batch view limits) ≡ Some (Endpoints view)
+
+-- whatever is held, folding the first messages of a query gives its view
+abbrev pub FirstMessagesFold : Type 0
+FirstMessagesFold = (held : ObjectMap) (query : Query) (limits : Limits) → 1 ≤ limits.frame_addrs → fold (first_messages limits (view_of held query)) ≡ view_of held query

@@ -1,5 +1,5 @@
 ghost use Rattle.std.specs.Prelude.{◌≡◌, ◌≤◌, [], ◌∷◌, map, IfOk};
-ghost use Rattle.view_types.specs.Batch.{first_batch, in_pieces};
+ghost use Rattle.view_rules.specs.Batch.{first_batch, in_pieces};
 ghost use Rattle.view_types.specs.declared.message.Message.TheVariants.{Add, NoEndpoints};
 
 use mesh_base::copied::Copied;

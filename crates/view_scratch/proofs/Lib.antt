@@ -1,6 +1,3 @@
-mod Among
 mod FirstOfEach
-mod FirstRows
 mod Found
-mod Given
 mod Held

@@ -1,7 +1,7 @@
 ghost use Rattle.std.specs.Prelude.{◌≡◌, ◌++◌, ◌&&◌, IfOk, OnOk, flat_map, option_to_list};
 ghost use Rattle.std.specs.Option.{option_copied};
 ghost use Rattle.std.specs.Str.{bytes_eq};
-ghost use Rattle.view_types.specs.Endpoints.{address_rows, bare_row, has_addresses, is_text, point_rows, port_rows, service_of, slice_in, slice_rows, slices_among};
+ghost use Rattle.view_rules.specs.Endpoints.{address_rows, bare_row, has_addresses, is_text, point_rows, port_rows, service_of, slice_in, slice_rows, slices_among};
 
 use mesh_base::labels::Labels;
 use mesh_base::list::List;
@@ -16,7 +16,7 @@ use view_types::slice::{Family, Point, Slice};
 
 /// A row for each place in the Service's slices that gives one at ports of this name. A pair of address and port
 /// stands as often as places give it.
-pub fn rows_of_places(
+pub(crate) fn rows_of_places(
     alloc: Global,
     objects: &[Object],
     ns: &Text,
@@ -162,7 +162,7 @@ fn add_port(
 }
 
 /// An endpoint of which only the address and port are known.
-pub fn bare_row(alloc: Global, ip: Ip, port: u16) -> EndpointRow
+fn bare_row(alloc: Global, ip: Ip, port: u16) -> EndpointRow
     ensures { result ≡ bare_row ip port }
 {
     EndpointRow {

@@ -1,6 +1,7 @@
-ghost use Rattle.std.specs.Prelude.{◌≡◌, IfOk, false, []};
+ghost use Rattle.std.specs.Prelude.{◌≡◌, IfOk};
 ghost use Rattle.std.specs.Option.{option_copied};
-ghost use Rattle.view_types.specs.Endpoints.{endpoints_among, rows_among};
+ghost use Rattle.view_rules.specs.Endpoints.{no_endpoints, rows_from, slices_among};
+ghost use Rattle.view_scratch.specs.Scan.{IsViewOf, endpoints_among};
 
 use crate::collect::rows_of_places;
 use crate::pairs::first_rows;
@@ -12,8 +13,20 @@ use std::alloc::Global;
 use view_types::endpoint::{EndpointRow, EndpointView};
 use view_types::object::Object;
 
-/// The endpoints of the Service port, among objects in the order of their keys.
-pub fn endpoints_among(
+/// The endpoints of the Service port, among all objects that are held, in the order of their keys.
+pub fn endpoints(
+    alloc: Global,
+    objects: &[Object],
+    ns: &Text,
+    name: &Text,
+    port: u16,
+) -> Result<EndpointView, Memory>
+    ensures { IfOk result (IsViewOf objects.now ns.now name.now port) }
+{
+    endpoints_among(alloc, objects, ns, name, port)
+}
+
+fn endpoints_among(
     alloc: Global,
     objects: &[Object],
     ns: &Text,
@@ -36,7 +49,7 @@ pub fn endpoints_among(
 }
 
 fn no_endpoints(alloc: Global) -> EndpointView
-    ensures { result ≡ record { exists = false; rows = [] } }
+    ensures { result ≡ no_endpoints }
 {
     EndpointView {
         exists: false,
@@ -51,7 +64,7 @@ fn rows_among(
     name: &Text,
     port_name: Option<&Text>,
 ) -> Result<List<EndpointRow>, Memory>
-    ensures { IfOk result (λ rows. rows ≡ rows_among ns.now name.now (option_copied port_name.entry) objects.now) }
+    ensures { IfOk result (λ rows. rows ≡ rows_from (slices_among ns.now name.now objects.now) (option_copied port_name.entry)) }
 {
     match port_name {
         Some(port_name) => first_rows(rows_of_places(alloc, objects, ns, name, port_name)?),

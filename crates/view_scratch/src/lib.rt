@@ -1,10 +1,10 @@
 //! Views by plain filters over all objects, which every other way of finding them is held against.
 //!
-//! Stands on view_types. The contract cites the endpoints of a Service port (`Endpoints` of view_types).
+//! Stands on view_rules. The contract cites the endpoints of a Service port (`Endpoints` of view_rules), for each map of
+//! objects that has the objects scanned.
 #![tactic(auto)]
 
-pub mod collect;
+mod collect;
 pub mod endpoints;
-pub mod laws;
-pub mod pairs;
-pub mod service;
+mod pairs;
+mod service;

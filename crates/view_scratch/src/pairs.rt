@@ -2,7 +2,7 @@ ghost use Rattle.std.specs.Prelude.{◌≡◌, ◌&&◌, IfOk, IsTrue};
 ghost use Rattle.std.specs.List.{dedup};
 ghost use Rattle.std.specs.List.Sorted.{IsSorted, IsStable};
 ghost use Rattle.std.specs.Ordering.{is_eq};
-ghost use Rattle.view_types.specs.Endpoints.{first_rows, pair_cmp, pair_of};
+ghost use Rattle.view_rules.specs.Endpoints.{first_rows, pair_cmp, pair_of};
 
 use mesh_base::list::List;
 use mesh_base::memory::Memory;
@@ -11,7 +11,7 @@ use std::cmp::Ordering;
 use view_types::endpoint::EndpointRow;
 
 /// Each pair of address and port once, in order, by the first row of the pair.
-pub fn first_rows(rows: List<EndpointRow>) -> Result<List<EndpointRow>, Memory>
+pub(crate) fn first_rows(rows: List<EndpointRow>) -> Result<List<EndpointRow>, Memory>
     ensures { IfOk result (λ first. first ≡ first_rows rows) }
 {
     let sorted = by_pair(rows)?;

@@ -1,13 +1,18 @@
 ghost use Rattle.std.specs.Prelude.{◌≡◌, ◌&&◌, ◌==◌, find, option_map};
 ghost use Rattle.std.specs.Option.{option_copied};
-ghost use Rattle.view_types.specs.Endpoints.{port_name, service_among, service_in};
+ghost use Rattle.view_rules.specs.Endpoints.{port_name};
+ghost use Rattle.view_scratch.specs.Scan.{service_among, service_in};
 
 use mesh_base::text::Text;
 use view_types::object::Object;
 use view_types::service::{NamedPort, Service};
 
 /// The Service of the namespace and name.
-pub fn service_among<'a>(objects: &'a [Object], ns: &Text, name: &Text) -> Option<&'a Service>
+pub(crate) fn service_among<'a>(
+    objects: &'a [Object],
+    ns: &Text,
+    name: &Text,
+) -> Option<&'a Service>
     ensures { option_copied result ≡ service_among ns.now name.now objects.now }
 {
     for object in objects {
@@ -36,7 +41,7 @@ fn service_in<'a>(object: &'a Object, ns: &Text, name: &Text) -> Option<&'a Serv
 }
 
 /// The name of the first TCP port of the number.
-pub fn port_name(ports: &[NamedPort], number: u16) -> Option<&Text>
+pub(crate) fn port_name(ports: &[NamedPort], number: u16) -> Option<&Text>
     ensures { option_copied result ≡ port_name number ports.now }
 {
     match tcp_port(ports, number) {

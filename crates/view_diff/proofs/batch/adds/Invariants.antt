@@ -1,6 +1,6 @@
 use Rattle.std.proofs.Common.{◌≡◌, ◌++◌, map}
 use Rattle.std.specs.Slice.Iter.{chunks_rest, chunks_size}
-use Rattle.view_types.specs.Batch.{in_pieces}
+use Rattle.view_rules.specs.Batch.{in_pieces}
 use Rattle.view_types.specs.declared.message.Message.TheVariants.{Add}
 use Rattle.view_diff.proofs.batch.adds.Given as goal
 

@@ -1,6 +1,6 @@
 use Rattle.std.proofs.Common.{◌≡◌, ◌++◌, take}
 use Rattle.std.specs.List.{flat_map}
-use Rattle.view_types.specs.Endpoints.{port_rows}
+use Rattle.view_rules.specs.Endpoints.{port_rows}
 use Rattle.view_scratch.proofs.collect.add_address.Given as goal
 
 -- the rows of the ports so far are added

@@ -1,6 +1,6 @@
 use Rattle.std.proofs.Common.{◌≡◌, ◌++◌, take}
 use Rattle.std.specs.List.{flat_map}
-use Rattle.view_types.specs.Endpoints.{address_rows}
+use Rattle.view_rules.specs.Endpoints.{address_rows}
 use Rattle.view_scratch.proofs.collect.add_addresses.Given as goal
 
 -- the rows of the ips so far are added

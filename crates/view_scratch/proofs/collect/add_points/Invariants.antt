@@ -1,6 +1,6 @@
 use Rattle.std.proofs.Common.{◌≡◌, ◌++◌, take}
 use Rattle.std.specs.List.{flat_map}
-use Rattle.view_types.specs.Endpoints.{point_rows}
+use Rattle.view_rules.specs.Endpoints.{point_rows}
 use Rattle.view_scratch.proofs.collect.add_points.Given as goal
 
 -- the rows of the points so far are added

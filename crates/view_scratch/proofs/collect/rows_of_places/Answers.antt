@@ -1,7 +1,7 @@
 use Rattle.std.proofs.Common.{ap, option_to_list, ◌∙◌}
 use Rattle.std.specs.List.{flat_map}
 use Rattle.std.proofs.lemmas.List.{take_all}
-use Rattle.view_types.specs.Endpoints.{slice_in, slice_rows}
+use Rattle.view_rules.specs.Endpoints.{slice_in, slice_rows}
 use Rattle.view_scratch.proofs.Found.{each_found}
 use Rattle.view_scratch.proofs.collect.rows_of_places.Goals as goal
 

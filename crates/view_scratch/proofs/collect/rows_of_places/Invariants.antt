@@ -1,6 +1,6 @@
 use Rattle.std.proofs.Common.{◌≡◌, take, option_to_list}
 use Rattle.std.specs.List.{flat_map}
-use Rattle.view_types.specs.Endpoints.{slice_in, slice_rows}
+use Rattle.view_rules.specs.Endpoints.{slice_in, slice_rows}
 use Rattle.view_scratch.proofs.collect.rows_of_places.Given as goal
 
 -- the rows of the objects so far are there

@@ -1,7 +1,7 @@
 use Rattle.std.proofs.Common.{rules}
 use Rattle.std.proofs.lemmas.List.Sorted.{answers_always, ranks_by}
-use Rattle.view_types.specs.Endpoints.{pair_of}
-use Rattle.view_types.proofs.Pairs.{pairs_total}
+use Rattle.view_rules.specs.Endpoints.{pair_of}
+use Rattle.view_rules.proofs.Pairs.{pairs_total}
 use Rattle.view_scratch.proofs.pairs.by_pair.Goals as goal
 
 pub returns-clause-sorted : goal.returns-clause-sorted

@@ -1,5 +1,5 @@
 use Rattle.std.proofs.Common.{◌≡◌, drop}
-use Rattle.view_types.specs.Endpoints.{service_among}
+use Rattle.view_scratch.specs.Scan.{service_among}
 use Rattle.view_scratch.proofs.service.service_among.Given as goal
 
 -- what is to be found stands among the rest

@@ -1,0 +1,7 @@
+pub mod Among
+pub mod Entries
+mod FirstRows
+pub mod Given
+pub mod Orderly
+pub mod Pairs
+mod Slices

@@ -1,0 +1,66 @@
+-- The endpoints of a Service port, by the places that give them.
+use Rattle.std.specs.Prelude.{◌≡◌, ◌↔◌, ℕ, Bool, if◌then◌else◌, IsTrue, List, Option, Some, None, All, Contains, find, map}
+use Rattle.std.specs.Cmp.Lexicographic.{slice_cmp}
+use Rattle.std.specs.FinMap.{get}
+use Rattle.std.specs.List.Sorted.{IsStrictlySortedBy}
+use Rattle.std.specs.Ordering.{eq_by_cmp, nat_cmp}
+use Rattle.mesh_base.specs.declared.key.ObjKey.{ObjKey}
+use Rattle.net_cidr.specs.declared.ip.Ip.{Ip}
+use Rattle.view_types.specs.Objects.{AtKeys, ObjectMap}
+use Rattle.view_types.specs.declared.endpoint.EndpointRow.{EndpointRow}
+use Rattle.view_types.specs.declared.object.Object.TheVariants as object
+use Rattle.view_types.specs.declared.service.NamedPort.{NamedPort}
+use Rattle.view_types.specs.declared.service.Service.{Service}
+use Rattle.view_types.specs.declared.slice.Point.{Point}
+use Rattle.view_types.specs.declared.slice.Slice.{Slice}
+use Rattle.view_rules.specs.Endpoints.{endpoints, first_rows, has_addresses, pair_cmp, pair_of, port_name, service_held, service_of, slices_held}
+use Rattle.view_rules.specs.Fold.{IsOrderly}
+
+-- the name of the Service port of the number, where the Service has endpoints
+abbrev pub name_of_port : ℕ → Option Service → Option (List ℕ)
+name_of_port number None = None
+name_of_port number (Some s) = if s.external then None else port_name number s.ports
+
+-- some place in the slices of the Service gives the address and port, at a port of the Service port's name
+pub record IsGiven (held : ObjectMap) (ns name : List ℕ) (named : Option (List ℕ)) (ip : Ip) (port : ℕ) : Type 0 where
+  pub slice : Slice
+  pub key : ObjKey
+  pub at_key : get held key ≡ Some (object.EndpointSlice slice)
+  pub in_namespace : slice.meta.ns ≡ ns
+  pub of_service : service_of slice ≡ Some name
+  pub with_addresses : IsTrue (has_addresses slice.family)
+  pub point : Point
+  pub among_points : Contains slice.points point
+  pub ready : IsTrue point.ready
+  pub among_addresses : Contains point.addrs ip
+  pub entry : NamedPort
+  pub among_ports : Contains slice.ports entry
+  pub tcp : IsTrue entry.tcp
+  pub same_name : named ≡ Some entry.name
+  pub number : entry.port ≡ port
+
+-- a pair stands in the view exactly where some place gives it
+abbrev pub PairsAreGiven : Type 0
+PairsAreGiven = (held : ObjectMap) (ns name : List ℕ) (number : ℕ) (ip : Ip) (port : ℕ)
+    → Contains (map pair_of (endpoints held ns name number).rows) (ip, port) ↔ IsGiven held ns name (name_of_port number (service_held held ns name)) ip port
+
+abbrev pub is_at : Ip × ℕ → EndpointRow → Bool
+is_at pair row = eq_by_cmp pair_cmp pair (pair_of row)
+
+-- the rows rise by address and port, each pair once, and each is the first of its pair
+pub record AreFirst (rows first : List EndpointRow) : Type 0 where
+  pub rise : IsStrictlySortedBy pair_cmp (map pair_of first)
+  pub firsts : All (λ row. find (is_at (pair_of row)) rows ≡ Some row) first
+  pub all : All (λ row. Contains (map pair_of first) (pair_of row)) rows
+
+abbrev pub FirstRowsAreFirst : Type 0
+FirstRowsAreFirst = (rows : List EndpointRow) → AreFirst rows (first_rows rows)
+
+-- the slices of a Service come in the order of their names, so that the first place is the least
+abbrev pub SlicesByName : Type 0
+SlicesByName = (held : ObjectMap) → AtKeys held → (ns name : List ℕ)
+    → IsStrictlySortedBy (slice_cmp nat_cmp) (map (λ (s : Slice). s.meta.name) (slices_held held ns name))
+
+-- the rows of each view are in order, and a Service that isn't there has none
+abbrev pub EndpointsAreOrderly : Type 0
+EndpointsAreOrderly = (held : ObjectMap) (ns name : List ℕ) (port : ℕ) → IsOrderly (endpoints held ns name port)

@@ -1,0 +1,5 @@
+pub mod Batch
+pub mod Endpoints
+pub mod Fold
+pub mod Laws
+pub mod Views

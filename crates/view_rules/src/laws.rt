@@ -1,0 +1,21 @@
+ghost use Rattle.view_rules.specs.Laws.{EndpointsAreOrderly, FirstRowsAreFirst, PairsAreGiven, SlicesByName};
+
+/// A pair of address and port stands in a view exactly where some place gives it.
+pub fn pairs_are_given()
+    ensures { PairsAreGiven }
+{}
+
+/// Rows are in order of address and port, each pair once, by the first row of the pair.
+pub fn first_rows_are_first()
+    ensures { FirstRowsAreFirst }
+{}
+
+/// The slices of a Service come in the order of their names, so that the first place is the least.
+pub fn slices_by_name()
+    ensures { SlicesByName }
+{}
+
+/// The rows of each view are in order, and a Service that isn't there has none.
+pub fn endpoints_are_orderly()
+    ensures { EndpointsAreOrderly }
+{}

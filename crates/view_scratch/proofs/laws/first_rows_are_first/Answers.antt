@@ -1,5 +1,0 @@
-use Rattle.view_scratch.proofs.FirstRows.{are_first}
-use Rattle.view_scratch.proofs.laws.first_rows_are_first.Goals as goal
-
-pub returns : goal.returns
-returns c = are_first

@@ -1,5 +1,0 @@
-use Rattle.view_scratch.proofs.Given.{pairs_are_given}
-use Rattle.view_scratch.proofs.laws.pairs_are_given.Goals as goal
-
-pub returns : goal.returns
-returns c = pairs_are_given
