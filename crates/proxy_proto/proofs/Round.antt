@@ -20,7 +20,7 @@ use Rattle.proto_wire.specs.Wire.{scan_in, spelled, spelling}
 use Rattle.proto_wire.proofs.Spellings.{spelling-append}
 use Rattle.proxy_proto.specs.Messages.{chunk, number_field, fixed64_field, bool_field, text_field, optional_field, each_field, half_records, ip_records, address_records, label_records, identity_records, h2_field, hint_records, hint_field, row_records, message_records, canonical}
 use Rattle.proxy_proto.specs.Reading.{records_of, value_at, number_from, fixed64_from, chunk_from, inside, each_in, ip_in, label_in, some_text, identity_in, tunnel_in, row_in, message_in}
-use Rattle.proxy_proto.specs.Sendable.{PortFits, IsSendableRow, IsSendable}
+use Rattle.proxy_proto.specs.Sendable.{PortFits, IsSendableIdentity, IsSendableRow, IsSendable}
 use Rattle.proxy_proto.proofs.Found.{IsSound, recorded, body_short, all_inside, sound_append, sound_number, sound_fixed64, sound_chunk, sound_optional, sound_each, skip, not_number, not_fixed64, not_optional, not_each, found_number, found_fixed64, only_number, only_fixed64, each_skip, each_back}
 
 nothing_read : records_of [] ≡ []
@@ -102,7 +102,7 @@ name_back : (name : List ℕ) → chunk_from (value_at 1 (text_field 1 name)) �
 name_back [] = refl
 name_back (b ∷ bytes) = refl
 
-some_name : (name : List ℕ) → Some name ≢ Some [] → some_text name ≡ Some name
+some_name : (name : List ℕ) → name ≢ [] → some_text name ≡ Some name
 some_name [] h = absurd (h refl)
 some_name (b ∷ bytes) h = refl
 
@@ -110,7 +110,7 @@ identity_sound : (name : List ℕ) → AllByRecursion IsSound (identity_records 
 unfolding identity_records
 identity_sound name = (sound_chunk 1 (spelling (text_field 1 name)) (lit< tt) (lit< tt), tt)
 
-name_read : (name : List ℕ) → Some name ≢ Some [] → length (spelling (identity_records name)) < 2 ^ 64 → identity_in (identity_records name) ≡ Some name
+name_read : (name : List ℕ) → name ≢ [] → length (spelling (identity_records name)) < 2 ^ 64 → identity_in (identity_records name) ≡ Some name
 unfolding identity_records identity_in
 name_read name some lt =
     let short = first_short 1 (spelling (text_field 1 name)) [] in
@@ -120,11 +120,11 @@ no_identity : identity_in [] ≡ None
 unfolding identity_in scan_in
 no_identity = refl
 
-identity_back : (identity : Option (List ℕ)) → identity ≢ Some [] → length (spelling (optional_field 5 identity_records identity)) < 2 ^ 64 → identity_in (inside 5 (optional_field 5 identity_records identity)) ≡ identity
+identity_back : (identity : Option (List ℕ)) → IsSendableIdentity identity → length (spelling (optional_field 5 identity_records identity)) < 2 ^ 64 → identity_in (inside 5 (optional_field 5 identity_records identity)) ≡ identity
 identity_back None some lt = ap identity_in nothing_read ∙ no_identity
 identity_back (Some name) some lt =
     let short = first_short 5 (spelling (identity_records name)) [] in
-    ap identity_in (recorded (identity_records name) (identity_sound name) (omega arith)) ∙ name_read name some (omega arith)
+    ap identity_in (recorded (identity_records name) (identity_sound name) (omega arith)) ∙ name_read name some.0 (omega arith)
 
 -- ---- a hint
 

@@ -1,7 +1,8 @@
--- Which messages can be read again: numbers are of their types, an identity isn't the empty text, and lengths fit 64
--- bits.
-use Rattle.std.specs.Prelude.{ℕ, ◌<◌, ◌≢◌, ◌^◌, [], Option, Some, None, length}
+-- Which messages can be read again: numbers are of their types, strings are in UTF-8, an identity isn't the empty
+-- string, and lengths fit 64 bits.
+use Rattle.std.specs.Prelude.{ℕ, ◌<◌, ◌≢◌, ◌^◌, List, [], Option, Some, None, IsUtf8, length}
 use Rattle.std.specs.List.{AllByRecursion}
+use Rattle.std.specs.FinMap.{entries}
 use Rattle.net_cidr.specs.Texts.{FitsIp}
 use Rattle.view_types.specs.declared.endpoint.EndpointRow.{EndpointRow}
 use Rattle.view_types.specs.declared.message.Message.{Message}
@@ -12,12 +13,20 @@ abbrev pub PortFits : Option ℕ → Type 0
 PortFits None = Unit {0}
 PortFits (Some port) = port < 65536
 
+abbrev pub IsSendableLabel : List ℕ × List ℕ → Type 0
+IsSendableLabel label = IsUtf8 label.0 × IsUtf8 label.1
+
+abbrev pub IsSendableIdentity : Option (List ℕ) → Type 0
+IsSendableIdentity None = Unit {0}
+IsSendableIdentity (Some name) = (name ≢ []) × IsUtf8 name
+
 pub record IsSendableRow (row : EndpointRow) : Type 0 where
   pub ip : FitsIp row.ip
   pub port : row.port < 65536
   pub weight : row.weight < 2 ^ 32
   pub tunnel : PortFits row.tunnel
-  pub identity : row.identity ≢ Some []
+  pub labels : AllByRecursion IsSendableLabel (entries row.labels)
+  pub identity : IsSendableIdentity row.identity
 
 pub record IsSendable (message : Message) : Type 0 where
   pub rows : AllByRecursion IsSendableRow (rows_in message)
