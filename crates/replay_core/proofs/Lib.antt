@@ -1,3 +1,4 @@
 pub mod Fronts
+pub mod Lives
 pub mod Rows
 pub mod Telling

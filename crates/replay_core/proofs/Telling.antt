@@ -21,14 +21,15 @@ use Rattle.watch_events.specs.declared.line.Line.{Line}
 use Rattle.watch_events.specs.declared.line.Line.TheVariants as lines
 use Rattle.watch_events.specs.declared.line.LineFault.{LineFault}
 use Rattle.replay_core.specs.declared.refusal.Refusal.{Refusal}
-use Rattle.replay_core.specs.History.{State, reading, row_refusal, after_line, unless_refused, after}
-use Rattle.replay_core.specs.LookBack.{told_by, last_told, IsToldByTheLast}
+use Rattle.replay_core.specs.History.{State, refusal_after, after_line, unless_refused, after}
+use Rattle.replay_core.specs.LookBack.{told_by, last_told, IsToldByTheLast, RefusedChangesNothing}
+use Rattle.replay_core.specs.Program.{Program, reading, replay_of}
 
 chosen : (b : Bool) (told before : Option Object) → cond b told before ≡ last_told None (cond b (Some told) None) before
 chosen true told before = refl
 chosen false told before = refl
 
-abbrev AreLawful : Result Line LineFault → Type 0
+abbrev pub AreLawful : Result Line LineFault → Type 0
 AreLawful line = IfOk line IsLawfulLine
 
 told_step : (now : State) (line : Result Line LineFault) (refusal : Option Refusal) (key : ObjKey) → AreLawful line
@@ -43,19 +44,28 @@ told_step now (Ok (lines.Event (Relist kind items))) None key lawful = put_all.r
 told_step now (Ok (lines.Event (Set object))) None key lawful = get-insert keys_total now.objects (key_of object) object key ∙ chosen (eq_by_cmp key_cmp key (key_of object)) (Some object) (get now.objects key)
 told_step now (Ok (lines.Event (Delete gone))) None key lawful = get-remove keys_total now.objects gone key ∙ chosen (eq_by_cmp key_cmp key gone) None (get now.objects key)
 
--- what a row says is lawful
-row_lawful : (config : Config) (limits : Limits) (row : Row) → AreLawful (reading config limits row)
-row_lawful config limits None = tt
-row_lawful config limits (Some bytes) = by_value config limits bytes (line_of config limits bytes) refl
-  where
-    by_value : (config : Config) (limits : Limits) (bytes : List ℕ) (line : Result Line LineFault) → line_of config limits bytes ≡ line → AreLawful line
-    by_value config limits bytes (Ok line) is = line_gives config limits bytes line is
-    by_value config limits bytes (Err fault) is = tt
+-- what the lines of a program say is lawful
+abbrev pub ReadsLawfully : Program → Type 0
+ReadsLawfully program = (bytes : List ℕ) (line : Line) → program.reads bytes ≡ Ok line → IsLawfulLine line
 
-pub told_by_the_last : IsToldByTheLast
-told_by_the_last config limits [] key = get-empty key_cmp key
-told_by_the_last config limits (row ∷ past) key =
-    let now = after config limits past in
-    let line = reading config limits row in
-    let refusal = row_refusal config limits now row in
-    told_step now line refusal key (row_lawful config limits row) ∙ ap (last_told refusal (told_by line key)) (told_by_the_last config limits past key)
+pub row_lawful : (program : Program) → ReadsLawfully program → (row : Row) → AreLawful (reading program row)
+row_lawful program reads None = tt
+row_lawful program reads (Some bytes) = by_value (program.reads bytes) refl
+  where
+    by_value : (line : Result Line LineFault) → program.reads bytes ≡ line → AreLawful line
+    by_value (Ok line) is = reads bytes line is
+    by_value (Err fault) is = tt
+
+pub told_by_the_last : (program : Program) → ReadsLawfully program → IsToldByTheLast program
+told_by_the_last program reads [] key = get-empty key_cmp key
+told_by_the_last program reads (row ∷ past) key =
+    let now = after program past in
+    let line = reading program row in
+    let refusal = refusal_after program past row in
+    told_step now line refusal key (row_lawful program reads row) ∙ ap (last_told refusal (told_by line key)) (told_by_the_last program reads past key)
+
+pub replay_reads_lawfully : (config : Config) (limits : Limits) → ReadsLawfully (replay_of config limits)
+replay_reads_lawfully config limits = line_gives config limits
+
+pub refused_changes_nothing : (program : Program) → RefusedChangesNothing program
+refused_changes_nothing program past row refusal is = ap (λ (r : Option Refusal). unless_refused r (after program past) (after_line (after program past) (reading program row))) is

@@ -1,20 +1,22 @@
--- What a list of rows leads to: the objects held, the live subscriptions and the greatest accepted id. Each definition
--- looks back through the list, which has the newest row first.
-use Rattle.std.specs.Prelude.{ℕ, List, [], ◌∷◌, ◌++◌, length, ◌==◌, nat_lt, if◌then◌else◌, Option, Some, None, Result, Ok, Err, option_map}
+-- What a list of rows leads to: the objects held, the live subscriptions and the greatest accepted id.
+--
+-- The list has the newest row first. What a row leads to is told by what the rows before it led to: there the row is
+-- refused and changes nothing, or it does what it says. That is how a program goes on from row to row. How the same
+-- looks from a row backwards is proved of it: the last accepted row that speaks of a key tells what is held there
+-- (`LookBack`), and the last accepted row that speaks of an id tells whether a query is live under it, and which
+-- (`Live`); live ids ascend, and the greatest accepted id is the greatest of those of all accepted subscriptions.
+use Rattle.std.specs.Prelude.{ℕ, List, [], ◌∷◌, ◌++◌, length, ◌==◌, nat_lt, if◌then◌else◌, Bool, Option, Some, None, Result, Ok, Err, option_map}
 use Rattle.std.specs.FinMap as map
-use Rattle.mesh_base.specs.declared.limits.Limits.{Limits}
 use Rattle.line_run.specs.Rows.{Row}
-use Rattle.view_types.specs.declared.config.Config.{Config}
 use Rattle.view_types.specs.Objects.{ObjectMap, key_of}
 use Rattle.object_store.specs.Changes.{lacks_room}
 use Rattle.object_store.specs.Relisted.{exceeds, relisted}
-use Rattle.watch_events.specs.Lines.{line_of}
 use Rattle.watch_events.specs.declared.event.Event.{Event}
 use Rattle.watch_events.specs.declared.event.Event.TheVariants.{Set, Delete, Relist, Bookmark}
 use Rattle.watch_events.specs.declared.line.Line.{Line}
 use Rattle.watch_events.specs.declared.line.Line.TheVariants as lines
 use Rattle.watch_events.specs.declared.line.LineFault.{LineFault}
-use Rattle.watch_events.specs.declared.line.LineFault.TheVariants.{TooLong}
+use Rattle.replay_core.specs.Program.{Program, reading}
 use Rattle.replay_core.specs.declared.cluster.Subscription.{Subscription}
 use Rattle.replay_core.specs.declared.refusal.HubFault.{HubFault}
 use Rattle.replay_core.specs.declared.refusal.HubFault.TheVariants.{Full, TooManySubs, IdOrder}
@@ -28,11 +30,6 @@ pub record State : Type 0 where
 
 abbrev pub nothing : State
 nothing = record { objects = map.empty; subs = []; last = None }
-
--- what a row says, or why it doesn't read
-abbrev pub reading : Config → Limits → Row → Result Line LineFault
-reading config limits None = Err TooLong
-reading config limits (Some line) = line_of config limits line
 
 -- A set is refused where its key is new and there is no room, and a list where more objects would be held than may be.
 abbrev pub event_refusal : ℕ → State → Event → Option HubFault
@@ -49,14 +46,17 @@ abbrev pub subscribe_refusal : ℕ → Option ℕ → List Subscription → ℕ 
 subscribe_refusal limit None subs id = room_refusal limit subs
 subscribe_refusal limit (Some last) subs id = if nat_lt last id then room_refusal limit subs else Some (IdOrder last)
 
--- why a line is refused in a state, where so many objects may be held and so many subscriptions live
--- A replay ends with its input alone.
-abbrev pub refusal_of : ℕ → ℕ → State → Result Line LineFault → Option Refusal
-refusal_of objects subs now (Err fault) = Some (refusals.Line fault)
-refusal_of objects subs now (Ok lines.Blank) = None
-refusal_of objects subs now (Ok (lines.Event event)) = option_map refusals.Hub (event_refusal objects now event)
-refusal_of objects subs now (Ok (lines.Subscribe id query)) = option_map refusals.Hub (subscribe_refusal subs now.last now.subs id.0)
-refusal_of objects subs now (Ok lines.Stop) = Some refusals.NotHere
+-- why what a line says can't be done in a state, where so many objects may be held and so many subscriptions live
+abbrev pub hub_refusal : ℕ → ℕ → State → Line → Option HubFault
+hub_refusal objects subs now lines.Blank = None
+hub_refusal objects subs now (lines.Event event) = event_refusal objects now event
+hub_refusal objects subs now (lines.Subscribe id query) = subscribe_refusal subs now.last now.subs id.0
+hub_refusal objects subs now lines.Stop = None
+
+-- Why a line is refused: it doesn't read, it has no place in the program, or what it says can't be done.
+abbrev pub refusal_of : (Line → Bool) → ℕ → ℕ → State → Result Line LineFault → Option Refusal
+refusal_of has_place objects subs now (Err fault) = Some (refusals.Line fault)
+refusal_of has_place objects subs now (Ok line) = if has_place line then option_map refusals.Hub (hub_refusal objects subs now line) else Some refusals.NotHere
 
 -- what an accepted event leads to
 abbrev pub after_event : State → Event → State
@@ -82,14 +82,18 @@ unless_refused None before after = after
 unless_refused (Some refusal) before after = before
 
 -- why a row is refused
-abbrev pub row_refusal : Config → Limits → State → Row → Option Refusal
-row_refusal config limits now row = refusal_of limits.objects limits.subs now (reading config limits row)
+abbrev pub row_refusal : Program → State → Row → Option Refusal
+row_refusal program now row = refusal_of program.has_place program.limits.objects program.limits.subs now (reading program row)
 
 -- what a row leads to
-abbrev pub step : Config → Limits → State → Row → State
-step config limits now row = unless_refused (row_refusal config limits now row) now (after_line now (reading config limits row))
+abbrev pub step : Program → State → Row → State
+step program now row = unless_refused (row_refusal program now row) now (after_line now (reading program row))
 
 -- what the rows lead to
-abbrev pub after : Config → Limits → List Row → State
-after config limits [] = nothing
-after config limits (row ∷ past) = step config limits (after config limits past) row
+abbrev pub after : Program → List Row → State
+after program [] = nothing
+after program (row ∷ past) = step program (after program past) row
+
+-- why a row is refused after those before it
+abbrev pub refusal_after : Program → List Row → Row → Option Refusal
+refusal_after program past row = row_refusal program (after program past) row

@@ -1,8 +1,10 @@
 pub mod Cluster
 pub mod Headline
 pub mod History
+pub mod Live
 pub mod LookBack
 pub mod Output
+pub mod Program
 pub mod RefusalText
 pub mod Stand
 pub mod Take

@@ -4,9 +4,7 @@ use Rattle.std.specs.Ordering.{eq_by_cmp}
 use Rattle.std.specs.FinMap.{get}
 use Rattle.mesh_base.specs.KeyOrder.{key_cmp}
 use Rattle.mesh_base.specs.declared.key.ObjKey.{ObjKey}
-use Rattle.mesh_base.specs.declared.limits.Limits.{Limits}
 use Rattle.line_run.specs.Rows.{Row}
-use Rattle.view_types.specs.declared.config.Config.{Config}
 use Rattle.view_types.specs.declared.object.Object.{Object}
 use Rattle.view_types.specs.Objects.{key_of}
 use Rattle.object_store.specs.Relisted.{is_of, item_at}
@@ -14,8 +12,9 @@ use Rattle.watch_events.specs.declared.event.Event.TheVariants.{Set, Delete, Rel
 use Rattle.watch_events.specs.declared.line.Line.{Line}
 use Rattle.watch_events.specs.declared.line.Line.TheVariants as lines
 use Rattle.watch_events.specs.declared.line.LineFault.{LineFault}
+use Rattle.replay_core.specs.Program.{Program, reading}
 use Rattle.replay_core.specs.declared.refusal.Refusal.{Refusal}
-use Rattle.replay_core.specs.History.{reading, row_refusal, after}
+use Rattle.replay_core.specs.History.{refusal_after, after}
 
 -- What a row tells of a key, if it speaks of it: that an object is held there, or none. A list speaks of all keys of its kind.
 abbrev pub told_by : Result Line LineFault → ObjKey → Option (Option Object)
@@ -28,17 +27,20 @@ told_by (Ok (lines.Subscribe id query)) key = None
 told_by (Ok lines.Stop) key = None
 told_by (Err fault) key = None
 
--- what an accepted row tells of the key; else what was held before
-abbrev pub last_told : Option Refusal → Option (Option Object) → Option Object → Option Object
+-- what a row tells, where it is accepted and speaks of the matter; else what was told before
+abbrev pub last_told : {A : Type 0} → Option Refusal → Option A → A → A
 last_told (Some refusal) told before = before
 last_told None None before = before
 last_told None (Some told) before = told
 
 -- the object at a key, looking back through the rows
-abbrev pub held_at : Config → Limits → List Row → ObjKey → Option Object
-held_at config limits [] key = None
-held_at config limits (row ∷ past) key =
-    last_told (row_refusal config limits (after config limits past) row) (told_by (reading config limits row) key) (held_at config limits past key)
+abbrev pub held_at : Program → List Row → ObjKey → Option Object
+held_at program [] key = None
+held_at program (row ∷ past) key = last_told (refusal_after program past row) (told_by (reading program row) key) (held_at program past key)
 
-abbrev pub IsToldByTheLast : Type 0
-IsToldByTheLast = (config : Config) (limits : Limits) (past : List Row) (key : ObjKey) → get (after config limits past).objects key ≡ held_at config limits past key
+abbrev pub IsToldByTheLast : Program → Type 0
+IsToldByTheLast program = (past : List Row) (key : ObjKey) → get (after program past).objects key ≡ held_at program past key
+
+-- A refused row leads to nothing.
+abbrev pub RefusedChangesNothing : Program → Type 0
+RefusedChangesNothing program = (past : List Row) (row : Row) (refusal : Refusal) → refusal_after program past row ≡ Some refusal → after program (row ∷ past) ≡ after program past

@@ -1,5 +1,5 @@
 -- What a step of a replay comes to.
-use Rattle.std.specs.Prelude.{◌≡◌, Option, Some, None, Result, Ok, Err}
+use Rattle.std.specs.Prelude.{◌≡◌, Bool, Option, Some, None, Result, Ok, Err}
 use Rattle.watch_events.specs.declared.line.Line.{Line}
 use Rattle.watch_events.specs.declared.line.LineFault.{LineFault}
 use Rattle.replay_core.specs.declared.cluster.Cluster.{Cluster}
@@ -18,8 +18,8 @@ IsRefusalOf (Err (Full held)) refusal = refusal ≡ Some (refusals.Hub (Full hel
 IsRefusalOf (Err (TooManySubs live)) refusal = refusal ≡ Some (refusals.Hub (TooManySubs live))
 IsRefusalOf (Err (IdOrder last)) refusal = refusal ≡ Some (refusals.Hub (IdOrder last))
 
--- a line was refused for its cause, or done
-pub record Takes (reading : Result Line LineFault) (refusal : Option Refusal) (old new : Cluster) : Type 0 where
-  pub refusal_is : refusal ≡ refusal_of old.store.limit old.most_subs (state_of old) reading
+-- a line was refused for its cause, or done, in a program where these lines have their place
+pub record Takes (has_place : Line → Bool) (reading : Result Line LineFault) (refusal : Option Refusal) (old new : Cluster) : Type 0 where
+  pub refusal_is : refusal ≡ refusal_of has_place old.store.limit old.most_subs (state_of old) reading
   pub state : state_of new ≡ unless_refused refusal (state_of old) (after_line (state_of old) reading)
   pub limits : KeepsLimits old new

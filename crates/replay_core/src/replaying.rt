@@ -2,7 +2,7 @@ ghost use Rattle.std.specs.Prelude.{◌≡◌, ◌≤◌, ◌-◌, length, IfOk,
 ghost use Rattle.std.specs.Option.{option_copied};
 ghost use Rattle.watch_events.specs.Given.{Gives};
 ghost use Rattle.watch_events.specs.Lawful.{IsLawfulLine};
-ghost use Rattle.replay_core.specs.History.{reading};
+ghost use Rattle.replay_core.specs.Program.{has_place_in_replay, reading, replay_of};
 ghost use Rattle.replay_core.specs.Take.{IsRefusalOf, Takes};
 
 use crate::cluster::Cluster;
@@ -36,7 +36,7 @@ impl<'a> Replaying<'a> {
         requires { 1 ≤ limits.frame_addrs }
         ensures limits { result.limits ≡ limits }
         ensures config { result.config.now ≡ config.now }
-        ensures stands { Stands config.now limits result.cluster result.sent [] [] false }
+        ensures stands { Stands (replay_of config.now limits) result.cluster result.sent [] [] false }
     {
         Replaying {
             alloc,
@@ -55,7 +55,7 @@ fn read_row(
     limits: &Limits,
     row: Option<&[u8]>,
 ) -> Result<Line, LineFault>
-    ensures value { Gives result (reading config.now limits.now (option_copied row.entry)) }
+    ensures value { Gives result (reading (replay_of config.now limits.now) (option_copied row.entry)) }
     ensures lawful { IfOk result IsLawfulLine }
 {
     match row {
@@ -78,7 +78,7 @@ fn refused(answer: Result<(), HubFault>) -> Result<Option<Refusal>, Memory>
 // Does what a line says, and answers why it is refused, if it is.
 fn take_line(cluster: &mut Cluster, line: Line) -> Result<Option<Refusal>, Memory>
     requires { IsLawfulLine line }
-    ensures { IfOk result (λ refusal. Takes (Ok line) refusal cluster.old cluster.new) }
+    ensures { IfOk result (λ refusal. Takes has_place_in_replay (Ok line) refusal cluster.old cluster.new) }
 {
     match line {
         Line::Blank => Ok(None),
@@ -96,7 +96,7 @@ fn take_row(
     cluster: &mut Cluster,
     row: Option<&[u8]>,
 ) -> Result<Option<Refusal>, Memory>
-    ensures { IfOk result (λ refusal. Takes (reading config.now limits.now (option_copied row.entry)) refusal cluster.old cluster.new) }
+    ensures { IfOk result (λ refusal. Takes has_place_in_replay (reading (replay_of config.now limits.now) (option_copied row.entry)) refusal cluster.old cluster.new) }
 {
     match read_row(alloc, config, limits, row) {
         Ok(line) => take_line(cluster, line),
@@ -108,13 +108,13 @@ fn take_row(
 impl LineMachine for Replaying<'_> {
     ghost use Rattle.replay_core.specs.Stand.{Stands, Ending, Ended, IsOfRun, ending_none};
 
-    ghost stands = { λ start now past text refused. IsOfRun start.config.now start.limits now.config.now now.limits × Stands start.config.now start.limits now.cluster now.sent past text refused };
+    ghost stands = { λ start now past text refused. IsOfRun start.config.now start.limits now.config.now now.limits × Stands (replay_of start.config.now start.limits) now.cluster now.sent past text refused };
 
-    ghost ending = { λ start now past text refused. IsOfRun start.config.now start.limits now.config.now now.limits × Ending start.config.now start.limits now.cluster now.sent past text refused };
+    ghost ending = { λ start now past text refused. IsOfRun start.config.now start.limits now.config.now now.limits × Ending (replay_of start.config.now start.limits) now.cluster now.sent past text refused };
 
-    ghost ended = { λ start now past text refused. Ended start.config.now start.limits past text refused };
+    ghost ended = { λ start now past text refused. Ended (replay_of start.config.now start.limits) past text refused };
 
-    ghost begins = { λ start now past text refused stood. (stood.0, ending_none start.config.now start.limits now.cluster now.sent past text refused stood.1) };
+    ghost begins = { λ start now past text refused stood. (stood.0, ending_none (replay_of start.config.now start.limits) now.cluster now.sent past text refused stood.1) };
 
     ghost pieces_left = { λ now. length now.cluster.subs - now.sent };
 
