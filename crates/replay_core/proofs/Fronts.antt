@@ -4,7 +4,6 @@ use Rattle.std.specs.Prelude.{Some, None, IfSome}
 use Rattle.std.proofs.Common.{inl, inr}
 use Rattle.std.specs.declared.option.Option.{Option}
 use Rattle.std.specs.List.{flat_map, slice_get}
-use Rattle.std.specs.FinMap.{values}
 use Rattle.std.proofs.lemmas.Grind.{flat_map-append}
 use Rattle.std.proofs.lemmas.List.{take-append-drop, flat_map_more, take_all}
 use Rattle.std.proofs.lemmas.Option.{slice_get_within, get_or_from_slice_get}
@@ -65,20 +64,20 @@ module _ (program : Program) where
       )
 
   -- all that the subscriptions are sent, by those that were sent it and the rest
-  sent_and_rest : (cluster : Cluster) (sent : ℕ) → flat_map (sub_lines program.limits (values cluster.store.objects)) cluster.subs
-      ≡ flat_map (sub_lines program.limits (values cluster.store.objects)) (take sent cluster.subs) ++ flat_map (sub_lines program.limits (values cluster.store.objects)) (drop sent cluster.subs)
-  sent_and_rest cluster sent = ap (flat_map (sub_lines program.limits (values cluster.store.objects))) (sym (take-append-drop sent cluster.subs))
-      ∙ flat_map-append (sub_lines program.limits (values cluster.store.objects)) (take sent cluster.subs) (drop sent cluster.subs)
+  sent_and_rest : (cluster : Cluster) (sent : ℕ) → flat_map (sub_lines program.limits cluster.store.objects) cluster.subs
+      ≡ flat_map (sub_lines program.limits cluster.store.objects) (take sent cluster.subs) ++ flat_map (sub_lines program.limits cluster.store.objects) (drop sent cluster.subs)
+  sent_and_rest cluster sent = ap (flat_map (sub_lines program.limits cluster.store.objects)) (sym (take-append-drop sent cluster.subs))
+      ∙ flat_map-append (sub_lines program.limits cluster.store.objects) (take sent cluster.subs) (drop sent cluster.subs)
 
   -- the end as the cluster has it
   end_is : (cluster : Cluster) (past : List Row) → state_of cluster ≡ after program past
-      → output_after program past ≡ written_after program past ++ flat_map (sub_lines program.limits (values cluster.store.objects)) cluster.subs
+      → output_after program past ≡ written_after program past ++ flat_map (sub_lines program.limits cluster.store.objects) cluster.subs
   end_is cluster past is = ap (λ (now : State). written_after program past ++ end_lines program.limits now) (sym is)
 
   ending_front : (past : List Row) (cluster : Cluster) (done : ℕ) (said sent unsent : List ℕ) (refused : Bool) → Ending program cluster done past said refused → said ≡ sent ++ unsent → IsFrontOfOutput past sent
   ending_front past cluster done said sent unsent refused at_end front =
-      let rest = flat_map (sub_lines program.limits (values cluster.store.objects)) (drop done cluster.subs) in
-      let some = flat_map (sub_lines program.limits (values cluster.store.objects)) (take done cluster.subs) in (
+      let rest = flat_map (sub_lines program.limits cluster.store.objects) (drop done cluster.subs) in
+      let some = flat_map (sub_lines program.limits cluster.store.objects) (take done cluster.subs) in (
         unsent ++ rest,
         end_is cluster past at_end.here.state ∙ ap (λ (xs : List ℕ). written_after program past ++ xs) (sent_and_rest cluster done)
             ∙ sym (append_assoc (written_after program past) some rest)
@@ -90,9 +89,9 @@ module _ (program : Program) where
 
   -- the end is written, one subscription more
   pub ending_more : (cluster : Cluster) (done : ℕ) (sub : Subscription) (past : List Row) (said said_new : List ℕ) (refused : Bool) → slice_get cluster.subs done ≡ Some sub
-      → Ending program cluster done past said refused → said_new ≡ said ++ sub_lines program.limits (values cluster.store.objects) sub → Ending program cluster (done + 1) past said_new refused
+      → Ending program cluster done past said refused → said_new ≡ said ++ sub_lines program.limits cluster.store.objects sub → Ending program cluster (done + 1) past said_new refused
   ending_more cluster done sub past said said_new refused found at_end adds =
-      let f = sub_lines program.limits (values cluster.store.objects) in record {
+      let f = sub_lines program.limits cluster.store.objects in record {
         here = at_end.here;
         writes = adds ∙ ap (λ (xs : List ℕ). xs ++ f sub) at_end.writes ∙ flat_map_more f (written_after program past) (take done cluster.subs) sub
             ∙ ap (λ (xs : List Subscription). written_after program past ++ flat_map f xs) (sym (taken_more cluster.subs done sub found));
@@ -103,7 +102,7 @@ module _ (program : Program) where
   pub ending_whole : (cluster : Cluster) (done : ℕ) (past : List Row) (said : List ℕ) (refused : Bool) → slice_get cluster.subs done ≡ None
       → Ending program cluster done past said refused → Ended program past said refused
   ending_whole cluster done past said refused none at_end = record {
-    writes = at_end.writes ∙ ap (λ (xs : List Subscription). written_after program past ++ flat_map (sub_lines program.limits (values cluster.store.objects)) xs) (taken_all cluster.subs done none)
+    writes = at_end.writes ∙ ap (λ (xs : List Subscription). written_after program past ++ flat_map (sub_lines program.limits cluster.store.objects) xs) (taken_all cluster.subs done none)
         ∙ sym (end_is cluster past at_end.here.state);
     refuses = at_end.refuses;
   }

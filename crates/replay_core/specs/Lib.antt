@@ -1,11 +1,15 @@
 pub mod Cluster
+pub mod Folded
 pub mod Headline
 pub mod History
+pub mod Lawful
 pub mod Live
 pub mod LookBack
 pub mod Output
 pub mod Program
 pub mod RefusalText
+pub mod Sendable
+pub mod Sent
 pub mod Stand
 pub mod Take
 pub mod Text

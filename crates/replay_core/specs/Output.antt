@@ -1,15 +1,13 @@
 -- What is written for a list of rows: the piece of each row, and at the end what each live subscription is sent.
 use Rattle.std.specs.Prelude.{ℕ, ◌+◌, Bool, false, ◌||◌, List, [], ◌∷◌, ◌++◌, length, Option, Some, None, is_some}
 use Rattle.std.specs.List.{flat_map}
-use Rattle.std.specs.FinMap as map
 use Rattle.mesh_base.specs.declared.limits.Limits.{Limits}
 use Rattle.line_run.specs.Rows.{Row, past_of}
+use Rattle.view_types.specs.Objects.{ObjectMap}
 use Rattle.view_types.specs.declared.message.Message.{Message}
-use Rattle.view_types.specs.declared.object.Object.{Object}
 use Rattle.view_types.specs.declared.query.Query.{Query}
-use Rattle.view_types.specs.declared.query.Query.TheVariants as queries
-use Rattle.view_types.specs.Endpoints.{endpoints_among}
-use Rattle.view_types.specs.Batch.{first_batch}
+use Rattle.view_rules.specs.Batch.{first_messages}
+use Rattle.view_rules.specs.Views.{view_of}
 use Rattle.proxy_proto.specs.Messages.{canonical}
 use Rattle.proto_wire.specs.Frames.{frame_of}
 use Rattle.replay_core.specs.declared.cluster.Subscription.{Subscription}
@@ -20,25 +18,24 @@ use Rattle.replay_core.specs.Text.{refused_line, frame_line}
 
 -- ---- what a subscription is sent
 
--- the messages that bring a new subscriber of a query up to date; a query that can't be subscribed to yet has none
-abbrev pub messages_of : Limits → List Object → Query → List Message
-messages_of limits objects (queries.Get ns name port ctx) = first_batch (endpoints_among ns name port objects) limits
-messages_of limits objects _ = []
+-- the messages that bring a new subscriber of a query up to date, where these objects are held
+abbrev pub messages_of : Limits → ObjectMap → Query → List Message
+messages_of limits held query = first_messages limits (view_of held query)
 
 abbrev pub message_line : ℕ → Message → List ℕ
 message_line id message = frame_line id (frame_of (canonical message))
 
 -- what a subscription is sent, where these objects are held
-abbrev pub sub_lines : Limits → List Object → Subscription → List ℕ
-sub_lines limits objects sub = flat_map (message_line sub.id.0) (messages_of limits objects sub.query)
+abbrev pub sub_lines : Limits → ObjectMap → Subscription → List ℕ
+sub_lines limits held sub = flat_map (message_line sub.id.0) (messages_of limits held sub.query)
 
 -- what a subscriber of the query is sent after the rows
 abbrev pub messages_after : Program → List Row → Query → List Message
-messages_after program past query = messages_of program.limits (map.values (after program past).objects) query
+messages_after program past query = messages_of program.limits (after program past).objects query
 
 -- what the subscriptions are sent, in order of their ids
 abbrev pub end_lines : Limits → State → List ℕ
-end_lines limits now = flat_map (sub_lines limits (map.values now.objects)) now.subs
+end_lines limits now = flat_map (sub_lines limits now.objects) now.subs
 
 -- ---- what is written for rows
 

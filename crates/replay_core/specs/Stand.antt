@@ -2,7 +2,6 @@
 use Rattle.std.specs.Prelude.{◌≡◌, ℕ, Bool, List, ◌++◌, take}
 use Rattle.std.proofs.Common.{append-nil, sym, ap, ◌∙◌}
 use Rattle.std.specs.List.{flat_map}
-use Rattle.std.specs.FinMap.{values}
 use Rattle.mesh_base.specs.declared.limits.Limits.{Limits}
 use Rattle.line_run.specs.Rows.{Row}
 use Rattle.view_types.specs.declared.config.Config.{Config}
@@ -27,7 +26,7 @@ pub record Stands (program : Program) (cluster : Cluster) (sent : ℕ) (past : L
 -- the first subscriptions, so many, have been sent what they are owed
 pub record Ending (program : Program) (cluster : Cluster) (sent : ℕ) (past : List Row) (text : List ℕ) (refused : Bool) : Type 0 where
   pub here : IsAfter program past cluster
-  pub writes : text ≡ written_after program past ++ flat_map (sub_lines program.limits (values cluster.store.objects)) (take sent cluster.subs)
+  pub writes : text ≡ written_after program past ++ flat_map (sub_lines program.limits cluster.store.objects) (take sent cluster.subs)
   pub refuses : refused ≡ refused_after program past
 
 pub record Ended (program : Program) (past : List Row) (text : List ℕ) (refused : Bool) : Type 0 where
@@ -44,6 +43,6 @@ pub ending_none : (program : Program) (cluster : Cluster) (sent : ℕ) (past : L
 ending_none program cluster sent past text refused stood = record {
   here = stood.here;
   writes = stood.writes ∙ sym (append-nil (written_after program past))
-      ∙ ap (λ (n : ℕ). written_after program past ++ flat_map (sub_lines program.limits (values cluster.store.objects)) (take n cluster.subs)) (sym stood.none_sent);
+      ∙ ap (λ (n : ℕ). written_after program past ++ flat_map (sub_lines program.limits cluster.store.objects) (take n cluster.subs)) (sym stood.none_sent);
   refuses = stood.refuses;
 }

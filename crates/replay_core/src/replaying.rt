@@ -146,8 +146,8 @@ impl LineMachine for Replaying<'_> {
         let Some(sub) = self.cluster.subs.as_slice().get(self.sent) else {
             return Ok(false);
         };
-        let objects = self.cluster.store.all();
-        let Ok(()) = push_subscription(self.alloc, out, objects, sub, &self.limits) else {
+        let store = &self.cluster.store;
+        let Ok(()) = push_subscription(self.alloc, out, store, sub, &self.limits) else {
             return Err(AllocError);
         };
         self.sent += 1;

@@ -1,6 +1,6 @@
 pub mod Among
 pub mod Entries
-mod FirstRows
+pub mod FirstRows
 pub mod Given
 pub mod Orderly
 pub mod Pairs
