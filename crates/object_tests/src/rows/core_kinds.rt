@@ -31,6 +31,8 @@ Service {"metadata":{"name":"a"},"spec":{"ports":[{"port":null}]}} => Missing ob
 Service {"metadata":{"name":"a"},"spec":{"clusterIP":1}} => WrongType object.spec.clusterIP
 Service {"metadata":{"name":"a"},"spec":{"clusterIPs":["","None","10.1.2"]}} => BadValue object.spec.clusterIPs[2] Address
 Service {"metadata":{"name":"a","namespace":1}} => WrongType object.metadata.namespace
+EndpointSlice [] => WrongType object
+EndpointSlice {} => Missing object.metadata.name
 EndpointSlice {"metadata":{"name":"a"}} => Missing object.addressType
 EndpointSlice {"metadata":{"name":"a"},"addressType":1} => WrongType object.addressType
 EndpointSlice {"metadata":{"name":"a"},"addressType":"ipv4"} => BadValue object.addressType Choice
@@ -57,6 +59,8 @@ EndpointSlice {"metadata":{"name":"a"},"addressType":"IPv4","endpoints":[{"targe
 EndpointSlice {"metadata":{"name":"a"},"addressType":"IPv4","ports":{}} => WrongType object.ports
 EndpointSlice {"metadata":{"name":"a"},"addressType":"IPv4","ports":[{},null]} => WrongType object.ports[1]
 EndpointSlice {"metadata":{"name":"a"},"addressType":"IPv4","ports":[{"port":"http"}]} => WrongType object.ports[0].port
+Pod [] => WrongType object
+Pod {} => Missing object.metadata.name
 Pod {"metadata":{"name":"a"},"spec":1} => WrongType object.spec
 Pod {"metadata":{"name":"a"},"spec":{"serviceAccountName":1}} => WrongType object.spec.serviceAccountName
 Pod {"metadata":{"name":"a"},"spec":{"serviceAccountName":"A"}} => BadName object.spec.serviceAccountName

@@ -97,7 +97,10 @@ GatewayRoute {"metadata":{"name":"web"},"spec":{"rules":[{"filters":[{"type":"a"
 GatewayRoute {"metadata":{"name":"web"},"spec":{"rules":[{"filters":[{"type":"a","requestHeaderModifier":{"add":[{"name":"a","value":1}]}}]}]}} => WrongType object.spec.rules[0].filters[0].requestHeaderModifier.add[0].value
 GatewayRoute {"metadata":{"name":"web"},"spec":{"rules":[{"filters":[{"type":"a","requestHeaderModifier":{"set":[{"name":"a","value":"b"},null]}}]}]}} => WrongType object.spec.rules[0].filters[0].requestHeaderModifier.set[1]
 GatewayRoute {"metadata":{"name":"web"},"spec":{"rules":[{"filters":[{"type":"a","requestHeaderModifier":{"set":[{}]}}]}]}} => Missing object.spec.rules[0].filters[0].requestHeaderModifier.set[0].name
-GatewayRoute {"metadata":{"name":"web"},"spec":{"rules":[{"filters":[{"type":"a","requestHeaderModifier":{"set":[{"name":1}]}}]}]}} => WrongType object.spec.rules[0].filters[0].requestHeaderModifier.set[0].name"#;
+GatewayRoute {"metadata":{"name":"web"},"spec":{"rules":[{"filters":[{"type":"a","requestHeaderModifier":{"set":[{"name":1}]}}]}]}} => WrongType object.spec.rules[0].filters[0].requestHeaderModifier.set[0].name
+LinkerdRoute [] => WrongType object
+LinkerdRoute {} => Missing object.metadata.name
+LinkerdRoute {"metadata":{"name":"web"},"spec":1} => WrongType object.spec"#;
 
 /// A kind, an object and what it is read as, with an empty line between.
 // Those with an apiVersion are as in the Linkerd documentation on per-route authorization, request routing, traffic shifting
