@@ -1,10 +1,9 @@
 -- The members of a Pod.
 use Rattle.std.specs.Prelude.{codes, ◌++◌, List, Option, None, Result, Ok, false, option_to_list, unwrap_or}
-use Rattle.std.specs.List.{flat_map}
 use Rattle.net_cidr.specs.declared.ip.Ip.{Ip}
 use Rattle.k8s_core.specs.Addresses.{once}
 use Rattle.k8s_core.specs.NamedPorts.{port_at}
-use Rattle.k8s_meta.specs.Lists.{each, each_some}
+use Rattle.k8s_meta.specs.Lists.{each, each_joined, each_some}
 use Rattle.k8s_meta.specs.Metadata.{meta_at}
 use Rattle.k8s_meta.specs.Scalars.{ip, name}
 use Rattle.k8s_meta.specs.Spots.{Spot, ◌·◌, ◌>>=◌}
@@ -28,15 +27,14 @@ pod_ip_at e = do
 
 unfoldable pub pod_at : Spot → Result Pod ReadFault
 pod_at s = do
-  s ← object s
   meta ← meta_at s
   spec ← part (s · keys.Spec)
   account ← default None (filled name) (spec · keys.ServiceAccountName)
   host_network ← default false boolean (spec · keys.HostNetwork)
   node ← optional text (spec · keys.NodeName)
-  ports ← each container_at (spec · keys.Containers)
+  ports ← each_joined container_at (spec · keys.Containers)
   status ← part (s · keys.Status)
   phase ← optional text (status · keys.Phase)
   first ← default None (filled ip) (status · keys.PodIp)
   others ← each_some pod_ip_at (status · keys.PodIps)
-  Ok (record { meta = meta; account = unwrap_or account (codes "default"); host_network = host_network; node = node; phase = phase; addrs = once (option_to_list first ++ others); ports = flat_map (λ l. l) ports })
+  Ok (record { meta = meta; account = unwrap_or account (codes "default"); host_network = host_network; node = node; phase = phase; addrs = once (option_to_list first ++ others); ports = ports })

@@ -5,14 +5,13 @@ use Rattle.k8s_core.specs.NamedPorts.{port_at}
 use Rattle.k8s_meta.specs.Lists.{each, each_some}
 use Rattle.k8s_meta.specs.Metadata.{meta_at}
 use Rattle.k8s_meta.specs.Spots.{Spot, ◌·◌, ◌>>=◌}
-use Rattle.k8s_meta.specs.Words.{default, object, part, text}
+use Rattle.k8s_meta.specs.Words.{default, part, text}
 use Rattle.k8s_meta.specs.declared.fault.ReadFault.{ReadFault}
 use Rattle.k8s_meta.specs.declared.key.Key.TheVariants as keys
 use Rattle.view_types.specs.declared.service.Service.{Service}
 
 unfoldable pub service_at : Spot → Result Service ReadFault
 service_at s = do
-  s ← object s
   meta ← meta_at s
   spec ← part (s · keys.Spec)
   kind ← default (codes "ClusterIP") text (spec · keys.Type)

@@ -58,7 +58,6 @@ point_at family own p = do
 
 unfoldable pub slice_at : Spot → Result Slice ReadFault
 slice_at s = do
-  s ← object s
   meta ← meta_at s
   family ← required (choice family_of) (s · keys.AddressType)
   points ← each (point_at family meta.ns) (s · keys.Endpoints)

@@ -2,7 +2,7 @@
 //!
 //! Stands on k8s_meta, whose words the member tables are written in, and on view_types for what is read. Each reader's
 //! contract cites its table: `service_at` of `specs/Services`, `slice_at` of `specs/Slices`, `pod_at` of `specs/Pods`.
-#![tactic(auto, unfolding(k8s_meta::specs::Spots::then))]
+#![tactic(auto)]
 
 mod addresses;
 pub mod pod;

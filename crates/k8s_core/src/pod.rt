@@ -1,9 +1,8 @@
-ghost use Rattle.std.specs.Prelude.{◌≡◌, ◌++◌, codes, unwrap_or, IfOk, OnOk};
-ghost use Rattle.std.specs.List.{flat_map};
+ghost use Rattle.std.specs.Prelude.{◌≡◌, codes, unwrap_or, IfOk};
 ghost use Rattle.serde_json.specs.View.{view};
 ghost use Rattle.k8s_core.specs.Pods.{container_at, pod_at, pod_ip_at};
-ghost use Rattle.k8s_meta.specs.Lawful.{IsLawfulMeta};
 ghost use Rattle.k8s_meta.specs.Spots.{Reads, seen};
+ghost use Rattle.view_types.specs.Lawful.{IsLawfulPod};
 
 use crate::addresses::once;
 use crate::port_entry::PortEntry;
@@ -24,24 +23,30 @@ use view_types::service::NamedPort;
 
 /// The Pod that stands at the path `at`. Its fault is the first in the order of its members.
 pub fn read_pod(alloc: Global, object: &Value, at: &str) -> Result<Pod, ReadFault>
-    ensures lawful { IfOk result (λ pod. IsLawfulMeta pod.meta) }
+    ensures lawful { IfOk result IsLawfulPod }
     ensures value { Reads result (pod_at record { at = at.now; value = view object.now }) }
 {
     pod_of(&Place::top(alloc, object, at))
 }
 
 /// The Pod at a place.
-#[tactic(auto, unfolding(k8s_meta::specs::Spots::then, crate::specs::Pods::pod_at))]
 pub fn pod_of<'a>(object: &'a Place<'a>) -> Result<Pod, ReadFault>
+    ensures lawful { IfOk result IsLawfulPod }
+    ensures value { Reads result (pod_at (seen object.now)) }
+{
+    members_of(object)
+}
+
+#[tactic(auto, unfolding(k8s_meta::specs::Spots::then, crate::specs::Pods::pod_at))]
+fn members_of<'a>(object: &'a Place<'a>) -> Result<Pod, ReadFault>
     ensures { Reads result (pod_at (seen object.now)) }
 {
-    object.object()?;
     let meta = meta_of(object)?;
     let spec = object.part(Key::Spec)?;
     let account = spec.default(Key::ServiceAccountName, &Filled(Name), None)?;
     let host_network = spec.default(Key::HostNetwork, &Flag, false)?;
     let node = spec.optional(Key::NodeName, &AnyText)?;
-    let ports = spec.each(Key::Containers, &Container)?;
+    let ports = spec.each_joined(Key::Containers, &Container)?;
     let status = object.part(Key::Status)?;
     let phase = status.optional(Key::Phase, &AnyText)?;
     let first = status.default(Key::PodIp, &Filled(Address), None)?;
@@ -53,7 +58,7 @@ pub fn pod_of<'a>(object: &'a Place<'a>) -> Result<Pod, ReadFault>
         node,
         phase,
         addrs: once(object.alloc(), first, others)?,
-        ports: joined(object.alloc(), ports)?,
+        ports,
     })
 }
 
@@ -99,23 +104,4 @@ impl Reader for PodIp {
         place.object()?;
         place.default(Key::Ip, &Filled(Address), None)
     }
-}
-
-fn joined(alloc: Global, lists: List<List<NamedPort>>) -> Result<List<NamedPort>, Memory>
-    ensures { IfOk result (λ all. all ≡ flat_map (λ l. l) lists) }
-{
-    let mut all = List::new(alloc);
-    for list in lists.into_vec() {
-        append(&mut all, list)?;
-    }
-    Ok(all)
-}
-
-fn append(all: &mut List<NamedPort>, list: List<NamedPort>) -> Result<(), Memory>
-    ensures { OnOk result (all.new ≡ all.old ++ list) }
-{
-    for port in list.into_vec() {
-        all.add(port)?;
-    }
-    Ok(())
 }

@@ -1,8 +1,8 @@
 ghost use Rattle.std.specs.Prelude.{IfOk};
 ghost use Rattle.serde_json.specs.View.{view};
 ghost use Rattle.k8s_core.specs.Services.{service_at};
-ghost use Rattle.k8s_meta.specs.Lawful.{IsLawfulMeta};
 ghost use Rattle.k8s_meta.specs.Spots.{Reads, seen};
+ghost use Rattle.view_types.specs.Lawful.{IsLawfulService};
 
 use crate::addresses::{ClusterIp, once};
 use crate::port_entry::PortEntry;
@@ -16,18 +16,24 @@ use view_types::service::Service;
 
 /// The Service that stands at the path `at`. Its fault is the first in the order of its members.
 pub fn read_service(alloc: Global, object: &Value, at: &str) -> Result<Service, ReadFault>
-    ensures lawful { IfOk result (λ service. IsLawfulMeta service.meta) }
+    ensures lawful { IfOk result IsLawfulService }
     ensures value { Reads result (service_at record { at = at.now; value = view object.now }) }
 {
     service_of(&Place::top(alloc, object, at))
 }
 
 /// The Service at a place.
-#[tactic(auto, unfolding(k8s_meta::specs::Spots::then, crate::specs::Services::service_at))]
 pub fn service_of<'a>(object: &'a Place<'a>) -> Result<Service, ReadFault>
+    ensures lawful { IfOk result IsLawfulService }
+    ensures value { Reads result (service_at (seen object.now)) }
+{
+    members_of(object)
+}
+
+#[tactic(auto, unfolding(k8s_meta::specs::Spots::then, crate::specs::Services::service_at))]
+fn members_of<'a>(object: &'a Place<'a>) -> Result<Service, ReadFault>
     ensures { Reads result (service_at (seen object.now)) }
 {
-    object.object()?;
     let meta = meta_of(object)?;
     let spec = object.part(Key::Spec)?;
     let kind = spec.str_or(Key::Type, "ClusterIP")?;

@@ -3,12 +3,12 @@ ghost use Rattle.serde_json.specs.View.{view};
 ghost use Rattle.net_cidr.specs.Address.{ip_of};
 ghost use Rattle.k8s_core.specs.Slices.{address_at, family_of, in_family, point_at, pod_name_at, slice_at, target_at};
 ghost use Rattle.k8s_meta.specs.Lists.{each};
-ghost use Rattle.k8s_meta.specs.Lawful.{IsLawfulMeta};
 ghost use Rattle.k8s_meta.specs.Spots.{◌·◌, Reads, seen};
+ghost use Rattle.view_types.specs.Lawful.{IsLawfulSlice};
 ghost use Rattle.k8s_meta.specs.declared.key.Key.TheVariants.{Endpoints};
-ghost use Rattle.k8s_meta.specs.Words.{choice};
 
 use crate::port_entry::SlicePort;
+use k8s_meta::choice::{Choice, Word};
 use k8s_meta::fault::{ReadFault, What};
 use k8s_meta::key::Key;
 use k8s_meta::meta::meta_of;
@@ -25,20 +25,26 @@ use view_types::slice::{Family, Point, Slice};
 
 /// The EndpointSlice that stands at the path `at`. Its fault is the first in the order of its members.
 pub fn read_slice(alloc: Global, object: &Value, at: &str) -> Result<Slice, ReadFault>
-    ensures lawful { IfOk result (λ slice. IsLawfulMeta slice.meta) }
+    ensures lawful { IfOk result IsLawfulSlice }
     ensures value { Reads result (slice_at record { at = at.now; value = view object.now }) }
 {
     slice_of(&Place::top(alloc, object, at))
 }
 
 /// The EndpointSlice at a place.
-#[tactic(auto, unfolding(k8s_meta::specs::Spots::then, crate::specs::Slices::slice_at))]
 pub fn slice_of<'a>(object: &'a Place<'a>) -> Result<Slice, ReadFault>
+    ensures lawful { IfOk result IsLawfulSlice }
+    ensures value { Reads result (slice_at (seen object.now)) }
+{
+    members_of(object)
+}
+
+#[tactic(auto, unfolding(k8s_meta::specs::Spots::then, crate::specs::Slices::slice_at))]
+fn members_of<'a>(object: &'a Place<'a>) -> Result<Slice, ReadFault>
     ensures { Reads result (slice_at (seen object.now)) }
 {
-    object.object()?;
     let meta = meta_of(object)?;
-    let family = object.required(Key::AddressType, &FamilyWord)?;
+    let family = object.required(Key::AddressType, &Choice(FamilyWord))?;
     let points = points_of(object, family, meta.ns.as_str())?;
     let ports = object.each_some(Key::Ports, &SlicePort)?;
     Ok(Slice {
@@ -55,31 +61,24 @@ fn points_of<'a>(object: &'a Place<'a>, family: Family, own: &str) -> Result<Lis
     object.each(Key::Endpoints, &Endpoint { family, own })
 }
 
+/// The words for families.
 struct FamilyWord;
 
-impl Reader for FamilyWord {
-    type Made = Family;
+impl Word for FamilyWord {
+    type Meaning = Family;
 
-    ghost reading = { λ _. choice family_of };
+    ghost meaning = { λ _. family_of };
 
-    #[tactic(auto, unfolding(k8s_meta::specs::Spots::then, k8s_meta::specs::Words::choice))]
-    fn read<'a>(&self, place: &'a Place<'a>) -> Result<Family, ReadFault> {
-        let text = place.text()?;
-        place.valid(What::Choice, family_of(text))
-    }
-}
-
-fn family_of(text: &str) -> Option<Family>
-    ensures { result ≡ family_of text.now }
-{
-    if text == "IPv4" {
-        Some(Family::V4)
-    } else if text == "IPv6" {
-        Some(Family::V6)
-    } else if text == "FQDN" {
-        Some(Family::Fqdn)
-    } else {
-        None
+    fn meaning_of(&self, text: &str) -> Option<Family> {
+        if text == "IPv4" {
+            Some(Family::V4)
+        } else if text == "IPv6" {
+            Some(Family::V6)
+        } else if text == "FQDN" {
+            Some(Family::Fqdn)
+        } else {
+            None
+        }
     }
 }
 
@@ -156,6 +155,7 @@ fn target_of<'a>(place: &'a Place<'a>, own: &str) -> Result<Option<(Text, Text)>
     }
 }
 
+#[tactic(auto, unfolding(k8s_meta::specs::Spots::then))]
 fn pod_name_of<'a>(place: &'a Place<'a>, own: &str) -> Result<Option<(Text, Text)>, ReadFault>
     ensures { Reads result (pod_name_at own.now (seen place.now)) }
 {

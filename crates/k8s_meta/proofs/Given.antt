@@ -2,7 +2,7 @@
 use Rattle.std.proofs.Common.{◌≡◌, ℕ, Bool, true, false, List, Option, Some, None, Result, Ok, Err, IfOk, if◌then◌else◌, refl, ap, subst}
 use Rattle.k8s_meta.specs.Given.{GivesOnly}
 use Rattle.k8s_meta.specs.Spots.{Reading, Reads, Spot, ◌>>=◌, is_absent, then}
-use Rattle.k8s_meta.specs.Words.{choice, default, filled, optional, required, required_if, some, unless, valid}
+use Rattle.k8s_meta.specs.Words.{choice, default, filled, optional, required, some, unless, valid}
 use Rattle.k8s_meta.specs.declared.fault.ReadFault.{ReadFault}
 use Rattle.k8s_meta.specs.declared.fault.ReadFault.TheVariants as faults
 use Rattle.k8s_meta.specs.declared.fault.What.{What}
@@ -64,17 +64,12 @@ module _ {A : Type 0} (P : A → Type 0) where
       cases true e = absurd cc
       cases false e = there s y e
 
-  pub required_if_gives : (needed : Bool) (x : A) (read : Reading A) → P x → GivesOnly P read → GivesOnly P (required_if needed x read)
-  unfolding required_if
-  required_if_gives true x read here there s y e = required_gives read there s y e
-  required_if_gives false x read here there s y e = default_gives x read here there s y e
-
   pub choice_gives : (table : List ℕ → Option A) → ((t : List ℕ) (x : A) → table t ≡ Some x → P x) → GivesOnly P (choice table)
   unfolding choice
   choice_gives table each s = after P _ _ (λ t _ x e. each t x (valid_value _ _ (table t) x e))
 
 module _ {A : Type 0} (P : Option A → Type 0) (read : Reading A) (none : P None) (there : GivesOnly (λ (x : A). P (Some x)) read) where
-  some_gives : GivesOnly P (some read)
+  pub some_gives : GivesOnly P (some read)
   some_gives s = after P _ _ (λ x is. last P (Some x) (there s x is))
 
   pub optional_gives : GivesOnly P (optional read)

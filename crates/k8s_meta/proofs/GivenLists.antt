@@ -37,7 +37,7 @@ IfThere P None = Unit {0}
 IfThere P (Some x) = P x
 
 module _ {A : Type 0} (P : A → Type 0) where
-  one_part : (o : Option A) → IfThere P o → AllByRecursion P (option_to_list o)
+  pub one_part : (o : Option A) → IfThere P o → AllByRecursion P (option_to_list o)
   one_part None is = tt
   one_part (Some x) is = (is, tt)
 

@@ -14,7 +14,7 @@ abbrev pub IsSomePort : Option ℕ → Type 0
 IsSomePort None = Unit {0}
 IsSomePort (Some port) = IsPort port
 
--- There is a name, and a creation time isn't the empty text.
+-- There is a name, and a creation time isn't the empty string.
 pub record IsLawfulMeta (meta : Meta) : Type 0 where
   pub name : meta.name ≢ []
   pub name_text : IsUtf8 meta.name

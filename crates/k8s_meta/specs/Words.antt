@@ -69,10 +69,6 @@ unless blank x read s = text s >>= λ t. if blank t then Ok x else read s
 unfoldable pub filled : {A : Type 0} → (Spot → Result A ReadFault) → Spot → Result (Option A) ReadFault
 filled read s = unless (λ t. length t == 0) None (some read) s
 
--- what has to be there in one case alone
-unfoldable pub required_if : {A : Type 0} → Bool → A → (Spot → Result A ReadFault) → Spot → Result A ReadFault
-required_if needed x read s = if needed then required read s else default x read s
-
 -- what is read, where that has no fault: a member that never gives one
 abbrev pub lenient : {A : Type 0} → (Spot → Result A ReadFault) → Spot → Option A
 lenient read s = result_ok (read s)

@@ -1,6 +1,6 @@
 ghost use Rattle.std.specs.Prelude.{◌≡◌, ◌≢◌, IfOk, None};
 ghost use Rattle.k8s_meta.specs.Spots.{◌·◌, Gives, Reads, seen};
-ghost use Rattle.k8s_meta.specs.Words.{default, lenient, object, optional, part, required, required_if, text};
+ghost use Rattle.k8s_meta.specs.Words.{default, lenient, object, optional, part, required, text};
 ghost use Rattle.k8s_meta.specs.declared.fault.ReadFault.TheVariants as faults;
 
 use crate::fault::ReadFault;
@@ -79,25 +79,7 @@ impl<'a> Place<'a> {
         reader.read(&place)
     }
 
-    /// The member, which has to be there where it is needed, or else another value where it is absent.
-    #[tactic(auto, unfolding(crate::specs::Words::required_if))]
-    pub fn required_if<R: Reader>(
-        &'a self,
-        needed: bool,
-        key: Key,
-        reader: &R,
-        other: R::Made,
-    ) -> Result<R::Made, ReadFault>
-        ensures { Reads result (required_if needed other (R.reading reader.now) ((seen self.now) · key)) }
-    {
-        if needed {
-            self.required(key, reader)
-        } else {
-            self.default(key, reader, other)
-        }
-    }
-
-    /// The text at a member, or another one where it is absent, without a copy.
+    /// The string at a member, or another one where it is absent, without a copy.
     #[tactic(auto, unfolding(crate::specs::Words::default))]
     pub fn str_or(&'a self, key: Key, other: &'a str) -> Result<&'a str, ReadFault>
         ensures { Gives (λ s. s.now) result (default other.now text ((seen self.now) · key)) }
@@ -109,7 +91,7 @@ impl<'a> Place<'a> {
         place.text()
     }
 
-    /// The member, or another text where it is absent.
+    /// The member, or another string where it is absent.
     #[tactic(auto, unfolding(crate::specs::Words::default))]
     pub fn text_or<R: Reader<Made = Text>>(
         &'a self,

@@ -17,9 +17,13 @@ within_by : (a b : Bool) (v most n : ℕ) → cond a None (cond (b && nat_le v m
 within_by true b v most n e = absurd (none-some _ e)
 within_by false b v most n e = let h = cond_some _ v n e in grind (arith, nat_tests)
 
-plain_within : (most : ℕ) (text : List ℕ) (n : ℕ) → plain_up_to most text ≡ Some n → n ≤ most
+pub plain_within : (most : ℕ) (text : List ℕ) (n : ℕ) → plain_up_to most text ≡ Some n → n ≤ most
 unfolding plain_up_to number_up_to
 plain_within most text n e = within_by (leads_with_zero text) (is_numeral 10 text) _ most n e
+
+pub number_within : (radix most : ℕ) (text : List ℕ) (n : ℕ) → number_up_to radix most text ≡ Some n → n ≤ most
+unfolding number_up_to
+number_within radix most text n e = within_by false (is_numeral radix text) _ most n e
 
 -- a number whose last bits are 0 stays when they are set to 0
 settled : (n p : ℕ) → 0 < p → n / p * p ≡ (n / p * p) / p * p

@@ -3,7 +3,7 @@ use Rattle.std.specs.Prelude.{◌++◌, Result, Ok}
 use Rattle.k8s_meta.specs.Lists.{each, each_some}
 use Rattle.k8s_meta.specs.Metadata.{meta_at}
 use Rattle.k8s_meta.specs.Spots.{Spot, ◌·◌, ◌>>=◌}
-use Rattle.k8s_meta.specs.Words.{object, part}
+use Rattle.k8s_meta.specs.Words.{part}
 use Rattle.k8s_meta.specs.declared.fault.ReadFault.{ReadFault}
 use Rattle.k8s_meta.specs.declared.key.Key.TheVariants as keys
 use Rattle.policy_objects.specs.Blocks.{block_at}
@@ -13,7 +13,6 @@ use Rattle.view_types.specs.declared.authn.NetAuthn.{NetAuthn}
 
 unfoldable pub mesh_authn_at : Spot → Result MeshAuthn ReadFault
 mesh_authn_at s = do
-  s ← object s
   meta ← meta_at s
   spec ← part (s · keys.Spec)
   written ← each written_at (spec · keys.Identities)
@@ -23,7 +22,6 @@ mesh_authn_at s = do
 -- without networks it holds no address
 unfoldable pub net_authn_at : Spot → Result NetAuthn ReadFault
 net_authn_at s = do
-  s ← object s
   meta ← meta_at s
   spec ← part (s · keys.Spec)
   blocks ← each block_at (spec · keys.Networks)

@@ -5,7 +5,7 @@ use Rattle.k8s_meta.specs.Lists.{each}
 use Rattle.k8s_meta.specs.Metadata.{meta_at}
 use Rattle.k8s_meta.specs.Scalars.{name}
 use Rattle.k8s_meta.specs.Spots.{Spot, ◌·◌, ◌>>=◌}
-use Rattle.k8s_meta.specs.Words.{boolean, default, object, optional, part}
+use Rattle.k8s_meta.specs.Words.{boolean, default, optional, part}
 use Rattle.k8s_meta.specs.declared.fault.ReadFault.{ReadFault}
 use Rattle.k8s_meta.specs.declared.fault.ReadFault.TheVariants as faults
 use Rattle.k8s_meta.specs.declared.key.Key.TheVariants as keys
@@ -47,7 +47,6 @@ authn_at own client = do
 
 unfoldable pub server_authz_at : Spot → Result ServerAuthz ReadFault
 server_authz_at s = do
-  s ← object s
   meta ← meta_at s
   spec ← part (s · keys.Spec)
   target ← part (spec · keys.Server)

@@ -5,8 +5,7 @@ ghost use Rattle.k8s_meta.specs.Spots.{◌·◌, Reads, seen};
 ghost use Rattle.k8s_meta.specs.declared.key.Key.TheVariants.{IdentityRefs};
 ghost use Rattle.policy_objects.specs.Authentications.{mesh_authn_at, net_authn_at};
 ghost use Rattle.policy_objects.specs.Identities.{identity_ref_at};
-ghost use Rattle.k8s_meta.specs.Lawful.{IsLawfulMeta};
-ghost use Rattle.view_types.specs.Lawful.{IsLawfulNetAuthn};
+ghost use Rattle.view_types.specs.Lawful.{IsLawfulMeshAuthn, IsLawfulNetAuthn};
 
 use crate::block::NetworkBlock;
 use crate::identity::{IdentityRef, WrittenIdentity, joined};
@@ -22,17 +21,23 @@ use view_types::authn::{IdSpec, MeshAuthn, NetAuthn};
 /// The MeshTLSAuthentication that stands at the path `at`. Its fault is the first in the order of its members.
 pub fn read_mesh_authn(alloc: Global, object: &Value, at: &str) -> Result<MeshAuthn, ReadFault>
     ensures value { Reads result (mesh_authn_at record { at = at.now; value = view object.now }) }
-    ensures lawful { IfOk result (λ authn. IsLawfulMeta authn.meta) }
+    ensures lawful { IfOk result IsLawfulMeshAuthn }
 {
     mesh_authn_of(&Place::top(alloc, object, at))
 }
 
 /// The MeshTLSAuthentication at a place.
-#[tactic(auto, unfolding(crate::specs::Authentications::mesh_authn_at))]
 pub fn mesh_authn_of<'a>(object: &'a Place<'a>) -> Result<MeshAuthn, ReadFault>
+    ensures value { Reads result (mesh_authn_at (seen object.now)) }
+    ensures lawful { IfOk result IsLawfulMeshAuthn }
+{
+    mesh_members_of(object)
+}
+
+#[tactic(auto, unfolding(k8s_meta::specs::Spots::then, crate::specs::Authentications::mesh_authn_at))]
+fn mesh_members_of<'a>(object: &'a Place<'a>) -> Result<MeshAuthn, ReadFault>
     ensures { Reads result (mesh_authn_at (seen object.now)) }
 {
-    object.object()?;
     let meta = meta_of(object)?;
     let spec = object.part(Key::Spec)?;
     let written = spec.each(Key::Identities, &WrittenIdentity)?;
@@ -58,11 +63,17 @@ pub fn read_net_authn(alloc: Global, object: &Value, at: &str) -> Result<NetAuth
 }
 
 /// The NetworkAuthentication at a place.
-#[tactic(auto, unfolding(crate::specs::Authentications::net_authn_at))]
 pub fn net_authn_of<'a>(object: &'a Place<'a>) -> Result<NetAuthn, ReadFault>
+    ensures value { Reads result (net_authn_at (seen object.now)) }
+    ensures lawful { IfOk result IsLawfulNetAuthn }
+{
+    net_members_of(object)
+}
+
+#[tactic(auto, unfolding(k8s_meta::specs::Spots::then, crate::specs::Authentications::net_authn_at))]
+fn net_members_of<'a>(object: &'a Place<'a>) -> Result<NetAuthn, ReadFault>
     ensures { Reads result (net_authn_at (seen object.now)) }
 {
-    object.object()?;
     let meta = meta_of(object)?;
     let spec = object.part(Key::Spec)?;
     let blocks = spec.each(Key::Networks, &NetworkBlock)?;

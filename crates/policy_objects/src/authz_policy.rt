@@ -23,11 +23,17 @@ pub fn read_authz_policy(alloc: Global, object: &Value, at: &str) -> Result<Auth
 }
 
 /// The AuthorizationPolicy at a place.
-#[tactic(auto, unfolding(crate::specs::AuthorizationPolicies::authz_policy_at))]
 pub fn authz_policy_of<'a>(object: &'a Place<'a>) -> Result<AuthzPolicy, ReadFault>
+    ensures value { Reads result (authz_policy_at (seen object.now)) }
+    ensures lawful { IfOk result IsLawfulPolicy }
+{
+    members_of(object)
+}
+
+#[tactic(auto, unfolding(k8s_meta::specs::Spots::then, crate::specs::AuthorizationPolicies::authz_policy_at))]
+fn members_of<'a>(object: &'a Place<'a>) -> Result<AuthzPolicy, ReadFault>
     ensures { Reads result (authz_policy_at (seen object.now)) }
 {
-    object.object()?;
     let meta = meta_of(object)?;
     let spec = object.part(Key::Spec)?;
     let target = spec.required(Key::TargetRef, &Reference)?;

@@ -22,7 +22,7 @@ impl Reader for NetworkBlock {
 
     ghost reading = { λ _. block_at };
 
-    #[tactic(auto, unfolding(crate::specs::Blocks::block_at))]
+    #[tactic(auto, unfolding(k8s_meta::specs::Spots::then, crate::specs::Blocks::block_at))]
     fn read<'a>(&self, place: &'a Place<'a>) -> Result<Block, ReadFault> {
         place.object()?;
         let net = place.required(Key::Cidr, &Network)?;

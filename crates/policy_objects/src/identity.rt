@@ -22,6 +22,7 @@ impl Reader for WrittenIdentity {
 
     ghost reading = { λ _. written_at };
 
+    #[tactic(auto, unfolding(k8s_meta::specs::Spots::then))]
     fn read<'a>(&self, place: &'a Place<'a>) -> Result<IdSpec, ReadFault> {
         let text = AnyText.read(place)?;
         Ok(IdSpec::Written(text))
@@ -39,7 +40,7 @@ impl<'b> Reader for ServiceAccount<'b> {
 
     ghost reading = { λ r. account_at r.own.now };
 
-    #[tactic(auto, unfolding(crate::specs::Identities::account_at))]
+    #[tactic(auto, unfolding(k8s_meta::specs::Spots::then, crate::specs::Identities::account_at))]
     fn read<'a>(&self, place: &'a Place<'a>) -> Result<IdSpec, ReadFault> {
         place.object()?;
         let name = place.required(Key::Name, &Name)?;
@@ -59,6 +60,7 @@ impl<'b> Reader for IdentityRef<'b> {
 
     ghost reading = { λ r. identity_ref_at r.own.now };
 
+    #[tactic(auto, unfolding(k8s_meta::specs::Spots::then))]
     fn read<'a>(&self, place: &'a Place<'a>) -> Result<Option<IdSpec>, ReadFault> {
         let found = Reference.read(place)?;
         Ok(identity_of(place.alloc(), self.own, found)?)

@@ -20,7 +20,7 @@ impl Reader for Reference {
 
     ghost reading = { λ _. ref_at };
 
-    #[tactic(auto, unfolding(crate::specs::References::ref_at))]
+    #[tactic(auto, unfolding(k8s_meta::specs::Spots::then, crate::specs::References::ref_at))]
     fn read<'a>(&self, place: &'a Place<'a>) -> Result<Ref, ReadFault> {
         place.object()?;
         let group = place.str_or(Key::Group, "")?;

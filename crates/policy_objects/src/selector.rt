@@ -1,9 +1,8 @@
 ghost use Rattle.std.specs.Prelude.{◌≡◌};
-ghost use Rattle.k8s_meta.specs.Spots.{Reads, seen};
-ghost use Rattle.k8s_meta.specs.Words.{choice};
 ghost use Rattle.policy_objects.specs.Selectors.{operator_of, rule_at, selector_at};
 
-use k8s_meta::fault::{ReadFault, What};
+use k8s_meta::choice::{Choice, Word};
+use k8s_meta::fault::ReadFault;
 use k8s_meta::key::Key;
 use k8s_meta::place::Place;
 use k8s_meta::reader::Reader;
@@ -18,7 +17,7 @@ impl Reader for LabelSelector {
 
     ghost reading = { λ _. selector_at };
 
-    #[tactic(auto, unfolding(crate::specs::Selectors::selector_at))]
+    #[tactic(auto, unfolding(k8s_meta::specs::Spots::then, crate::specs::Selectors::selector_at))]
     fn read<'a>(&self, place: &'a Place<'a>) -> Result<Selector, ReadFault> {
         place.object()?;
         let exact = place.labels(Key::MatchLabels)?;
@@ -35,42 +34,35 @@ impl Reader for Rule {
 
     ghost reading = { λ _. rule_at };
 
-    #[tactic(auto, unfolding(crate::specs::Selectors::rule_at))]
+    #[tactic(auto, unfolding(k8s_meta::specs::Spots::then, crate::specs::Selectors::rule_at))]
     fn read<'a>(&self, place: &'a Place<'a>) -> Result<SelRule, ReadFault> {
         place.object()?;
         let key = place.required(Key::LabelKey, &AnyText)?;
-        let op = place.required(Key::Operator, &Operator)?;
+        let op = place.required(Key::Operator, &Choice(Operator))?;
         let values = place.each(Key::Values, &AnyText)?;
         Ok(SelRule { key, op, values })
     }
 }
 
+/// The words for operators.
 struct Operator;
 
-impl Reader for Operator {
-    type Made = SelOp;
+impl Word for Operator {
+    type Meaning = SelOp;
 
-    ghost reading = { λ _. choice operator_of };
+    ghost meaning = { λ _. operator_of };
 
-    #[tactic(auto, unfolding(k8s_meta::specs::Words::choice))]
-    fn read<'a>(&self, place: &'a Place<'a>) -> Result<SelOp, ReadFault> {
-        let text = place.text()?;
-        place.valid(What::Choice, operator_of(text))
-    }
-}
-
-fn operator_of(text: &str) -> Option<SelOp>
-    ensures { result ≡ operator_of text.now }
-{
-    if text == "In" {
-        Some(SelOp::OneOf)
-    } else if text == "NotIn" {
-        Some(SelOp::NoneOf)
-    } else if text == "Exists" {
-        Some(SelOp::Present)
-    } else if text == "DoesNotExist" {
-        Some(SelOp::Lacking)
-    } else {
-        None
+    fn meaning_of(&self, text: &str) -> Option<SelOp> {
+        if text == "In" {
+            Some(SelOp::OneOf)
+        } else if text == "NotIn" {
+            Some(SelOp::NoneOf)
+        } else if text == "Exists" {
+            Some(SelOp::Present)
+        } else if text == "DoesNotExist" {
+            Some(SelOp::Lacking)
+        } else {
+            None
+        }
     }
 }

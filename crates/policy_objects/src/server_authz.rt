@@ -32,11 +32,17 @@ pub fn read_server_authz(alloc: Global, object: &Value, at: &str) -> Result<Serv
 }
 
 /// The ServerAuthorization at a place.
-#[tactic(auto, unfolding(crate::specs::ServerAuthorizations::server_authz_at))]
 pub fn server_authz_of<'a>(object: &'a Place<'a>) -> Result<ServerAuthz, ReadFault>
+    ensures value { Reads result (server_authz_at (seen object.now)) }
+    ensures lawful { IfOk result IsLawfulServerAuthz }
+{
+    members_of(object)
+}
+
+#[tactic(auto, unfolding(k8s_meta::specs::Spots::then, crate::specs::ServerAuthorizations::server_authz_at))]
+fn members_of<'a>(object: &'a Place<'a>) -> Result<ServerAuthz, ReadFault>
     ensures { Reads result (server_authz_at (seen object.now)) }
 {
-    object.object()?;
     let meta = meta_of(object)?;
     let spec = object.part(Key::Spec)?;
     let target = spec.part(Key::Server)?;
@@ -52,7 +58,7 @@ pub fn server_authz_of<'a>(object: &'a Place<'a>) -> Result<ServerAuthz, ReadFau
     })
 }
 
-#[tactic(auto, unfolding(crate::specs::ServerAuthorizations::server_ref_at))]
+#[tactic(auto, unfolding(k8s_meta::specs::Spots::then, crate::specs::ServerAuthorizations::server_ref_at))]
 fn server_ref_of<'a>(place: &'a Place<'a>) -> Result<ServerRef, ReadFault>
     ensures { Reads result (server_ref_at (seen place.now)) }
 {
@@ -77,7 +83,7 @@ fn named_or_chosen<'a>(
 }
 
 /// The client's place, and the object's own namespace.
-#[tactic(auto, unfolding(crate::specs::ServerAuthorizations::authn_at))]
+#[tactic(auto, unfolding(k8s_meta::specs::Spots::then, crate::specs::ServerAuthorizations::authn_at))]
 fn read_authn<'a>(client: &'a Place<'a>, own: &str) -> Result<AuthnSpec, ReadFault>
     ensures { Reads result (authn_at own.now (seen client.now)) }
 {
