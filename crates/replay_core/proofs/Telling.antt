@@ -6,16 +6,12 @@ use Rattle.std.specs.FinMap.{get, get-empty, get-insert, get-remove}
 use Rattle.mesh_base.specs.KeyOrder.{key_cmp}
 use Rattle.mesh_base.proofs.KeyOrder.{keys_total}
 use Rattle.mesh_base.specs.declared.key.ObjKey.{ObjKey}
-use Rattle.mesh_base.specs.declared.limits.Limits.{Limits}
 use Rattle.line_run.specs.Rows.{Row}
-use Rattle.view_types.specs.declared.config.Config.{Config}
 use Rattle.view_types.specs.declared.object.Object.{Object}
 use Rattle.view_types.specs.Objects.{key_of}
 use Rattle.object_store.specs.Relisted.{is_of, item_at}
 use Rattle.object_store.proofs.PutAll as put_all
 use Rattle.watch_events.specs.Lawful.{IsLawfulLine}
-use Rattle.watch_events.specs.Lines.{line_of}
-use Rattle.watch_events.proofs.Lawfully.{line_gives}
 use Rattle.watch_events.specs.declared.event.Event.TheVariants.{Set, Delete, Relist, Bookmark}
 use Rattle.watch_events.specs.declared.line.Line.{Line}
 use Rattle.watch_events.specs.declared.line.Line.TheVariants as lines
@@ -23,7 +19,7 @@ use Rattle.watch_events.specs.declared.line.LineFault.{LineFault}
 use Rattle.replay_core.specs.declared.refusal.Refusal.{Refusal}
 use Rattle.replay_core.specs.History.{State, refusal_after, after_line, unless_refused, after}
 use Rattle.replay_core.specs.LookBack.{told_by, last_told, IsToldByTheLast, RefusedChangesNothing}
-use Rattle.replay_core.specs.Program.{Program, reading, replay_of}
+use Rattle.replay_core.specs.Program.{Program, reading}
 
 chosen : (b : Bool) (told before : Option Object) → cond b told before ≡ last_told None (cond b (Some told) None) before
 chosen true told before = refl
@@ -63,9 +59,6 @@ told_by_the_last program reads (row ∷ past) key =
     let line = reading program row in
     let refusal = refusal_after program past row in
     told_step now line refusal key (row_lawful program reads row) ∙ ap (last_told refusal (told_by line key)) (told_by_the_last program reads past key)
-
-pub replay_reads_lawfully : (config : Config) (limits : Limits) → ReadsLawfully (replay_of config limits)
-replay_reads_lawfully config limits = line_gives config limits
 
 pub refused_changes_nothing : (program : Program) → RefusedChangesNothing program
 refused_changes_nothing program past row refusal is = ap (λ (r : Option Refusal). unless_refused r (after program past) (after_line (after program past) (reading program row))) is

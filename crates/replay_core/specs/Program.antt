@@ -1,14 +1,13 @@
 -- What a program makes of the rows of its input. Programs differ in the lines that they read and accept; what their
 -- rows lead to is the same history.
-use Rattle.std.specs.Prelude.{ℕ, Bool, true, false, List, Some, None, Result, Err}
+use Rattle.std.specs.Prelude.{ℕ, Bool, true, false, List, Result}
 use Rattle.mesh_base.specs.declared.limits.Limits.{Limits}
 use Rattle.line_run.specs.Rows.{Row}
 use Rattle.view_types.specs.declared.config.Config.{Config}
-use Rattle.watch_events.specs.Lines.{line_of}
+use Rattle.watch_events.specs.Lines.{row_says, text_line}
 use Rattle.watch_events.specs.declared.line.Line.{Line}
 use Rattle.watch_events.specs.declared.line.Line.TheVariants as lines
 use Rattle.watch_events.specs.declared.line.LineFault.{LineFault}
-use Rattle.watch_events.specs.declared.line.LineFault.TheVariants.{TooLong}
 
 pub record Program : Type 0 where
   -- what a line says, or why it doesn't read
@@ -19,8 +18,7 @@ pub record Program : Type 0 where
 
 -- what a row says, or why it doesn't read
 abbrev pub reading : Program → Row → Result Line LineFault
-reading program None = Err TooLong
-reading program (Some line) = program.reads line
+reading program row = row_says program.reads row
 
 -- A replay ends with its input alone.
 abbrev pub has_place_in_replay : Line → Bool
@@ -30,4 +28,4 @@ has_place_in_replay (lines.Subscribe id query) = true
 has_place_in_replay lines.Stop = false
 
 abbrev pub replay_of : Config → Limits → Program
-replay_of config limits = record { reads = line_of config limits; has_place = has_place_in_replay; limits = limits }
+replay_of config limits = record { reads = text_line config; has_place = has_place_in_replay; limits = limits }

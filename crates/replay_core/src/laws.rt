@@ -8,10 +8,14 @@ ghost use Rattle.replay_core.specs.Program.{Program, replay_of};
 ghost use Rattle.replay_core.specs.Sendable.{MessagesAreSendable, MessagesReadBack};
 ghost use Rattle.replay_core.specs.Sent.{EndIsSent, SameObjectsSameMessages};
 
+use watch_events::laws::lines_are_lawful;
+
 /// What is held at a key is told by the last accepted line that speaks of it.
 pub fn held_is_told_by_the_last()
     ensures { (config : Config) (limits : Limits) → IsToldByTheLast (replay_of config limits) }
-{}
+{
+    lines_are_lawful();
+}
 
 /// A refused line changes neither what is held nor what is live.
 pub fn refused_changes_nothing()
@@ -36,22 +40,30 @@ pub fn the_last_id_is_the_greatest()
 /// Each object that is held is as its reader gives it.
 pub fn held_are_lawful()
     ensures { (config : Config) (limits : Limits) → HeldAreLawful (replay_of config limits) }
-{}
+{
+    lines_are_lawful();
+}
 
 /// Each object that is held stands at its own key.
 pub fn held_at_their_keys()
     ensures { (config : Config) (limits : Limits) → HeldAtKeys (replay_of config limits) }
-{}
+{
+    lines_are_lawful();
+}
 
 /// Each message that is sent can be sent: its numbers are of their types, its strings in UTF-8, and it isn't too long.
 pub fn messages_are_sendable()
     ensures { (config : Config) (limits : Limits) → MessagesAreSendable (replay_of config limits) }
-{}
+{
+    lines_are_lawful();
+}
 
 /// What is written of each message that is sent says that message.
 pub fn messages_read_back()
     ensures { (config : Config) (limits : Limits) → MessagesReadBack (replay_of config limits) }
-{}
+{
+    lines_are_lawful();
+}
 
 /// The end of the output is what each live subscription is sent, by its id.
 pub fn the_end_is_what_each_is_sent()

@@ -1,8 +1,8 @@
 ghost use Rattle.std.specs.Prelude.{◌≡◌, ◌≤◌, ◌-◌, length, IfOk, [], false, Ok};
 ghost use Rattle.std.specs.Option.{option_copied};
-ghost use Rattle.watch_events.specs.Given.{Gives};
 ghost use Rattle.watch_events.specs.Lawful.{IsLawfulLine};
-ghost use Rattle.replay_core.specs.Program.{has_place_in_replay, reading, replay_of};
+ghost use Rattle.watch_events.specs.Lines.{row_says, text_line};
+ghost use Rattle.replay_core.specs.Program.{has_place_in_replay, replay_of};
 ghost use Rattle.replay_core.specs.Take.{IsRefusalOf, Takes};
 
 use crate::cluster::Cluster;
@@ -15,7 +15,7 @@ use mesh_base::memory::Memory;
 use std::alloc::{AllocError, Global};
 use view_types::config::Config;
 use watch_events::line::{Line, LineFault};
-use watch_events::read::read_line;
+use watch_events::read::read_row;
 
 /// A replay that is under way.
 #[derive(Drop)]
@@ -48,22 +48,6 @@ impl<'a> Replaying<'a> {
     }
 }
 
-// What a row says.
-fn read_row(
-    alloc: Global,
-    config: &Config,
-    limits: &Limits,
-    row: Option<&[u8]>,
-) -> Result<Line, LineFault>
-    ensures value { Gives result (reading (replay_of config.now limits.now) (option_copied row.entry)) }
-    ensures lawful { IfOk result IsLawfulLine }
-{
-    match row {
-        Some(line) => read_line(alloc, line, config, limits),
-        None => Err(LineFault::TooLong),
-    }
-}
-
 // Why a call was refused, if it was.
 fn refused(answer: Result<(), HubFault>) -> Result<Option<Refusal>, Memory>
     ensures { IfOk result (IsRefusalOf answer) }
@@ -92,13 +76,12 @@ fn take_line(cluster: &mut Cluster, line: Line) -> Result<Option<Refusal>, Memor
 fn take_row(
     alloc: Global,
     config: &Config,
-    limits: &Limits,
     cluster: &mut Cluster,
     row: Option<&[u8]>,
 ) -> Result<Option<Refusal>, Memory>
-    ensures { IfOk result (λ refusal. Takes has_place_in_replay (reading (replay_of config.now limits.now) (option_copied row.entry)) refusal cluster.old cluster.new) }
+    ensures { IfOk result (λ refusal. Takes has_place_in_replay (row_says (text_line config.now) (option_copied row.entry)) refusal cluster.old cluster.new) }
 {
-    match read_row(alloc, config, limits, row) {
+    match read_row(alloc, row, config) {
         Ok(line) => take_line(cluster, line),
         Err(LineFault::Memory) => Err(Memory),
         Err(fault) => Ok(Some(Refusal::Line(fault))),
@@ -124,13 +107,7 @@ impl LineMachine for Replaying<'_> {
         line: Option<&[u8]>,
         out: &mut Vec<u8>,
     ) -> Result<bool, AllocError> {
-        let Ok(refusal) = take_row(
-            self.alloc,
-            self.config,
-            &self.limits,
-            &mut self.cluster,
-            line,
-        ) else {
+        let Ok(refusal) = take_row(self.alloc, self.config, &mut self.cluster, line) else {
             return Err(AllocError);
         };
         match refusal {
