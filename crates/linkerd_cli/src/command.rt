@@ -1,7 +1,11 @@
-ghost use Rattle.std.specs.Prelude.{◌↔◌, IsTrue};
+ghost use Rattle.std.specs.Prelude.{◌≡◌, ◌≢◌, ◌↔◌, IsTrue};
 ghost use Rattle.linkerd_cli.specs.Command.{IsReplay};
 
+use line_run::Status;
 use mesh_base::text::Text;
+use std::env;
+use std::env::Env;
+use std::io::ErrorKind;
 
 /// The words are the one word `replay`.
 pub(crate) fn is_replay(words: &[Text]) -> bool
@@ -11,4 +15,31 @@ pub(crate) fn is_replay(words: &[Text]) -> bool
         [word] => word.as_str() == "replay",
         _ => false,
     }
+}
+
+/// What it comes to that the words can't be had: there was no memory for them, or they are no text.
+pub(crate) fn status_without_words(kind: ErrorKind) -> Status
+    ensures memory { kind ≡ ErrorKind.OutOfMemory → result ≡ Status.Memory }
+    ensures usage { kind ≢ ErrorKind.OutOfMemory → result ≡ Status.Usage }
+{
+    if kind == ErrorKind::OutOfMemory {
+        Status::Memory
+    } else {
+        Status::Usage
+    }
+}
+
+/// The words of the command line, without the program's name.
+pub(crate) fn words_of<R: Env + AllocGlobal>(rt: &R) -> Result<Vec<Text>, Status> {
+    let args = match env::args(rt) {
+        Ok(args) => args,
+        Err(error) => return Err(status_without_words(error.kind())),
+    };
+    let mut words = Vec::new(rt.alloc());
+    for word in args.skip(1) {
+        let Ok(()) = words.push(Text::from_string(word)) else {
+            return Err(Status::Memory);
+        };
+    }
+    Ok(words)
 }

@@ -1,62 +1,53 @@
 //! The program: the destination and policy controllers of a Linkerd 2 control plane, over a recorded feed.
 //!
 //! Stands on replay_core for what the commands do and on mesh_outside for standard input and output. `main` hands
-//! the words of the command line to `top`, whose contract cites `specs/Command` and replay_core's `specs/Headline`.
+//! the words of the command line to `top`, whose contract cites `specs/Command` and replay_core's `specs/Headline`;
+//! what standard error is told is `report`.
 #![tactic(auto)]
 
 mod command;
+mod exit;
+mod report;
+mod tally;
 mod top;
 
+use crate::command::words_of;
+use crate::exit::exit_code;
+use crate::report::Report;
+use crate::tally::Tally;
 use crate::top::{Outcome, top};
-use line_run::Status;
 use mesh_base::limits::Limits;
-use mesh_base::list::List;
-use mesh_base::memory::Memory;
-use mesh_base::text::Text;
-use mesh_outside::{MemPatterns, ReadSource, WriteSink};
-use std::alloc::Global;
-use std::env;
+use mesh_outside::{ReadSource, SurePatterns, WriteSink};
+use std::io::IsTerminal;
 use std::process::ExitCode;
 
-// The words of the command line, without the program's name.
-fn words_of(alloc: Global, args: env::Args) -> Result<Vec<Text>, Memory> {
-    let mut words = Vec::new(alloc);
-    for word in args.skip(1) {
-        words.push(Text::from_string(word))?;
-    }
-    Ok(words)
-}
-
 // What the words of the command line come to.
-fn status_of(rt: &HostRuntime) -> Status {
-    let alloc = rt.alloc();
-    let Ok(args) = env::args(rt) else {
-        return Status::Usage;
-    };
-    let Ok(words) = words_of(alloc, args) else {
-        return Status::Memory;
+fn run(rt: &HostRuntime) -> Report {
+    let words = match words_of(rt) {
+        Ok(words) => words,
+        Err(status) => return Report::of(status),
     };
     let mut input = ReadSource::new(rt.stdin());
-    let mut out = WriteSink::new(rt.stdout());
-    let mut patterns = MemPatterns {
-        refuse: List::new(alloc),
-        count: 0,
-    };
+    let mut out = Tally::new(WriteSink::new(rt.stdout()));
     let Outcome::Ended(status) = top(
-        alloc,
+        rt.alloc(),
         &words,
-        &Limits::USUAL,
+        &Limits::usual(),
         &mut input,
         &mut out,
-        &mut patterns,
+        &mut SurePatterns,
     );
-    status
+    Report {
+        status,
+        counts: out.counts,
+    }
 }
 
 fn main(rt: HostRuntime) -> ExitCode {
-    let status = status_of(&rt);
-    if status == Status::Usage {
-        let _ = eprintln!(rt; "usage: linkerd_cli replay");
-    }
-    ExitCode::from(status.code())
+    let report = run(&rt);
+    let _ = eprint!(rt; "{}", report.text(rt.stderr().is_terminal()));
+    exit_code(report.status)
 }
+
+#[cfg(test)]
+mod tests;

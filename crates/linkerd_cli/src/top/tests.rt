@@ -1,7 +1,9 @@
 mod lines;
 mod rows;
 
-ghost use Rattle.std.specs.Prelude.{◌≤◌};
+ghost use Rattle.std.specs.Prelude.{◌<◌, ◌≤◌, length};
+ghost use Rattle.line_run.specs.Run.{IsAnswered, IsTooLong};
+ghost use Rattle.linkerd_cli.specs.Command.{IsReplay};
 
 use super::{Outcome, top};
 use crate::top::tests::lines::{GET, NO_ENDPOINTS, NO_SERVICE, SERVICE, SLICE, named};
@@ -11,8 +13,8 @@ use mesh_base::copied::Copied;
 use mesh_base::limits::Limits;
 use mesh_base::list::List;
 use mesh_base::text::Text;
-use mesh_outside::{MemPatterns, MemSink, MemSource};
-use std::alloc::{AllocError, Global};
+use mesh_outside::{MemSink, MemSource, SurePatterns, SureSink, SureSource};
+use std::alloc::Global;
 use std::test::Fail;
 use view_types::config::Config;
 use watch_events::event::Event;
@@ -37,13 +39,6 @@ fn sink_of(alloc: Global, fails: &[u64]) -> Result<MemSink, Fail> {
     })
 }
 
-fn patterns_of(alloc: Global) -> MemPatterns {
-    MemPatterns {
-        refuse: List::new(alloc),
-        count: 0,
-    }
-}
-
 fn words_of(alloc: Global, words: &[&str]) -> Result<Vec<Text>, Fail> {
     let mut texts = Vec::new(alloc);
     for word in words {
@@ -52,8 +47,20 @@ fn words_of(alloc: Global, words: &[&str]) -> Result<Vec<Text>, Fail> {
     Ok(texts)
 }
 
-fn status_of(outcome: Outcome) -> Status {
-    let Outcome::Ended(status) = outcome;
+// What bytes in memory come to: no read and no write fails, so they are read to their end unless there is no memory.
+fn replayed(
+    alloc: Global,
+    words: &[Text],
+    limits: &Limits,
+    bytes: &[u8],
+    out: &mut SureSink,
+) -> Status
+    requires { 1 ≤ limits.now.frame_addrs }
+    ensures complete { IsReplay words.now → length bytes.now < limits.now.input → IsAnswered result }
+    ensures too_long { IsReplay words.now → limits.now.input ≤ length bytes.now → IsTooLong result }
+{
+    let mut input = SureSource { bytes };
+    let Outcome::Ended(status) = top(alloc, words, limits, &mut input, out, &mut SurePatterns);
     status
 }
 
@@ -62,12 +69,12 @@ fn replayed_text(alloc: Global, limits: &Limits, text: &str) -> Result<(Status, 
     requires { 1 ≤ limits.now.frame_addrs }
 {
     let words = words_of(alloc, &["replay"])?;
-    let mut input = source_of(alloc, text, &[])?;
-    let mut out = sink_of(alloc, &[])?;
-    let mut patterns = patterns_of(alloc);
-    let outcome = top(alloc, &words, limits, &mut input, &mut out, &mut patterns);
+    let mut out = SureSink {
+        bytes: Vec::new(alloc),
+    };
+    let status = replayed(alloc, &words, limits, text.as_bytes(), &mut out);
     let written = String::from_utf8(out.bytes)?;
-    Ok((status_of(outcome), written))
+    Ok((status, written))
 }
 
 // Whether the text of an input comes to this.
@@ -77,26 +84,42 @@ fn comes_to(alloc: Global, text: &str, status: Status, expected: &str) -> Result
 }
 
 // The lines of these names, each ended by `end`.
-fn lines_named(alloc: Global, words: &str, end: &str) -> Result<String, AllocError> {
+fn lines_named(alloc: Global, words: &str, end: &str) -> Result<String, Fail> {
     let mut text = String::new(alloc);
     for word in words.split(' ') {
-        text.push_str(named(word))?;
+        let Some(line) = named(word) else {
+            return Err(Fail::new("no line has this name"));
+        };
+        text.push_str(line)?;
         text.push_str(end)?;
     }
     Ok(text)
+}
+
+// The lines of a row and what they come to.
+fn row_of(row: &str) -> Result<(&str, &'static str), Fail> {
+    let Some((_, case)) = row.split_once(": ") else {
+        return Err(Fail::new("a row has no case"));
+    };
+    let Some((words, output)) = case.split_once(" => ") else {
+        return Err(Fail::new("a row has no output"));
+    };
+    let Some(expected) = named(output) else {
+        return Err(Fail::new("no output has this name"));
+    };
+    Ok((words, expected))
 }
 
 #[test]
 fn accepted_lines(rt: HostRuntime) -> Result<(), Fail> {
     let alloc = rt.alloc();
     for row in ACCEPTED.lines() {
-        let (_, case) = row.split_once(": ").unwrap_or(("", "nothing => nothing"));
-        let (words, expected) = case.split_once(" => ").unwrap_or(("", ""));
+        let (words, expected) = row_of(row)?;
         let text = lines_named(alloc, words, "\n")?;
-        let same = comes_to(alloc, &text, Status::Done, named(expected))?;
+        let same = comes_to(alloc, &text, Status::Done, expected)?;
         assert!(rt; same, "at {row}");
         let text = lines_named(alloc, words, "\r\n")?;
-        let same = comes_to(alloc, &text, Status::Done, named(expected))?;
+        let same = comes_to(alloc, &text, Status::Done, expected)?;
         assert!(rt; same, "at {row}");
     }
     Ok(())
@@ -115,7 +138,9 @@ fn least_and_greatest_id(rt: HostRuntime) -> Result<(), Fail> {
 fn refused_lines(rt: HostRuntime) -> Result<(), Fail> {
     let alloc = rt.alloc();
     for row in REFUSED.lines() {
-        let (line, fault) = row.split_once(" => ").unwrap_or(("{", "NotJson"));
+        let Some((line, fault)) = row.split_once(" => ") else {
+            return Err(Fail::new("a row has no fault"));
+        };
         let text = format!(in alloc; "{line}\n{GET}\n")?;
         let expected = format!(in alloc; "refused 1 {fault}\n{NO_SERVICE}")?;
         let same = comes_to(alloc, &text, Status::SomeRefused, &expected)?;
@@ -187,8 +212,14 @@ fn faults_and_limits(rt: HostRuntime) -> Result<(), Fail> {
     for (reads, writes, limits, expected) in cases {
         let mut input = source_of(alloc, &text, reads)?;
         let mut out = sink_of(alloc, writes)?;
-        let mut patterns = patterns_of(alloc);
-        let outcome = top(alloc, &words, &limits, &mut input, &mut out, &mut patterns);
+        let outcome = top(
+            alloc,
+            &words,
+            &limits,
+            &mut input,
+            &mut out,
+            &mut SurePatterns,
+        );
         assert_eq!(rt; outcome, Outcome::Ended(expected));
         let written = out.bytes.len();
         assert_eq!(rt; written == 0, expected != Status::Done);
@@ -204,14 +235,13 @@ fn words_that_are_no_command(rt: HostRuntime) -> Result<(), Fail> {
         let words = words_of(alloc, words)?;
         let mut input = source_of(alloc, GET, &[])?;
         let mut out = sink_of(alloc, &[])?;
-        let mut patterns = patterns_of(alloc);
         let outcome = top(
             alloc,
             &words,
             &Limits::USUAL,
             &mut input,
             &mut out,
-            &mut patterns,
+            &mut SurePatterns,
         );
         assert_eq!(rt; outcome, Outcome::Ended(Status::Usage));
         assert_eq!(rt; out.bytes.len(), 0);
@@ -273,10 +303,7 @@ fn objects_are_copied(rt: HostRuntime) -> Result<(), Fail> {
     let alloc = rt.alloc();
     let config = Config::usual(alloc)?;
     for line in OBJECTS.lines() {
-        assert!(rt;
-            line.is_empty() || has_copy(alloc, &config, line),
-            "at {line}"
-        );
+        assert!(rt; has_copy(alloc, &config, line), "at {line}");
     }
     Ok(())
 }

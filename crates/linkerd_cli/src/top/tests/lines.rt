@@ -94,12 +94,12 @@ const NAMED: &[(&str, &str)] = &[
     ("no_endpoints", NO_ENDPOINTS),
 ];
 
-/// The text of this name.
-pub fn named(word: &str) -> &'static str {
+/// The text of this name, if there is one.
+pub fn named(word: &str) -> Option<&'static str> {
     for (name, text) in NAMED {
         if *name == word {
-            return text;
+            return Some(text);
         }
     }
-    ""
+    None
 }

@@ -1,6 +1,5 @@
 /// A case, the names of its lines, and the name of what is written.
-pub const ACCEPTED: &str = "
-a Service, its slice and a subscription: service slice get => one
+pub const ACCEPTED: &str = "a Service, its slice and a subscription: service slice get => one
 an empty line between: service nothing slice get => one
 nothing: nothing => nothing
 no Service: get => no_service
@@ -28,8 +27,7 @@ a token, which nothing here uses: service slice get_with_token => one
 ";
 
 /// Lines, and why each is refused.
-pub const REFUSED: &str = r#"
-{ => NotJson
+pub const REFUSED: &str = r#"{ => NotJson
 {"control":"stop" => NotJson
 nul => NotJson
 [1e400] => NotJson
@@ -213,8 +211,8 @@ pub const LIMITED: &[(u32, u32, u64, &str, &str)] = &[
 ];
 
 /// An object of each kind that is held.
-pub const OBJECTS: &str = r#"
-{"type":"ADDED","object":{"kind":"Service","apiVersion":"v1","metadata":{"name":"web","namespace":"app","labels":{"app":"web"},"annotations":{"note":"x"},"creationTimestamp":"2026-03-02T09:14:07Z"},"spec":{"clusterIP":"10.96.0.10","ports":[{"name":"http","port":80}]}}}
+pub const OBJECTS: &str =
+    r#"{"type":"ADDED","object":{"kind":"Service","apiVersion":"v1","metadata":{"name":"web","namespace":"app","labels":{"app":"web"},"annotations":{"note":"x"},"creationTimestamp":"2026-03-02T09:14:07Z"},"spec":{"clusterIP":"10.96.0.10","ports":[{"name":"http","port":80}]}}}
 {"type":"ADDED","object":{"kind":"EndpointSlice","apiVersion":"discovery.k8s.io/v1","metadata":{"name":"web","namespace":"app","labels":{"app":"web"},"annotations":{"note":"x"},"creationTimestamp":"2026-03-02T09:14:07Z"},"addressType":"IPv6","endpoints":[{"addresses":["fd00::1"],"targetRef":{"kind":"Pod","name":"web-1"}}],"ports":[{"name":"http","port":8080}]}}
 {"type":"ADDED","object":{"kind":"ServiceProfile","apiVersion":"linkerd.io/v1alpha2","metadata":{"name":"web","namespace":"app","labels":{"app":"web"},"annotations":{"note":"x"},"creationTimestamp":"2026-03-02T09:14:07Z"},"spec":{"routes":[{"name":"get","condition":{"all":[{"method":"GET"},{"any":[{"pathRegex":"/a"},{"not":{"pathRegex":"/b"}}]}]},"responseClasses":[{"condition":{"all":[{"status":{"min":500}},{"any":[{"not":{"status":{"max":200}}}]}]},"isFailure":true}],"timeout":"1s"}],"dstOverrides":[{"authority":"b.app.svc.cluster.local","weight":"500m"}]}}}
 {"type":"ADDED","object":{"kind":"Server","apiVersion":"policy.linkerd.io/v1beta3","metadata":{"name":"web","namespace":"app","labels":{"app":"web"},"annotations":{"note":"x"},"creationTimestamp":"2026-03-02T09:14:07Z"},"spec":{"podSelector":{"matchLabels":{"app":"web"},"matchExpressions":[{"key":"tier","operator":"In","values":["a"]}]},"port":"http"}}}
