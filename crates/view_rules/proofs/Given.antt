@@ -28,7 +28,7 @@ held_back : {X : Type 0} (b : Bool) (xs : List X) (x : X) → Among x (cond b xs
 held_back true xs x h = (refl, h)
 held_back false xs x h = absurd h
 
-let_through : {X : Type 0} (b : Bool) (xs : List X) (x : X) → b ≡ true → Among x xs → Among x (cond b xs [])
+pub let_through : {X : Type 0} (b : Bool) (xs : List X) (x : X) → b ≡ true → Among x xs → Among x (cond b xs [])
 let_through b xs x e h = subst (λ b. Among x (cond b xs [])) (sym e) h
 
 only : {X : Type 0} (x y : X) → Among y (x ∷ []) → x ≡ y
@@ -50,7 +50,7 @@ slice_is ns name (EndpointSlice t) s e =
     (ap EndpointSlice (sym is.1), subst (λ s. s.meta.ns ≡ ns) is.1 ((bytes_decides t.meta.ns ns).0 tests.0), subst (λ s. service_of s ≡ Some name) is.1 (text_is name (service_of t) tests.1))
 slice_is ns name _ s e = absurd (cc e)
 
-is_slice : (ns name : List ℕ) (s : Slice) → s.meta.ns ≡ ns → service_of s ≡ Some name → slice_in ns name (EndpointSlice s) ≡ Some s
+pub is_slice : (ns name : List ℕ) (s : Slice) → s.meta.ns ≡ ns → service_of s ≡ Some name → slice_in ns name (EndpointSlice s) ≡ Some s
 is_slice ns name s here named =
     let in_ns = (bytes_decides s.meta.ns ns).1 here in
     let same : is_text name (service_of s) ≡ true = ap (is_text name) named ∙ (bytes_decides name name).1 refl in

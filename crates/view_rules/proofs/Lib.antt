@@ -1,7 +1,9 @@
 pub mod Among
 pub mod Entries
-pub mod FirstRows
+mod FirstRows
+mod Firsts
 pub mod Given
+mod Least
 pub mod Orderly
 pub mod Pairs
 mod Slices

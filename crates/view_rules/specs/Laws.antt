@@ -1,9 +1,12 @@
 -- The endpoints of a Service port, by the places that give them.
-use Rattle.std.specs.Prelude.{◌≡◌, ◌↔◌, ℕ, Bool, if◌then◌else◌, IsTrue, List, Option, Some, None, All, Contains, find, map}
+use Rattle.std.specs.Prelude.{◌≡◌, ◌≢◌, ◌↔◌, ℕ, Bool, true, if◌then◌else◌, slice_get, IsTrue, List, Option, Some, None, All, Contains, find, map}
 use Rattle.std.specs.Cmp.Lexicographic.{slice_cmp}
 use Rattle.std.specs.FinMap.{get}
 use Rattle.std.specs.List.Sorted.{IsStrictlySortedBy}
-use Rattle.std.specs.Ordering.{eq_by_cmp, nat_cmp}
+use Rattle.std.specs.Ordering.{eq_by_cmp, nat_cmp, ordering_then}
+use Rattle.std.specs.declared.cmp.Ordering.{Ordering}
+use Rattle.std.specs.declared.cmp.Ordering.TheVariants.{Greater}
+use Rattle.mesh_base.specs.declared.key.Kind.TheVariants as kind
 use Rattle.mesh_base.specs.declared.key.ObjKey.{ObjKey}
 use Rattle.net_cidr.specs.declared.ip.Ip.{Ip}
 use Rattle.view_types.specs.Objects.{AtKeys, ObjectMap}
@@ -13,7 +16,7 @@ use Rattle.view_types.specs.declared.service.NamedPort.{NamedPort}
 use Rattle.view_types.specs.declared.service.Service.{Service}
 use Rattle.view_types.specs.declared.slice.Point.{Point}
 use Rattle.view_types.specs.declared.slice.Slice.{Slice}
-use Rattle.view_rules.specs.Endpoints.{endpoints, first_rows, has_addresses, pair_cmp, pair_of, port_name, service_held, service_of, slices_held}
+use Rattle.view_rules.specs.Endpoints.{bare_row, endpoints, first_rows, has_addresses, pair_cmp, pair_of, port_name, service_held, service_of, slices_held}
 use Rattle.view_rules.specs.Fold.{IsOrderly}
 
 -- the name of the Service port of the number, where the Service has endpoints
@@ -64,3 +67,49 @@ SlicesByName = (held : ObjectMap) → AtKeys held → (ns name : List ℕ)
 -- the rows of each view are in order, and a Service that isn't there has none
 abbrev pub EndpointsAreOrderly : Type 0
 EndpointsAreOrderly = (held : ObjectMap) (ns name : List ℕ) (port : ℕ) → IsOrderly (endpoints held ns name port)
+
+-- ---- the place that a row comes from
+
+-- the name of a slice, and the places of an endpoint in it, of an address in the endpoint, and of a port in the slice
+pub record Place : Type 0 where
+  pub slice : List ℕ
+  pub point : ℕ
+  pub address : ℕ
+  pub port : ℕ
+
+abbrev pub place_cmp : Place → Place → Ordering
+place_cmp a b = ordering_then (slice_cmp nat_cmp a.slice b.slice) (ordering_then (nat_cmp a.point b.point) (ordering_then (nat_cmp a.address b.address) (nat_cmp a.port b.port)))
+
+-- what stands in the slice at the place gives the row, at ports of the name
+pub record GivesFrom (port_name : List ℕ) (slice : Slice) (place : Place) (row : EndpointRow) : Type 0 where
+  pub with_addresses : has_addresses slice.family ≡ true
+  pub point : Point
+  pub at_point : slice_get slice.points place.point ≡ Some point
+  pub ready : point.ready ≡ true
+  pub ip : Ip
+  pub at_address : slice_get point.addrs place.address ≡ Some ip
+  pub entry : NamedPort
+  pub at_port : slice_get slice.ports place.port ≡ Some entry
+  pub tcp : entry.tcp ≡ true
+  pub same_name : entry.name ≡ port_name
+  pub made : bare_row ip entry.port ≡ row
+
+abbrev pub slice_key : List ℕ → List ℕ → ObjKey
+slice_key ns name = record { kind = kind.EndpointSlice; ns = ns; name = name }
+
+-- the place, in a slice of the Service, gives the row
+pub record Gives (held : ObjectMap) (ns name port_name : List ℕ) (place : Place) (row : EndpointRow) : Type 0 where
+  pub slice : Slice
+  pub at_key : get held (slice_key ns place.slice) ≡ Some (object.EndpointSlice slice)
+  pub of_service : service_of slice ≡ Some name
+  pub from : GivesFrom port_name slice place row
+
+-- the row comes from a place, and no place before it gives a row of the same address and port
+pub record IsOfTheLeast (held : ObjectMap) (ns name port_name : List ℕ) (row : EndpointRow) : Type 0 where
+  pub place : Place
+  pub gives : Gives held ns name port_name place row
+  pub least : (other : Place) (found : EndpointRow) → Gives held ns name port_name other found → pair_of found ≡ pair_of row → place_cmp place other ≢ Greater
+
+abbrev pub RowsAreOfTheLeast : Type 0
+RowsAreOfTheLeast = (held : ObjectMap) → AtKeys held → (ns name port_name : List ℕ) (number : ℕ) (row : EndpointRow)
+    → name_of_port number (service_held held ns name) ≡ Some port_name → Contains (endpoints held ns name number).rows row → IsOfTheLeast held ns name port_name row

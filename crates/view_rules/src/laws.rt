@@ -1,4 +1,4 @@
-ghost use Rattle.view_rules.specs.Laws.{EndpointsAreOrderly, FirstRowsAreFirst, PairsAreGiven, SlicesByName};
+ghost use Rattle.view_rules.specs.Laws.{EndpointsAreOrderly, FirstRowsAreFirst, PairsAreGiven, RowsAreOfTheLeast, SlicesByName};
 
 /// A pair of address and port stands in a view exactly where some place gives it.
 pub fn pairs_are_given()
@@ -18,4 +18,10 @@ pub fn slices_by_name()
 /// The rows of each view are in order, and a Service that isn't there has none.
 pub fn endpoints_are_orderly()
     ensures { EndpointsAreOrderly }
+{}
+
+/// The row of an address and port comes from the least place that gives it: by the slice's name, the endpoint, the
+/// address and the port.
+pub fn rows_are_of_the_least()
+    ensures { RowsAreOfTheLeast }
 {}
