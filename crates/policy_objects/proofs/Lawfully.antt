@@ -41,9 +41,9 @@ lawful_net_gives s n e = record { base = base_gives s n e; round = net_gives s n
 block_gives : GivesOnly IsLawfulBlock block_at
 unfolding block_at
 block_gives s = after IsLawfulBlock _ _ (λ b _. after IsLawfulBlock _ _ (λ whole is. after IsLawfulBlock _ _ (λ except are. last IsLawfulBlock _ (record {
-      whole = required_gives IsLawfulNet net lawful_net_gives _ whole is;
-      except = each_gives IsLawfulNet net lawful_net_gives _ except are;
-    }))))
+  whole = required_gives IsLawfulNet net lawful_net_gives _ whole is;
+  except = each_gives IsLawfulNet net lawful_net_gives _ except are;
+}))))
 
 lawful_v4 : IsLawfulBlock (family_block (V4 0))
 lawful_v4 = record { whole = record { base = omega arith; round = record { sized = omega arith; round = refl } }; except = tt }
@@ -119,7 +119,7 @@ module _ (own : List ℕ) (own_text : IsUtf8 own) where
   unfolding authn_at
   authn_gives s = after IsLawfulAuthnSpec _ _ (λ without_tls _. after IsLawfulAuthnSpec _ _ (λ tls _. after IsLawfulAuthnSpec _ _ (λ any_tls _. after IsLawfulAuthnSpec _ _ (λ written are. after IsLawfulAuthnSpec _ _ (λ accounts others.
       last IsLawfulAuthnSpec _ (one_of without_tls any_tls (written ++ accounts)
-        (all-append IsLawfulId written accounts (each_gives IsLawfulId written_at written_gives _ written are) (each_gives IsLawfulId (account_at own) account_gives _ accounts others))))))))
+      (all-append IsLawfulId written accounts (each_gives IsLawfulId written_at written_gives _ written are) (each_gives IsLawfulId (account_at own) account_gives _ accounts others))))))))
 
 -- ---- objects
 
@@ -161,6 +161,6 @@ mesh_authn_gives s = after IsLawfulMeshAuthn _ _ (λ meta is_meta. after IsLawfu
 pub net_authn_gives : GivesOnly IsLawfulNetAuthn net_authn_at
 unfolding net_authn_at
 net_authn_gives s = after IsLawfulNetAuthn _ _ (λ meta is_meta. after IsLawfulNetAuthn _ _ (λ spec _. after IsLawfulNetAuthn _ _ (λ blocks are. last IsLawfulNetAuthn _ (record {
-      meta = meta_gives 253 _ meta is_meta;
-      blocks = each_gives IsLawfulBlock block_at block_gives _ blocks are;
-    }))))
+  meta = meta_gives 253 _ meta is_meta;
+  blocks = each_gives IsLawfulBlock block_at block_gives _ blocks are;
+}))))
