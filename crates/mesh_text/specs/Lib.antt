@@ -3,6 +3,7 @@ pub mod Contexts
 pub mod FullNames
 pub mod Groups
 pub mod Json
+pub mod Mesh
 pub mod Methods
 pub mod Names
 pub mod PolicyWords
