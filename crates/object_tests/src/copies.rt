@@ -303,32 +303,62 @@ fn is_copied<T: Copied + Same>(alloc: Global, value: &T) -> bool {
     }
 }
 
-#[test]
-fn what_is_shown(rt: HostRuntime) {
-    let alloc = rt.alloc();
-    let view = EndpointView {
-        exists: true,
-        rows: one(alloc, endpoint(alloc)),
-    };
-    assert!(rt; is_copied(alloc, &View::Endpoints(view)));
-    assert!(rt; is_copied(alloc, &View::Profile(profile_view(alloc))));
-    assert!(rt; is_copied(alloc, &View::Server(ServerView::Absent)));
-    assert!(rt; is_copied(alloc, &View::Server(ServerView::Present(server_row(alloc)))));
-    assert!(rt; is_copied(alloc, &authz_row(alloc, Authn::Anyone)));
-    assert!(rt; is_copied(alloc, &View::Outbound(OutboundView::Absent)));
-    let forward = OutboundView::Forward {
-        endpoint: endpoint(alloc),
-        opaque: true,
-    };
-    assert!(rt; is_copied(alloc, &View::Outbound(forward)));
-    let service = OutboundView::Service {
+fn copies_view(alloc: Global, view: View) -> bool {
+    is_copied(alloc, &view)
+}
+
+fn copies_authz(alloc: Global, row: AuthzRow) -> bool {
+    is_copied(alloc, &row)
+}
+
+fn outbound(alloc: Global) -> OutboundView {
+    OutboundView::Service {
         ns: text(alloc, "app"),
         name: text(alloc, "web"),
         port: 80,
         opaque: true,
         routes: one(alloc, route_row(alloc)),
-    };
-    assert!(rt; is_copied(alloc, &View::Outbound(service)));
-    assert!(rt; is_copied(alloc, &Message::Add(one(alloc, endpoint(alloc)))));
-    assert!(rt; is_copied(alloc, &Message::NoEndpoints(true)));
+    }
+}
+
+fn forward(alloc: Global) -> OutboundView {
+    OutboundView::Forward {
+        endpoint: endpoint(alloc),
+        opaque: true,
+    }
+}
+
+fn endpoint_view(alloc: Global) -> EndpointView {
+    EndpointView {
+        exists: true,
+        rows: one(alloc, endpoint(alloc)),
+    }
+}
+
+#[test]
+fn what_is_shown(rt: HostRuntime) {
+    let alloc = rt.alloc();
+    assert!(rt; copies_view(alloc, View::Endpoints(endpoint_view(alloc))));
+    assert!(rt; copies_view(alloc, View::Profile(profile_view(alloc))));
+    assert!(rt; copies_view(alloc, View::Server(ServerView::Absent)));
+    assert!(rt; copies_view(alloc, View::Server(ServerView::Present(server_row(alloc)))));
+    assert!(rt; copies_authz(alloc, authz_row(alloc, Authn::Anyone)));
+    assert!(rt; copies_view(alloc, View::Outbound(OutboundView::Absent)));
+    assert!(rt; copies_view(alloc, View::Outbound(forward(alloc))));
+    assert!(rt; copies_view(alloc, View::Outbound(outbound(alloc))));
+}
+
+const ADD: &str =
+    r#"Add([{ip:0.0.0.1,port:8080,weight:10000,labels:{"pod":"web-1"},identity:"id",tunnel:4143,h2:true}])"#;
+
+fn copies_message(alloc: Global, message: Message, expected: &str) -> bool {
+    tell(alloc, Ok::<Message, Memory>(message)).is(expected)
+}
+
+#[test]
+fn messages(rt: HostRuntime) {
+    let alloc = rt.alloc();
+    let add = Message::Add(one(alloc, endpoint(alloc)));
+    assert!(rt; copies_message(alloc, add, ADD));
+    assert!(rt; copies_message(alloc, Message::NoEndpoints(true), "NoEndpoints(true)"));
 }
