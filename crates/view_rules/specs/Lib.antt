@@ -2,4 +2,5 @@ pub mod Batch
 pub mod Endpoints
 pub mod Fold
 pub mod Laws
+pub mod PodRows
 pub mod Views

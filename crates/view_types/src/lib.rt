@@ -1,9 +1,9 @@
 //! The types that the controllers share: the objects of a cluster, what proxies ask for, the views that they are
 //! given, and the messages that carry the difference.
 //!
-//! Stands on mesh_base, net_cidr, label_select and k8s_meta. Its specs hold the definitions that the crates above cite:
-//! an object's key (`specs/Objects`), what later calls require of an object (`specs/Lawful`), the endpoints of a Service
-//! (`specs/Endpoints`), the batch between two views (`specs/Batch`) and the usual configuration (`specs/Defaults`).
+//! Stands on mesh_base, net_cidr, label_select and k8s_meta. Its specs hold what the crates above cite of an object: its
+//! key (`specs/Objects`) and what later calls require of it (`specs/Lawful`); and the usual configuration
+//! (`specs/Defaults`). What views show is defined in view_rules.
 //! Every copy equals its source (`Copied`), and views compare exactly (`Same`).
 #![tactic(auto)]
 

@@ -1,0 +1,72 @@
+-- The row of an endpoint whose Pod is known.
+use Rattle.std.specs.Prelude.{codes, ◌&&◌, ℕ, Bool, List, Option, Some, None, not, nat_le, if◌then◌else◌}
+use Rattle.std.specs.List.{list_any}
+use Rattle.std.specs.FinMap.{empty, get, insert}
+use Rattle.mesh_base.specs.declared.key.Kind.TheVariants as kind
+use Rattle.mesh_base.specs.declared.key.ObjKey.{ObjKey}
+use Rattle.mesh_text.specs.Mesh.{identity_of, is_meshed, opaque_ranges}
+use Rattle.net_cidr.specs.declared.ip.Ip.{Ip}
+use Rattle.view_types.specs.Objects.{ObjectMap}
+use Rattle.view_types.specs.declared.config.Config.{Config}
+use Rattle.view_types.specs.declared.endpoint.EndpointRow.{EndpointRow}
+use Rattle.view_types.specs.declared.object.Object.{Object}
+use Rattle.view_types.specs.declared.object.Object.TheVariants as object
+use Rattle.view_types.specs.declared.pod.Pod.{Pod}
+use Rattle.view_rules.specs.Endpoints.{bare_row}
+
+-- ---- the Pod that is held
+
+abbrev pub pod_key : List ℕ → List ℕ → ObjKey
+pod_key ns name = record { kind = kind.Pod; ns = ns; name = name }
+
+abbrev pub as_pod : Object → Option Pod
+as_pod (object.Pod pod) = Some pod
+as_pod _ = None
+
+abbrev pub pod_found : Option Object → Option Pod
+pod_found None = None
+pod_found (Some o) = as_pod o
+
+-- what an endpoint targets, by namespace and name
+abbrev pub pod_held : ObjectMap → Option (List ℕ × List ℕ) → Option Pod
+pod_held held None = None
+pod_held held (Some target) = pod_found (get held (pod_key target.0 target.1))
+
+-- ---- its row
+
+abbrev pub is_opaque : Pod → ℕ → Bool
+is_opaque pod port = list_any (λ r. nat_le r.0 port && nat_le port r.1) (opaque_ranges pod.meta)
+
+-- the port at which proxies take tunnelled connections
+abbrev pub tunnel_port : ℕ
+tunnel_port = 4143
+
+abbrev pub meshed_row : Config → Pod → ℕ → EndpointRow → EndpointRow
+meshed_row config pod port row = record {
+  ip = row.ip;
+  port = row.port;
+  weight = row.weight;
+  labels = row.labels;
+  identity = Some (identity_of config pod.meta.ns pod.account);
+  tunnel = Some tunnel_port;
+  h2 = not (is_opaque pod port);
+}
+
+abbrev pub labelled_row : Pod → EndpointRow → EndpointRow
+labelled_row pod row = record {
+  ip = row.ip;
+  port = row.port;
+  weight = row.weight;
+  labels = insert (insert empty (codes "pod") pod.meta.name) (codes "serviceaccount") pod.account;
+  identity = row.identity;
+  tunnel = row.tunnel;
+  h2 = row.h2;
+}
+
+-- an endpoint of a Pod has its labels, and where the Pod is meshed also its identity, the tunnel, and HTTP/2 except at
+-- an opaque port
+abbrev pub row_of : Config → Option Pod → Ip → ℕ → EndpointRow
+row_of config None ip port = bare_row ip port
+row_of config (Some pod) ip port =
+    let row = labelled_row pod (bare_row ip port) in
+    if is_meshed config pod.meta then meshed_row config pod port row else row
