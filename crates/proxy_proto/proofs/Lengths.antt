@@ -7,14 +7,14 @@ use Rattle.net_cidr.specs.declared.ip.Ip.{Ip}
 use Rattle.net_cidr.specs.declared.ip.Ip.TheVariants.{V4, V6}
 use Rattle.view_types.specs.declared.endpoint.EndpointRow.{EndpointRow}
 use Rattle.view_types.specs.declared.message.Message.{Message}
-use Rattle.view_types.specs.declared.message.Message.TheVariants.{Add, NoEndpoints}
+use Rattle.view_types.specs.declared.message.Message.TheVariants.{Add, Remove, NoEndpoints}
 use Rattle.proto_wire.specs.declared.record.Rec.{Rec}
 use Rattle.proto_wire.specs.declared.record.WireValue.TheVariants.{Varint, Fixed64, Fixed32}
 use Rattle.proto_wire.specs.Wire.{varint_up_to, spelled, spelling}
 use Rattle.proto_wire.proofs.Lengths.{number-length, fixed64-length, fixed32-length, chunk-length}
 use Rattle.proto_wire.proofs.Spellings.{spelling-append}
-use Rattle.proxy_proto.specs.Messages.{chunk, number_field, fixed64_field, each_field, half_records, ip_records, address_records, hint_field, row_records, message_records, canonical}
-use Rattle.proxy_proto.specs.Plain.{IsPlain, IsPlainMessage, rows_in}
+use Rattle.proxy_proto.specs.Messages.{chunk, number_field, fixed64_field, each_field, half_records, ip_records, address_records, pair_records, hint_field, row_records, message_records, canonical}
+use Rattle.proxy_proto.specs.Plain.{IsPlain, IsPlainMessage, count_in}
 
 -- joined records, by the lengths of the parts
 joined : (xs ys : List Rec) → length (spelling (xs ++ ys)) ≡ length (spelling xs) + length (spelling ys)
@@ -91,22 +91,34 @@ rows_most (row ∷ rows) plain =
     let rest = rows_most rows (λ k d lt. plain (suc k) d (omega arith)) in
     omega arith
 
+pairs_most : (pairs : List (Ip × ℕ)) → length (spelling (each_field 1 pair_records pairs)) ≤ 62 * length pairs
+pairs_most [] = lit≤ tt
+pairs_most (pair ∷ pairs) =
+    let here = address_most pair.0 pair.1 in
+    let most = chunk_most 1 (spelling (pair_records pair)) (each_field 1 pair_records pairs) (lit< tt) in
+    let rest = pairs_most pairs in
+    omega arith
+
 none_most : (exists : Bool) → length (canonical (NoEndpoints exists)) ≤ 11
 unfolding message_records spelled varint_up_to
 none_most true = lit≤ tt
 none_most false = lit≤ tt
 
 -- a message of plain rows
-pub plain_length : (message : Message) → IsPlainMessage message → length (canonical message) ≤ 84 * length (rows_in message) + 11
+pub plain_length : (message : Message) → IsPlainMessage message → length (canonical message) ≤ 84 * count_in message + 11
 unfolding message_records
 plain_length (Add rows) plain =
     let inside = rows_most rows plain in
     let most = chunk_most 1 (spelling (each_field 1 row_records rows)) [] (lit< tt) in
     omega arith
+plain_length (Remove pairs) plain =
+    let inside = pairs_most pairs in
+    let most = chunk_most 2 (spelling (each_field 1 pair_records pairs)) [] (lit< tt) in
+    omega arith
 plain_length (NoEndpoints exists) plain = none_most exists
 
--- a message of at most a thousand plain rows fits a frame
-pub plain_fits : (message : Message) → IsPlainMessage message → length (rows_in message) ≤ 1000 → length (canonical message) < 2 ^ 32
+-- a message of at most a thousand plain rows or addresses fits a frame
+pub plain_fits : (message : Message) → IsPlainMessage message → count_in message ≤ 1000 → length (canonical message) < 2 ^ 32
 plain_fits message plain few =
     let most = plain_length message plain in
     omega arith

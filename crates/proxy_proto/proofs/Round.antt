@@ -14,13 +14,13 @@ use Rattle.net_cidr.specs.declared.ip.Ip.{Ip}
 use Rattle.net_cidr.specs.declared.ip.Ip.TheVariants.{V4, V6}
 use Rattle.view_types.specs.declared.endpoint.EndpointRow.{EndpointRow}
 use Rattle.view_types.specs.declared.message.Message.{Message}
-use Rattle.view_types.specs.declared.message.Message.TheVariants.{Add, NoEndpoints}
+use Rattle.view_types.specs.declared.message.Message.TheVariants.{Add, Remove, NoEndpoints}
 use Rattle.proto_wire.specs.declared.record.Rec.{Rec}
 use Rattle.proto_wire.specs.Wire.{scan_in, spelled, spelling}
 use Rattle.proto_wire.proofs.Spellings.{spelling-append}
-use Rattle.proxy_proto.specs.Messages.{chunk, number_field, fixed64_field, bool_field, text_field, optional_field, each_field, half_records, ip_records, address_records, label_records, identity_records, h2_field, hint_records, hint_field, row_records, message_records, canonical}
-use Rattle.proxy_proto.specs.Reading.{records_of, value_at, number_from, fixed64_from, chunk_from, inside, each_in, ip_in, label_in, some_text, identity_in, tunnel_in, row_in, message_in}
-use Rattle.proxy_proto.specs.Sendable.{PortFits, IsSendableIdentity, IsSendableRow, IsSendable}
+use Rattle.proxy_proto.specs.Messages.{chunk, number_field, fixed64_field, bool_field, text_field, optional_field, each_field, half_records, ip_records, address_records, label_records, identity_records, h2_field, hint_records, hint_field, row_records, pair_records, message_records, canonical}
+use Rattle.proxy_proto.specs.Reading.{records_of, value_at, number_from, fixed64_from, chunk_from, inside, each_in, ip_in, label_in, some_text, identity_in, tunnel_in, pair_in, row_in, message_in}
+use Rattle.proxy_proto.specs.Sendable.{PortFits, IsSendableRow, IsSendablePair, IsSendable}
 use Rattle.proxy_proto.proofs.Found.{IsSound, recorded, body_short, all_inside, sound_append, sound_number, sound_fixed64, sound_chunk, sound_optional, sound_each, skip, not_number, not_fixed64, not_optional, not_each, found_number, found_fixed64, only_number, only_fixed64, each_skip, each_back}
 
 nothing_read : records_of [] ≡ []
@@ -78,6 +78,10 @@ address_ip ip port fits lt =
 address_port : (ip : Ip) (port : ℕ) → number_from (value_at 2 (address_records ip port)) ≡ port
 unfolding address_records
 address_port ip port = only_number 2 port
+
+pair_back : (pair : Ip × ℕ) → IsSendablePair pair → length (spelling (pair_records pair)) < 2 ^ 64 → pair_in (records_of (spelling (pair_records pair))) ≡ pair
+unfolding pair_in
+pair_back pair fits lt = rw (recorded (pair_records pair) (address_sound pair.0 pair.1 fits.port) lt, address_ip pair.0 pair.1 fits.ip lt, address_port pair.0 pair.1) refl
 
 -- ---- a label
 
@@ -318,6 +322,7 @@ flag_back false = refl
 message_sound : (message : Message) → AllByRecursion IsSound (message_records message)
 unfolding message_records
 message_sound (Add rows) = (sound_chunk 1 (spelling (each_field 1 row_records rows)) (lit< tt) (lit< tt), tt)
+message_sound (Remove pairs) = (sound_chunk 2 (spelling (each_field 1 pair_records pairs)) (lit< tt) (lit< tt), tt)
 message_sound (NoEndpoints exists) = (sound_chunk 3 (spelling (bool_field 1 exists)) (lit< tt) (lit< tt), tt)
 
 message_is : (message : Message) → IsSendable message → message_in (message_records message) ≡ message
@@ -328,6 +333,13 @@ message_is (Add rows) fits =
     let read = recorded (each_field 1 row_records rows) (sound_each 1 row_records rows (lit< tt) (lit< tt)) (omega arith) in
     let all = all_inside 1 row_records IsSendableRow (λ row. row_in (records_of (spelling (row_records row))) ≡ row) (2 ^ 64) rows (λ row h l. ap row_in (recorded (row_records row) (row_sound row h) l) ∙ row_back row h l) fits.rows (omega arith) in
     let back = ap (each_in 1 row_in) (sym (append-nil (each_field 1 row_records rows))) ∙ each_back 1 row_records row_in rows [] refl all in
+    rw (read, back) refl
+message_is (Remove pairs) fits =
+    let lt = fits.short in
+    let short = first_short 2 (spelling (each_field 1 pair_records pairs)) [] in
+    let read = recorded (each_field 1 pair_records pairs) (sound_each 1 pair_records pairs (lit< tt) (lit< tt)) (omega arith) in
+    let all = all_inside 1 pair_records IsSendablePair (λ pair. pair_in (records_of (spelling (pair_records pair))) ≡ pair) (2 ^ 64) pairs (λ pair h l. pair_back pair h l) fits.pairs (omega arith) in
+    let back = ap (each_in 1 pair_in) (sym (append-nil (each_field 1 pair_records pairs))) ∙ each_back 1 pair_records pair_in pairs [] refl all in
     rw (read, back) refl
 message_is (NoEndpoints exists) fits =
     let lt = fits.short in

@@ -7,7 +7,7 @@ use Rattle.net_cidr.specs.declared.ip.Ip.{Ip}
 use Rattle.net_cidr.specs.declared.ip.Ip.TheVariants.{V4, V6}
 use Rattle.view_types.specs.declared.endpoint.EndpointRow.{EndpointRow}
 use Rattle.view_types.specs.declared.message.Message.{Message}
-use Rattle.view_types.specs.declared.message.Message.TheVariants.{Add, NoEndpoints}
+use Rattle.view_types.specs.declared.message.Message.TheVariants.{Add, Remove, NoEndpoints}
 use Rattle.proto_wire.specs.declared.record.Rec.{Rec}
 use Rattle.proto_wire.specs.declared.record.WireValue.TheVariants.{Varint, Fixed64, Fixed32, Chunk}
 use Rattle.proto_wire.specs.Wire.{spelling}
@@ -80,10 +80,14 @@ row_records row =
     ++ (optional_field 5 identity_records row.identity
     ++ hint_field row.h2 row.tunnel)))
 
--- ---- Update: a choice of WeightedAddrSet and NoEndpoints
+-- ---- Update: a choice of WeightedAddrSet, AddrSet and NoEndpoints
+
+abbrev pub pair_records : Ip × ℕ → List Rec
+pair_records pair = address_records pair.0 pair.1
 
 unfoldable pub message_records : Message → List Rec
 message_records (Add rows) = chunk 1 (spelling (each_field 1 row_records rows)) ∷ []
+message_records (Remove pairs) = chunk 2 (spelling (each_field 1 pair_records pairs)) ∷ []
 message_records (NoEndpoints exists) = chunk 3 (spelling (bool_field 1 exists)) ∷ []
 
 -- the one spelling of a message

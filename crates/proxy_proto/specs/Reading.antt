@@ -6,7 +6,7 @@ use Rattle.net_cidr.specs.declared.ip.Ip.{Ip}
 use Rattle.net_cidr.specs.declared.ip.Ip.TheVariants.{V4, V6}
 use Rattle.view_types.specs.declared.endpoint.EndpointRow.{EndpointRow}
 use Rattle.view_types.specs.declared.message.Message.{Message}
-use Rattle.view_types.specs.declared.message.Message.TheVariants.{Add, NoEndpoints}
+use Rattle.view_types.specs.declared.message.Message.TheVariants.{Add, Remove, NoEndpoints}
 use Rattle.proto_wire.specs.declared.record.Rec.{Rec}
 use Rattle.proto_wire.specs.declared.record.WireValue.{WireValue}
 use Rattle.proto_wire.specs.declared.record.WireValue.TheVariants.{Varint, Fixed64, Fixed32, Chunk}
@@ -70,6 +70,9 @@ port_from value = number_from (value_at 1 (records_of (chunk_from (Some value)))
 unfoldable pub tunnel_in : List Rec → Option ℕ
 tunnel_in rs = option_map port_from (value_at 2 rs)
 
+unfoldable pub pair_in : List Rec → Ip × ℕ
+pair_in rs = (ip_in (inside 1 rs), number_from (value_at 2 rs))
+
 unfoldable pub row_in : List Rec → EndpointRow
 row_in rs = record {
   ip = ip_in (inside 1 (inside 1 rs));
@@ -84,4 +87,5 @@ row_in rs = record {
 unfoldable pub message_in : List Rec → Message
 message_in rs =
     if is_some (value_at 1 rs) then Add (each_in 1 row_in (inside 1 rs))
+    else if is_some (value_at 2 rs) then Remove (each_in 1 pair_in (inside 2 rs))
     else NoEndpoints (not (number_from (value_at 1 (inside 3 rs)) == 0))

@@ -4,10 +4,11 @@ use Rattle.std.specs.Prelude.{ℕ, ◌<◌, ◌≢◌, ◌^◌, List, [], Option
 use Rattle.std.specs.List.{AllByRecursion}
 use Rattle.std.specs.FinMap.{entries}
 use Rattle.net_cidr.specs.Texts.{FitsIp}
+use Rattle.net_cidr.specs.declared.ip.Ip.{Ip}
 use Rattle.view_types.specs.declared.endpoint.EndpointRow.{EndpointRow}
 use Rattle.view_types.specs.declared.message.Message.{Message}
 use Rattle.proxy_proto.specs.Messages.{canonical}
-use Rattle.proxy_proto.specs.Plain.{rows_in}
+use Rattle.proxy_proto.specs.Plain.{pairs_in, rows_in}
 
 abbrev pub PortFits : Option ℕ → Type 0
 PortFits None = Unit {0}
@@ -28,6 +29,11 @@ pub record IsSendableRow (row : EndpointRow) : Type 0 where
   pub labels : AllByRecursion IsSendableLabel (entries row.labels)
   pub identity : IsSendableIdentity row.identity
 
+pub record IsSendablePair (pair : Ip × ℕ) : Type 0 where
+  pub ip : FitsIp pair.0
+  pub port : pair.1 < 65536
+
 pub record IsSendable (message : Message) : Type 0 where
   pub rows : AllByRecursion IsSendableRow (rows_in message)
+  pub pairs : AllByRecursion IsSendablePair (pairs_in message)
   pub short : length (canonical message) < 2 ^ 64

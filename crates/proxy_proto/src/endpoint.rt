@@ -33,20 +33,13 @@ impl Part for Ip {
     }
 }
 
-/// An address with a port.
-#[derive(Clone, Copy, Debug)]
-pub struct TcpAddress {
-    pub ip: Ip,
-    pub port: u16,
-}
-
-impl Part for TcpAddress {
-    ghost records = { λ address. address_records address.ip address.port };
+impl Part for (Ip, u16) {
+    ghost records = { λ pair. address_records pair.0 pair.1 };
 
     #[tactic(auto, using(proto_wire::proofs::Spellings::spellings), unfolding(crate::specs::Messages::address_records))]
     fn write(&self, alloc: Global, out: &mut List<u8>) -> Result<(), Memory> {
-        write_in(alloc, out, 1, &self.ip)?;
-        put_number_field(out, 2, self.port as u64)
+        write_in(alloc, out, 1, &self.0)?;
+        put_number_field(out, 2, self.1 as u64)
     }
 }
 
@@ -129,10 +122,7 @@ impl Part for EndpointRow {
 
     #[tactic(auto, using(proto_wire::proofs::Spellings::spellings), unfolding(crate::specs::Messages::row_records))]
     fn write(&self, alloc: Global, out: &mut List<u8>) -> Result<(), Memory> {
-        let address = TcpAddress {
-            ip: self.ip,
-            port: self.port,
-        };
+        let address = (self.ip, self.port);
         let hint = Hint {
             h2: self.h2,
             tunnel: self.tunnel,

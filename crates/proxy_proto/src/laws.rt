@@ -1,7 +1,7 @@
 ghost use Rattle.std.specs.Prelude.{◌≡◌, ◌*◌, ◌+◌, ◌≤◌, length};
 ghost use Rattle.view_types.specs.declared.message.Message.{Message};
 ghost use Rattle.proxy_proto.specs.Messages.{canonical};
-ghost use Rattle.proxy_proto.specs.Plain.{IsPlainMessage, rows_in};
+ghost use Rattle.proxy_proto.specs.Plain.{IsPlainMessage, count_in};
 ghost use Rattle.proxy_proto.specs.Reading.{records_of, message_in};
 ghost use Rattle.proxy_proto.specs.Sendable.{IsSendable};
 
@@ -15,8 +15,8 @@ pub fn spellings_differ()
     ensures { (one other : Message) → IsSendable one → IsSendable other → canonical one ≡ canonical other → one ≡ other }
 {}
 
-/// A message whose rows have no labels, identity and hint takes at most 84 bytes a row and 11 more, far below the
+/// A message whose rows have no labels, identity and hint takes at most 84 bytes an address and 11 more, far below the
 /// 2^32 bytes that a frame can't hold.
 pub fn plain_messages_are_short()
-    ensures { (message : Message) → IsPlainMessage message → length (canonical message) ≤ 84 * length (rows_in message) + 11 }
+    ensures { (message : Message) → IsPlainMessage message → length (canonical message) ≤ 84 * count_in message + 11 }
 {}

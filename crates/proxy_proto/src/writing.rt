@@ -25,6 +25,10 @@ impl Part for Message {
                 write_each(alloc, &mut inside, 1, rows.as_slice())?;
                 put_chunk(out, 1, inside.as_slice())
             }
+            Message::Remove(pairs) => {
+                write_each(alloc, &mut inside, 1, pairs.as_slice())?;
+                put_chunk(out, 2, inside.as_slice())
+            }
             Message::NoEndpoints(exists) => {
                 put_bool_field(&mut inside, 1, *exists)?;
                 put_chunk(out, 3, inside.as_slice())

@@ -4,6 +4,7 @@ use crate::endpoint::EndpointRow;
 use mesh_base::copied::Copied;
 use mesh_base::list::List;
 use mesh_base::memory::Memory;
+use net_cidr::ip::Ip;
 use std::alloc::Global;
 
 /// What is sent to a subscriber.
@@ -11,6 +12,8 @@ use std::alloc::Global;
 pub enum Message {
     /// Endpoints that are new or have changed.
     Add(List<EndpointRow>),
+    /// Addresses and ports at which there is no endpoint any more.
+    Remove(List<(Ip, u16)>),
     /// There are no endpoints; whether the Service exists.
     NoEndpoints(bool),
 }
@@ -19,6 +22,7 @@ impl Copied for Message {
     fn copy(&self, alloc: Global) -> Result<Message, Memory> {
         match self {
             Message::Add(list) => Ok(Message::Add(list.copy(alloc)?)),
+            Message::Remove(list) => Ok(Message::Remove(list.copy(alloc)?)),
             Message::NoEndpoints(exists) => Ok(Message::NoEndpoints(*exists)),
         }
     }
