@@ -1,3 +1,9 @@
-mod Cut
-pub mod Folded
+mod FirstFolds
+mod Folding
+mod FoldsBack
+mod Keys
+mod OnePass
+mod Passed
 mod Pieces
+mod SameRow
+mod Sizes

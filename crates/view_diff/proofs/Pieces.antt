@@ -1,5 +1,5 @@
 -- Pieces of a list: the first, and then those of the rest.
-use Rattle.std.proofs.Common.{◌≡◌, ℕ, zero, suc, ◌<◌, ◌≤◌, min, List, [], ◌∷◌, ◌++◌, length, map, take, drop, refl, sym, ap, subst, ◌∙◌, append-nil, append_assoc, arith}
+use Rattle.std.proofs.Common.{◌≡◌, ◌≢◌, ℕ, zero, suc, ◌<◌, ◌≤◌, min, List, [], ◌∷◌, ◌++◌, length, take, drop, refl, sym, ap, ◌∙◌, append-nil, append_assoc, arith}
 use Rattle.std.proofs.lemmas.List.{length-append, length-drop, take_all, take_at, drop_all, drop_at}
 use Rattle.view_rules.specs.Batch.{in_pieces, pieces_up_to}
 
@@ -36,11 +36,24 @@ front_piece size piece rest one long some =
     let cut = cut_at size piece rest long in
     first_piece size (piece ++ rest) one some ∙ (λ i. cut.0 i ∷ in_pieces size (cut.1 i))
 
--- one more piece of those that go out as they are cut
-pub one_more : {X Y : Type 0} (f : List X → Y) (done all : List Y) (size : ℕ) (whole piece rest : List X) → 1 ≤ size
-    → whole ≡ piece ++ rest → length piece ≡ min size (length whole) → 0 < length whole
-    → done ++ map f (in_pieces size whole) ≡ all → (done ++ f piece ∷ []) ++ map f (in_pieces size rest) ≡ all
-one_more f done all size whole piece rest one is long some so_far =
-    let front = front_piece size piece rest one (long ∙ ap (λ xs. min size (length xs)) is) (subst (λ (xs : List _). 0 < length xs) is some) in
-    append_assoc done (f piece ∷ []) (map f (in_pieces size rest))
-    ∙ ap (λ pieces. done ++ map f pieces) (sym front) ∙ ap (λ xs. done ++ map f (in_pieces size xs)) (sym is) ∙ so_far
+-- a piece that is full goes out
+pub goes_out : {X : Type 0} (done all : List (List X)) (size : ℕ) (piece rest : List X) → 1 ≤ size → length piece ≡ size
+    → done ++ in_pieces size (piece ++ rest) ≡ all → (done ++ piece ∷ []) ++ in_pieces size rest ≡ all
+goes_out done all size piece rest one full so_far =
+    let long = length-append piece rest in
+    let front = front_piece size piece rest one (omega arith) (omega arith) in
+    append_assoc done (piece ∷ []) (in_pieces size rest) ∙ ap (λ pieces. done ++ pieces) (sym front) ∙ so_far
+
+-- the last, which may not be full
+pub last_goes_out : {X : Type 0} (done all : List (List X)) (size : ℕ) (piece : List X) → length piece < size → length piece ≢ 0
+    → done ++ in_pieces size (piece ++ []) ≡ all → done ++ piece ∷ [] ≡ all
+last_goes_out done all size piece room some so_far =
+    let long : length (piece ++ []) ≡ length piece = ap length (append-nil piece) in
+    let front : in_pieces size (piece ++ []) ≡ piece ∷ [] = front_piece size piece [] (omega arith) (omega arith) (omega arith) in
+    ap (λ pieces. done ++ pieces) (sym front) ∙ so_far
+
+-- and there is none where nothing is left
+pub none_goes_out : {X : Type 0} (done all : List (List X)) (size : ℕ) (piece : List X) → length piece ≡ 0
+    → done ++ in_pieces size (piece ++ []) ≡ all → done ≡ all
+none_goes_out done all size [] none so_far = sym (append-nil done) ∙ so_far
+none_goes_out done all size (x ∷ xs) none so_far = absurd (omega arith)

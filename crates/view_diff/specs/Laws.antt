@@ -1,33 +1,35 @@
--- What the messages of a first batch are, and what is seen by folding them.
-use Rattle.std.specs.Prelude.{◌≡◌, ◌+◌, ◌<◌, ◌≤◌, ℕ, List, Some, length, slice_index_or, All}
+-- What a batch carries, and what is seen by folding it.
+use Rattle.std.specs.Prelude.{◌≡◌, ◌+◌, ◌<◌, ◌≤◌, ℕ, List, Option, Some, option_map, length, slice_index_or, All, flat_map}
 use Rattle.mesh_base.specs.declared.limits.Limits.{Limits}
+use Rattle.net_cidr.specs.declared.ip.Ip.{Ip}
 use Rattle.view_types.specs.Objects.{ObjectMap}
+use Rattle.view_types.specs.declared.endpoint.EndpointRow.{EndpointRow}
 use Rattle.view_types.specs.declared.endpoint.EndpointView.{EndpointView}
-use Rattle.view_types.specs.declared.message.Message.{Message}
-use Rattle.view_types.specs.declared.message.Message.TheVariants.{Add, NoEndpoints}
 use Rattle.view_types.specs.declared.query.Query.{Query}
 use Rattle.view_types.specs.declared.view.View.TheVariants.{Endpoints}
-use Rattle.view_rules.specs.Batch.{first_batch, first_messages}
-use Rattle.view_rules.specs.Fold.{IsOrderly, fold}
+use Rattle.view_rules.specs.Batch.{IsOrderlyBefore, batch, first_messages, in_pieces}
+use Rattle.view_rules.specs.Fold.{IsOrderly, fold, folded_onto}
 use Rattle.view_rules.specs.Views.{view_of}
 
-abbrev pub count_in : Message → ℕ
-count_in (Add rows) = length rows
-count_in (NoEndpoints exists) = 0
+-- the items of the pieces are the items
+pub record IsCut {X : Type 0} (size : ℕ) (items : List X) (pieces : List (List X)) : Type 0 where
+  pub joined : flat_map (λ piece. piece) pieces ≡ items
+  -- each piece but the last has exactly as many as may be, and the last no more
+  pub full : (k : ℕ) (d : List X) → k + 1 < length pieces → length (slice_index_or pieces k d) ≡ size
+  pub within : All (λ piece. length piece ≤ size) pieces
+  -- none is without
+  pub some : All (λ piece. 0 < length piece) pieces
 
-pub record IsCut (size : ℕ) (view : EndpointView) (messages : List Message) : Type 0 where
-  -- each message but the last has exactly as many rows as may be, and the last no more
-  pub full : (k : ℕ) (d : Message) → k + 1 < length messages → count_in (slice_index_or messages k d) ≡ size
-  pub within : All (λ m. count_in m ≤ size) messages
-  -- where there are rows, no message is without
-  pub some : 0 < length view.rows → All (λ m. 0 < count_in m) messages
+abbrev pub RowsAreCut : Type 0
+RowsAreCut = (size : ℕ) (rows : List EndpointRow) → 1 ≤ size → IsCut size rows (in_pieces size rows)
 
-abbrev pub FirstBatchIsCut : Type 0
-FirstBatchIsCut = (view : EndpointView) (limits : Limits) → 1 ≤ limits.frame_addrs → IsCut limits.frame_addrs view (first_batch view limits)
+abbrev pub PairsAreCut : Type 0
+PairsAreCut = (size : ℕ) (pairs : List (Ip × ℕ)) → 1 ≤ size → IsCut size pairs (in_pieces size pairs)
 
--- folding the first batch of a view gives the view
-abbrev pub FirstBatchFolds : Type 0
-FirstBatchFolds = (view : EndpointView) (limits : Limits) → 1 ≤ limits.frame_addrs → IsOrderly view → fold (first_batch view limits) ≡ Some (Endpoints view)
+-- folding the messages on top of the old view gives the new one
+abbrev pub BatchFolds : Type 0
+BatchFolds = (old : Option EndpointView) (new : EndpointView) (limits : Limits) → 1 ≤ limits.frame_addrs → IsOrderlyBefore old → IsOrderly new
+    → folded_onto (option_map Endpoints old) (batch old new limits) ≡ Some (Endpoints new)
 
 -- whatever is held, folding the first messages of a query gives its view
 abbrev pub FirstMessagesFold : Type 0

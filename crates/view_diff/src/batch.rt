@@ -1,57 +1,104 @@
-ghost use Rattle.std.specs.Prelude.{◌≡◌, ◌≤◌, [], ◌∷◌, map, IfOk};
-ghost use Rattle.view_rules.specs.Batch.{first_batch, in_pieces};
-ghost use Rattle.view_types.specs.declared.message.Message.TheVariants.{Add, NoEndpoints};
+ghost use Rattle.std.specs.Prelude.{◌≡◌, ◌≤◌, ◌++◌, IfOk, OnOk, map};
+ghost use Rattle.std.specs.Option.{option_copied};
+ghost use Rattle.mesh_base.specs.Keyed.{IsKeyed};
+ghost use Rattle.view_rules.specs.Endpoints.{pair_cmp, pair_of};
+ghost use Rattle.view_rules.specs.Batch.{batch, messages_to_none, messages_to_rows, rows_before, IsOrderlyBefore, is_news};
+ghost use Rattle.view_rules.specs.Fold.{IsOrderly};
+ghost use Rattle.view_types.specs.declared.message.Message.TheVariants.{Add, Remove};
 
-use mesh_base::copied::Copied;
+use crate::cut::in_pieces;
+use crate::merge::find_changes;
 use mesh_base::limits::Limits;
 use mesh_base::list::List;
 use mesh_base::memory::Memory;
+use net_cidr::ip::Ip;
 use std::alloc::Global;
 use view_types::endpoint::{EndpointRow, EndpointView};
 use view_types::message::Message;
 
-/// The batch to one who has no view yet. The view's rows are copied.
-pub fn first_batch(
+/// The messages that bring a subscriber from the old view, or from none, to the new one. The rows that they carry are
+/// copied.
+pub fn batch(
     alloc: Global,
-    view: &EndpointView,
+    old: Option<&EndpointView>,
+    new: &EndpointView,
     limits: &Limits,
 ) -> Result<List<Message>, Memory>
-    requires { 1 ≤ limits.now.frame_addrs }
-    ensures { IfOk result (λ messages. messages ≡ first_batch view.now limits.now) }
+    requires limit { 1 ≤ limits.now.frame_addrs }
+    requires old { IsOrderlyBefore (option_copied old) }
+    requires new { IsOrderly new.now }
+    ensures { IfOk result (λ messages. messages ≡ batch (option_copied old.entry) new.now limits.now) }
 {
-    let rows = view.rows.as_slice();
+    let rows = new.rows.as_slice();
     if rows.is_empty() {
-        return no_endpoints(alloc, view.exists);
+        return to_none(alloc, old, new.exists);
     }
-    adds(alloc, rows, limits.frame_addrs as usize)
+    to_rows(alloc, rows_before(old), rows, limits.frame_addrs as usize)
 }
 
-fn no_endpoints(alloc: Global, exists: bool) -> Result<List<Message>, Memory>
-    ensures { IfOk result (λ messages. messages ≡ NoEndpoints exists ∷ []) }
+fn to_none(alloc: Global, old: Option<&EndpointView>, exists: bool) -> Result<List<Message>, Memory>
+    ensures { IfOk result (λ messages. messages ≡ messages_to_none (option_copied old.entry) exists) }
 {
     let mut messages = List::new(alloc);
-    messages.add(Message::NoEndpoints(exists))?;
-    Ok(messages)
-}
-
-/// The rows in messages of `size` rows, of which the last may have fewer.
-fn adds(alloc: Global, rows: &[EndpointRow], size: usize) -> Result<List<Message>, Memory>
-    requires { 1 ≤ size }
-    ensures { IfOk result (λ messages. messages ≡ map Add (in_pieces size rows.now)) }
-{
-    let mut messages = List::new(alloc);
-    for piece in rows.chunks(size) {
-        messages.add(Message::Add(copied_rows(alloc, piece)?))?;
+    if is_news(old, exists) {
+        messages.add(Message::NoEndpoints(exists))?;
     }
     Ok(messages)
 }
 
-fn copied_rows(alloc: Global, rows: &[EndpointRow]) -> Result<List<EndpointRow>, Memory>
-    ensures { IfOk result (λ copies. copies ≡ rows.now) }
+/// Whether it is news that there are no rows.
+fn is_news(old: Option<&EndpointView>, exists: bool) -> bool
+    ensures { result ≡ is_news (option_copied old.entry) exists }
 {
-    let mut copies = List::new(alloc);
-    for row in rows {
-        copies.add(row.copy(alloc)?)?;
+    match old {
+        Some(view) => view.exists != exists || view.rows.len() != 0,
+        None => true,
     }
-    Ok(copies)
+}
+
+fn rows_before<'a>(old: Option<&'a EndpointView>) -> &'a [EndpointRow]
+    ensures { result.now ≡ rows_before (option_copied old.entry) }
+{
+    match old {
+        Some(view) => view.rows.as_slice(),
+        None => &[],
+    }
+}
+
+/// First the new and changed rows, then the addresses gone, each in messages of `size` addresses, of which the last may
+/// have fewer. Both lists are in the order of the addresses, each address with its port once.
+fn to_rows(
+    alloc: Global,
+    old: &[EndpointRow],
+    new: &[EndpointRow],
+    size: usize,
+) -> Result<List<Message>, Memory>
+    requires size { 1 ≤ size }
+    requires old { IsKeyed pair_cmp pair_of (λ row. row) old.now }
+    requires new { IsKeyed pair_cmp pair_of (λ row. row) new.now }
+    ensures { IfOk result (λ messages. messages ≡ messages_to_rows size old.now new.now) }
+{
+    let found = find_changes(alloc, old, new)?;
+    let mut messages = List::new(alloc);
+    add_changed(&mut messages, in_pieces(alloc, found.changed, size)?)?;
+    add_gone(&mut messages, in_pieces(alloc, found.gone, size)?)?;
+    Ok(messages)
+}
+
+fn add_changed(messages: &mut List<Message>, pieces: List<List<EndpointRow>>) -> Result<(), Memory>
+    ensures { OnOk result (messages.new ≡ messages.old ++ map Add pieces) }
+{
+    for rows in pieces.into_vec() {
+        messages.add(Message::Add(rows))?;
+    }
+    Ok(())
+}
+
+fn add_gone(messages: &mut List<Message>, pieces: List<List<(Ip, u16)>>) -> Result<(), Memory>
+    ensures { OnOk result (messages.new ≡ messages.old ++ map Remove pieces) }
+{
+    for pairs in pieces.into_vec() {
+        messages.add(Message::Remove(pairs))?;
+    }
+    Ok(())
 }

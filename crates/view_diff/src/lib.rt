@@ -1,8 +1,10 @@
 //! The messages that bring a subscriber from one view to another.
 //!
-//! Stands on view_rules. The contract cites the batch of a view (`Batch` of view_rules), and the laws say that folding it
-//! (`Fold` of view_rules) gives the view.
+//! Stands on view_types and view_rules. The contract cites the batch between two views (`Batch` of view_rules); laws say
+//! that folding it on top of the old view gives the new one, and how large messages are.
 #![tactic(auto)]
 
 pub mod batch;
+mod cut;
 pub mod laws;
+mod merge;

@@ -6,4 +6,5 @@ pub mod Given
 mod Least
 pub mod Orderly
 pub mod Pairs
+pub mod RowMaps
 mod Slices

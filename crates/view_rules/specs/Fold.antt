@@ -1,38 +1,52 @@
 -- What a subscriber sees who folds the messages that it is sent.
-use Rattle.std.specs.Prelude.{◌≡◌, true, false, List, [], ◌∷◌, Option, Some, None, map}
-use Rattle.std.specs.FinMap.Entries.{by_order}
+use Rattle.std.specs.Prelude.{◌≡◌, ℕ, true, false, List, [], ◌∷◌, Option, Some, None, map}
+use Rattle.std.specs.FinMap.{FinMap, empty, insert, remove, values}
 use Rattle.std.specs.List.Sorted.{IsStrictlySortedBy}
+use Rattle.net_cidr.specs.declared.ip.Ip.{Ip}
 use Rattle.view_types.specs.declared.endpoint.EndpointRow.{EndpointRow}
 use Rattle.view_types.specs.declared.endpoint.EndpointView.{EndpointView}
 use Rattle.view_types.specs.declared.message.Message.{Message}
-use Rattle.view_types.specs.declared.message.Message.TheVariants.{Add, NoEndpoints}
+use Rattle.view_types.specs.declared.message.Message.TheVariants.{Add, Remove, NoEndpoints}
 use Rattle.view_types.specs.declared.view.View.{View}
 use Rattle.view_types.specs.declared.view.View.TheVariants.{Endpoints}
 use Rattle.view_rules.specs.Endpoints.{no_endpoints, pair_cmp, pair_of}
 
--- among rows in order, a row in the place of that of its address and port, or where the order wants it
-abbrev pub put_row : EndpointRow → List EndpointRow → List EndpointRow
-put_row row [] = row ∷ []
-put_row row (r ∷ rs) = by_order (pair_cmp (pair_of row) (pair_of r)) (row ∷ r ∷ rs) (row ∷ rs) (r ∷ put_row row rs)
+-- rows by their addresses and ports
+abbrev pub RowMap : Type 0
+RowMap = FinMap pair_cmp EndpointRow
 
--- one row after the other
-abbrev pub put_rows : List EndpointRow → List EndpointRow → List EndpointRow
-put_rows [] rows = rows
-put_rows (new ∷ others) rows = put_rows others (put_row new rows)
+-- each row in the place of that of its address and port
+abbrev pub put_rows : List EndpointRow → RowMap → RowMap
+put_rows [] m = m
+put_rows (r ∷ rs) m = put_rows rs (insert m (pair_of r) r)
+
+abbrev pub row_map : List EndpointRow → RowMap
+row_map rows = put_rows rows empty
+
+abbrev pub take_out : List (Ip × ℕ) → RowMap → RowMap
+take_out [] m = m
+take_out (p ∷ ps) m = take_out ps (remove m p)
+
+-- ---- messages
 
 -- the view after one more message
-abbrev pub folded : EndpointView → Message → EndpointView
-folded view (Add rows) = record { exists = true; rows = put_rows rows view.rows }
-folded view (NoEndpoints exists) = record { exists = exists; rows = [] }
+abbrev pub after : EndpointView → Message → EndpointView
+after view (Add rows) = record { exists = true; rows = values (put_rows rows (row_map view.rows)) }
+after view (Remove pairs) = record { exists = view.exists; rows = values (take_out pairs (row_map view.rows)) }
+after view (NoEndpoints exists) = record { exists = exists; rows = [] }
 
-abbrev pub folded_all : EndpointView → List Message → EndpointView
-folded_all view [] = view
-folded_all view (message ∷ messages) = folded_all (folded view message) messages
+-- the endpoints that are seen; before the first message there are none
+abbrev pub seen : Option View → EndpointView
+seen (Some (Endpoints view)) = view
+seen _ = no_endpoints
+
+abbrev pub folded_onto : Option View → List Message → Option View
+folded_onto view [] = view
+folded_onto view (m ∷ ms) = folded_onto (Some (Endpoints (after (seen view) m))) ms
 
 -- the view that the messages show; before the first there is none
 abbrev pub fold : List Message → Option View
-fold [] = None
-fold (message ∷ messages) = Some (Endpoints (folded_all no_endpoints (message ∷ messages)))
+fold messages = folded_onto None messages
 
 -- what holds of each view of endpoints: rows are in order, each address and port once, and a Service that isn't there
 -- has none
