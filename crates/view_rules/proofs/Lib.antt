@@ -1,5 +1,6 @@
 pub mod Among
 pub mod Entries
+pub mod FirstOfEach
 mod FirstRows
 mod Firsts
 pub mod Given

@@ -1,3 +1,2 @@
-mod FirstOfEach
 mod Found
 mod Held

@@ -1,0 +1,8 @@
+//! The view that messages leave.
+//!
+//! Stands on view_types and view_rules, whose `Fold` says what is seen by folding messages.
+#![tactic(auto)]
+
+pub mod folding;
+mod order;
+mod rows;
