@@ -17,6 +17,8 @@ mod port_sets;
 #[cfg(test)]
 mod quantities;
 #[cfg(test)]
+mod rows;
+#[cfg(test)]
 mod selectors;
 #[cfg(test)]
 mod wire;

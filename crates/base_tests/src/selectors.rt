@@ -1,123 +1,111 @@
+use crate::rows::{holds, split};
 use label_select::selector::{SelOp, SelRule, Selector};
 use mesh_base::copied::Copied;
 use mesh_base::labels::Labels;
 use mesh_base::list::List;
-use mesh_base::memory::Memory;
 use mesh_base::text::Text;
 use std::alloc::Global;
+use std::test::Fail;
 
-type Pairs<'a> = &'a [(&'a str, &'a str)];
+// The labels that are asked for, the rules, the labels that there are, and whether they are matched. The selectors are
+// those of the page 'Labels and Selectors' of the Kubernetes documentation.
+const ROWS: &str = " | environment:in:production,qa | environment=production partition=a => yes
+ | environment:in:production,qa | environment=dev tier=frontend => no
+ | environment:in:production,qa |  => no
+ | tier:notin:frontend,backend | environment=production partition=a => yes
+ | tier:notin:frontend,backend | environment=dev tier=frontend => no
+ | tier:notin:frontend,backend |  => yes
+ | partition:exists: | environment=production partition=a => yes
+ | partition:exists: | environment=dev tier=frontend => no
+ | partition:exists: |  => no
+ | partition:lacks: | environment=production partition=a => no
+ | partition:lacks: | environment=dev tier=frontend => yes
+ | partition:lacks: |  => yes
+component=redis | tier:in:cache environment:notin:dev | component=redis tier=cache environment=qa => yes
+component=redis | tier:in:cache environment:notin:dev | component=redis tier=cache => yes
+component=redis | tier:in:cache environment:notin:dev | component=redis tier=cache environment=dev => no
+component=redis | tier:in:cache environment:notin:dev | component=redis tier=web => no
+component=redis | tier:in:cache environment:notin:dev | tier=cache => no
+ |  |  => yes
+ |  | environment=production partition=a => yes";
 
-type Asked<'a> = &'a [(&'a str, SelOp, &'a [&'a str])];
-
-fn labels(alloc: Global, pairs: Pairs<'_>) -> Result<Labels, Memory> {
+fn labels(alloc: Global, words: &str) -> Result<Labels, Fail> {
     let mut labels = Labels::new(alloc);
-    for (key, value) in pairs {
-        labels.put(Text::from_str(alloc, key)?, Text::from_str(alloc, value)?)?;
+    for word in words.split(' ') {
+        if !word.is_empty() {
+            let Some((key, value)) = word.split_once('=') else {
+                return Err(Fail::new("a label has no value"));
+            };
+            labels.put(Text::from_str(alloc, key)?, Text::from_str(alloc, value)?)?;
+        }
     }
     Ok(labels)
 }
 
-fn texts(alloc: Global, values: &[&str]) -> Result<List<Text>, Memory> {
+fn op(word: &str) -> Result<SelOp, Fail> {
+    match word {
+        "in" => Ok(SelOp::OneOf),
+        "notin" => Ok(SelOp::NoneOf),
+        "exists" => Ok(SelOp::Present),
+        "lacks" => Ok(SelOp::Lacking),
+        _ => Err(Fail::new("a rule has no such operator")),
+    }
+}
+
+fn texts(alloc: Global, words: &str) -> Result<List<Text>, Fail> {
     let mut texts = List::new(alloc);
-    for value in values {
-        texts.add(Text::from_str(alloc, value)?)?;
+    for word in words.split(',') {
+        if !word.is_empty() {
+            texts.add(Text::from_str(alloc, word)?)?;
+        }
     }
     Ok(texts)
 }
 
-fn rules(alloc: Global, asked: Asked<'_>) -> Result<List<SelRule>, Memory> {
+fn rule(alloc: Global, word: &str) -> Result<SelRule, Fail> {
+    let Some((key, rest)) = word.split_once(':') else {
+        return Err(Fail::new("a rule has no operator"));
+    };
+    let Some((word, values)) = rest.split_once(':') else {
+        return Err(Fail::new("a rule has no values"));
+    };
+    Ok(SelRule {
+        key: Text::from_str(alloc, key)?,
+        op: op(word)?,
+        values: texts(alloc, values)?,
+    })
+}
+
+fn rules(alloc: Global, words: &str) -> Result<List<SelRule>, Fail> {
     let mut rules = List::new(alloc);
-    for (key, op, values) in asked {
-        rules.add(SelRule {
-            key: Text::from_str(alloc, key)?,
-            op: *op,
-            values: texts(alloc, values)?,
-        })?;
+    for word in words.split(' ') {
+        if !word.is_empty() {
+            rules.add(rule(alloc, word)?)?;
+        }
     }
     Ok(rules)
 }
 
-fn is_matched(
-    alloc: Global,
-    exact: Pairs<'_>,
-    asked: Asked<'_>,
-    pairs: Pairs<'_>,
-) -> Result<bool, Memory> {
+fn is_matched(alloc: Global, case: &str) -> Result<bool, Fail> {
+    let Some((exact, rest)) = case.split_once(" | ") else {
+        return Err(Fail::new("a row has no rules"));
+    };
+    let Some((asked, there)) = rest.split_once(" | ") else {
+        return Err(Fail::new("a row has no labels"));
+    };
     let selector = Selector {
         exact: labels(alloc, exact)?,
         rules: rules(alloc, asked)?,
     };
     let copy = selector.copy(alloc)?;
-    Ok(copy.matches(&labels(alloc, pairs)?))
+    Ok(copy.matches(&labels(alloc, there)?))
 }
 
-// The selectors are those of the page 'Labels and Selectors' of the Kubernetes documentation.
 #[test]
-fn selectors(rt: HostRuntime) -> Result<(), Memory> {
-    let prod: Pairs<'static> = &[("environment", "production"), ("partition", "a")];
-    let front: Pairs<'static> = &[("environment", "dev"), ("tier", "frontend")];
-    let environment: Asked<'static> = &[("environment", SelOp::OneOf, &["production", "qa"])];
-    let tier: Asked<'static> = &[("tier", SelOp::NoneOf, &["frontend", "backend"])];
-    let partition: Asked<'static> = &[("partition", SelOp::Present, &[])];
-    let no_partition: Asked<'static> = &[("partition", SelOp::Lacking, &[])];
-    let redis: Pairs<'static> = &[("component", "redis")];
-    let cache: Asked<'static> = &[
-        ("tier", SelOp::OneOf, &["cache"]),
-        ("environment", SelOp::NoneOf, &["dev"]),
-    ];
-    let all: Asked<'static> = &[];
-    let none: Pairs<'static> = &[];
-    for (exact, asked, pairs, expected) in [
-        (none, environment, prod, true),
-        (none, environment, front, false),
-        (none, environment, none, false),
-        (none, tier, prod, true),
-        (none, tier, front, false),
-        (none, tier, none, true),
-        (none, partition, prod, true),
-        (none, partition, front, false),
-        (none, partition, none, false),
-        (none, no_partition, prod, false),
-        (none, no_partition, front, true),
-        (none, no_partition, none, true),
-        (
-            redis,
-            cache,
-            &[
-                ("component", "redis"),
-                ("tier", "cache"),
-                ("environment", "qa"),
-            ],
-            true,
-        ),
-        (
-            redis,
-            cache,
-            &[("component", "redis"), ("tier", "cache")],
-            true,
-        ),
-        (
-            redis,
-            cache,
-            &[
-                ("component", "redis"),
-                ("tier", "cache"),
-                ("environment", "dev"),
-            ],
-            false,
-        ),
-        (
-            redis,
-            cache,
-            &[("component", "redis"), ("tier", "web")],
-            false,
-        ),
-        (redis, cache, &[("tier", "cache")], false),
-        (none, all, none, true),
-        (none, all, prod, true),
-    ] {
-        assert_eq!(rt; is_matched(rt.alloc(), exact, asked, pairs)?, expected);
+fn selectors(rt: HostRuntime) -> Result<(), Fail> {
+    for row in ROWS.lines() {
+        let (case, expected) = split(row)?;
+        assert_eq!(rt; is_matched(rt.alloc(), case)?, holds(expected)?, "at {row}");
     }
     Ok(())
 }
