@@ -5,6 +5,7 @@
 #![tactic(auto)]
 
 mod addresses;
+pub mod laws;
 pub mod pod;
 mod port_entry;
 pub mod service;

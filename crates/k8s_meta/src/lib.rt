@@ -23,6 +23,6 @@ pub mod ports;
 pub mod quantity;
 pub mod reader;
 mod runs;
-pub mod strings;
+mod strings;
 mod trim;
 pub mod words;

@@ -7,7 +7,7 @@ use Rattle.std.specs.Str.{IsUtf8}
 use Rattle.net_cidr.specs.declared.block.Block.{Block}
 use Rattle.net_cidr.specs.declared.ip.Ip.TheVariants.{V4, V6}
 use Rattle.k8s_meta.specs.Given.{GivesOnly}
-use Rattle.k8s_meta.specs.Lawful.{IsLawfulMeta, IsString}
+use Rattle.k8s_meta.specs.Lawful.{IsString}
 use Rattle.k8s_meta.specs.Scalars.{name, net}
 use Rattle.k8s_meta.specs.declared.fault.What.TheVariants as what
 use Rattle.k8s_meta.specs.declared.fault.ReadFault.TheVariants as faults
@@ -26,7 +26,6 @@ use Rattle.policy_objects.specs.References.{is_single, ref_at, single}
 use Rattle.policy_objects.specs.ServerAuthorizations.{authn_at, authn_of, server_authz_at}
 use Rattle.policy_objects.specs.Servers.{server_at}
 use Rattle.view_types.specs.Lawful.{AreLawfulNeeds, IsLawfulAuthnSpec, IsLawfulBlock, IsLawfulId, IsLawfulMeshAuthn, IsLawfulNet, IsLawfulNetAuthn, IsLawfulPolicy, IsLawfulPortRef, IsLawfulRef, IsLawfulServer, IsLawfulServerAuthz, count_of, gives_clients, gives_networks}
-use Rattle.view_types.specs.declared.authn.AuthnSpec.TheVariants.{AnyTls, Anyone, Clients}
 use Rattle.view_types.specs.declared.authn.IdSpec.{IdSpec}
 use Rattle.view_types.specs.declared.authn.IdSpec.TheVariants as ids
 use Rattle.view_types.specs.declared.authn.Ref.{Ref}

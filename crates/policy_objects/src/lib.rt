@@ -13,6 +13,7 @@ pub mod authn;
 pub mod authz_policy;
 mod block;
 mod identity;
+pub mod laws;
 mod protocol_word;
 mod reference;
 mod selector;
