@@ -1,76 +1,121 @@
-use crate::told::is_shown;
+ghost use Rattle.std.specs.Prelude.{IfOk};
+ghost use Rattle.view_rules.specs.Fold.{IsOrderly};
+
+use mesh_base::copied::Copied;
 use mesh_base::labels::Labels;
 use mesh_base::limits::Limits;
 use mesh_base::list::List;
 use mesh_base::memory::Memory;
+use mesh_base::same::Same;
 use net_cidr::ip::Ip;
 use std::alloc::Global;
-use view_diff::batch::first_batch;
+use view_diff::batch::batch;
+use view_fold::folding::Fold;
 use view_types::endpoint::{EndpointRow, EndpointView};
 use view_types::message::Message;
+use view_types::view::View;
 
-/// A view of so many addresses.
-fn view(alloc: Global, exists: bool, count: u32) -> Result<EndpointView, Memory> {
+/// The view of so many addresses from the first on.
+fn view(alloc: Global, first: u32, count: u32, weight: u32) -> Result<EndpointView, Memory>
+    requires { first + count < 1000000 }
+    ensures { IfOk result IsOrderly }
+{
     let mut rows = List::new(alloc);
-    for number in 0..count {
+    for number in first..first + count {
         rows.add(EndpointRow {
             ip: Ip::V4(number),
             port: 8080,
-            weight: 10_000,
+            weight,
             labels: Labels::new(alloc),
             identity: None,
             tunnel: None,
             h2: false,
         })?;
     }
-    Ok(EndpointView { exists, rows })
+    shown(alloc, rows)
 }
 
-/// How many rows each Add has, and whether the Service exists in place of each NoEndpoints.
-fn sizes(alloc: Global, messages: &List<Message>) -> Result<Vec<Result<usize, bool>>, Memory> {
+fn shown(alloc: Global, rows: List<EndpointRow>) -> Result<EndpointView, Memory>
+    ensures { IfOk result IsOrderly }
+{
+    let mut fold = Fold::new();
+    fold.take(alloc, Message::Add(rows))?;
+    match fold.view() {
+        Some(View::Endpoints(view)) => view.copy(alloc),
+        _ => none(alloc),
+    }
+}
+
+fn none(alloc: Global) -> Result<EndpointView, Memory>
+    ensures { IfOk result IsOrderly }
+{
+    Ok(EndpointView {
+        exists: false,
+        rows: List::new(alloc),
+    })
+}
+
+/// How many rows each Add has, how many addresses each Remove in an error's place, and 0 for a NoEndpoints.
+fn sizes(alloc: Global, messages: &List<Message>) -> Result<Vec<Result<usize, usize>>, Memory> {
     let mut sizes = Vec::new(alloc);
     for message in messages.as_slice() {
         sizes.push(match message {
             Message::Add(rows) => Ok(rows.len()),
-            Message::NoEndpoints(exists) => Err(*exists),
+            Message::Remove(pairs) => Err(pairs.len()),
+            Message::NoEndpoints(_) => Err(0),
         })?;
     }
     Ok(sizes)
 }
 
-#[test]
-fn first_batches(rt: HostRuntime) -> Result<(), Memory> {
-    let alloc = rt.alloc();
-    let limits = Limits::USUAL;
-    let three = first_batch(alloc, &view(alloc, true, 2_001)?, &limits)?;
-    let sizes_of_three = sizes(alloc, &three)?;
-    assert_eq!(rt;
-        sizes_of_three.as_slice(),
-        [Ok(1_000), Ok(1_000), Ok(1)].as_slice()
-    );
-    let two = first_batch(alloc, &view(alloc, true, 2_000)?, &limits)?;
-    let sizes_of_two = sizes(alloc, &two)?;
-    assert_eq!(rt; sizes_of_two.as_slice(), [Ok(1_000), Ok(1_000)].as_slice());
-    for exists in [false, true] {
-        let none = first_batch(alloc, &view(alloc, exists, 0)?, &limits)?;
-        let sizes_of_none = sizes(alloc, &none)?;
-        assert_eq!(rt; sizes_of_none.as_slice(), [Err(exists)].as_slice());
+fn take_all(alloc: Global, fold: &mut Fold, messages: List<Message>) -> Result<(), Memory> {
+    for message in messages.into_vec() {
+        fold.take(alloc, message)?;
     }
     Ok(())
 }
 
+fn shows(fold: &Fold, view: &EndpointView) -> bool {
+    match fold.view() {
+        Some(View::Endpoints(seen)) => seen.is_same(view),
+        _ => false,
+    }
+}
+
 #[test]
-fn rows_of_a_batch(rt: HostRuntime) -> Result<(), Memory> {
+fn batches_bring_from_view_to_view(rt: HostRuntime) -> Result<(), Memory> {
     let alloc = rt.alloc();
-    let limits = Limits {
-        frame_addrs: 2,
-        ..Limits::USUAL
-    };
-    let two = first_batch(alloc, &view(alloc, true, 3)?, &limits)?;
-    let expected =
-        "[Add([{ip:0.0.0.0,port:8080,weight:10000,labels:{},identity:-,tunnel:-,h2:false},
-        {ip:0.0.0.1,port:8080,weight:10000,labels:{},identity:-,tunnel:-,h2:false}]),
-        Add([{ip:0.0.0.2,port:8080,weight:10000,labels:{},identity:-,tunnel:-,h2:false}])]";
-    assert!(rt; is_shown(alloc, &two, expected));
+    let limits = Limits::USUAL;
+    let mut fold = Fold::new();
+
+    let many = view(alloc, 0, 2_500, 10_000)?;
+    let first = batch(alloc, None, &many, &limits)?;
+    let sizes_of_first = sizes(alloc, &first)?;
+    assert_eq!(rt;
+        sizes_of_first.as_slice(),
+        [Ok(1_000), Ok(1_000), Ok(500)].as_slice()
+    );
+    take_all(alloc, &mut fold, first)?;
+    assert!(rt; shows(&fold, &many));
+
+    let others = view(alloc, 2_000, 1_200, 5_000)?;
+    let change = batch(alloc, Some(&many), &others, &limits)?;
+    let sizes_of_change = sizes(alloc, &change)?;
+    assert_eq!(rt;
+        sizes_of_change.as_slice(),
+        [Ok(1_000), Ok(200), Err(1_000), Err(1_000)].as_slice()
+    );
+    take_all(alloc, &mut fold, change)?;
+    assert!(rt; shows(&fold, &others));
+
+    let again = batch(alloc, Some(&others), &others, &limits)?;
+    assert_eq!(rt; again.len(), 0);
+
+    let empty = none(alloc)?;
+    let last = batch(alloc, Some(&others), &empty, &limits)?;
+    let sizes_of_last = sizes(alloc, &last)?;
+    assert_eq!(rt; sizes_of_last.as_slice(), [Err(0)].as_slice());
+    take_all(alloc, &mut fold, last)?;
+    assert!(rt; shows(&fold, &empty));
     Ok(())
 }

@@ -13,6 +13,8 @@ use view_types::message::Message;
 #[derive(Clone, Copy)]
 enum Case {
     NoEndpoints(bool),
+    /// An IPv4 and an IPv6 address at which there is no endpoint any more.
+    Gone(Ip, Ip, u16),
     /// An endpoint that has no more than an address, a port and a weight.
     Plain(Ip, u16, u32),
     /// 10.1.2.3:8080, of a Pod with a proxy.
@@ -22,6 +24,7 @@ enum Case {
 fn message(alloc: Global, case: Case) -> Result<Message, Memory> {
     match case {
         Case::NoEndpoints(exists) => Ok(Message::NoEndpoints(exists)),
+        Case::Gone(one, other, port) => gone(alloc, one, other, port),
         Case::Plain(ip, port, weight) => add(alloc, plain(alloc, ip, port, weight)),
         Case::Meshed => add(alloc, meshed(alloc)?),
     }
@@ -31,6 +34,13 @@ fn add(alloc: Global, row: EndpointRow) -> Result<Message, Memory> {
     let mut rows = List::new(alloc);
     rows.add(row)?;
     Ok(Message::Add(rows))
+}
+
+fn gone(alloc: Global, one: Ip, other: Ip, port: u16) -> Result<Message, Memory> {
+    let mut pairs = List::new(alloc);
+    pairs.add((one, port))?;
+    pairs.add((other, port))?;
+    Ok(Message::Remove(pairs))
 }
 
 fn plain(alloc: Global, ip: Ip, port: u16, weight: u32) -> EndpointRow {
@@ -68,9 +78,18 @@ fn meshed(alloc: Global) -> Result<EndpointRow, Memory> {
 }
 
 /// Messages with the heads of their frames, and the bytes that protoc writes of them.
-const KNOWN: [(Case, &str, &str); 7] = [
+const KNOWN: [(Case, &str, &str); 8] = [
     (Case::NoEndpoints(false), "0000000002", "1a00"),
     (Case::NoEndpoints(true), "0000000004", "1a020801"),
+    (
+        Case::Gone(Ip::V4(0x0a01_0203), Ip::V6(0x2001_0db8 << 96 | 1), 8080),
+        "0000000029",
+        concat!(
+            "1227",
+            "0a0a0a050d0302010a10903f",
+            "0a190a1412120900000000b80d012011010000000000000010903f",
+        ),
+    ),
     (
         Case::Plain(Ip::V4(0), 0, 0),
         "000000000d",

@@ -4,5 +4,6 @@
 #![tactic(auto)]
 
 pub mod folding;
+pub mod laws;
 mod order;
 mod rows;
