@@ -50,7 +50,7 @@ impl ReportText {
                 let limit = Limits::USUAL.input;
                 write!(
                     f,
-                    "linkerd_cli: standard input is above the limit of {limit} bytes\n"
+                    "linkerd_cli: standard input has the limit of {limit} bytes or more\n"
                 )
             }
         }

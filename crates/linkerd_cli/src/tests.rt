@@ -25,7 +25,7 @@ fn reports(rt: HostRuntime) -> Result<(), Fail> {
         ),
         (
             Status::InputTooLong,
-            "linkerd_cli: standard input is above the limit of 4294967296 bytes\n",
+            "linkerd_cli: standard input has the limit of 4294967296 bytes or more\n",
         ),
     ] {
         let report = Report::of(status);
