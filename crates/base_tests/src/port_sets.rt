@@ -1,4 +1,5 @@
 use k8s_meta::ports::read_port_set;
+use mesh_base::copied::Copied;
 use mesh_base::memory::Memory;
 
 #[test]
@@ -12,6 +13,8 @@ fn port_sets(rt: HostRuntime) -> Result<(), Memory> {
         ports.ranges.as_slice(),
         [(25, 25), (587, 587), (3306, 3306), (4000, 4002)].as_slice()
     );
+    let copy = ports.copy(alloc)?;
+    assert!(rt; copy == ports);
     assert!(rt; ports.holds(4001));
     assert!(rt; !ports.holds(4003));
     assert!(rt; !ports.holds(80));

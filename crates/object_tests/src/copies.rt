@@ -360,5 +360,7 @@ fn messages(rt: HostRuntime) {
     let alloc = rt.alloc();
     let add = Message::Add(one(alloc, endpoint(alloc)));
     assert!(rt; copies_message(alloc, add, ADD));
+    let remove = Message::Remove(one(alloc, (Ip::V4(1), 80)));
+    assert!(rt; copies_message(alloc, remove, "Remove([(0.0.0.1,80)])"));
     assert!(rt; copies_message(alloc, Message::NoEndpoints(true), "NoEndpoints(true)"));
 }

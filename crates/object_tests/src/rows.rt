@@ -7,7 +7,7 @@ mod policy;
 mod profile;
 mod route;
 
-use crate::told::{Told, tell};
+use crate::told::{Told, tell_either};
 use k8s_core::pod::read_pod;
 use k8s_core::service::read_service;
 use k8s_core::slice::read_slice;
@@ -69,9 +69,9 @@ pub fn object_of(alloc: Global, kind: &str, value: &Value) -> Option<Result<Obje
 /// What is read of the value, if there is such a kind.
 fn reading(alloc: Global, kind: &str, value: &Value) -> Option<Told> {
     if kind == "Meta" {
-        Some(tell(alloc, read_meta(alloc, value, "object")))
+        Some(tell_either(alloc, read_meta(alloc, value, "object")))
     } else {
-        Some(tell(alloc, object_of(alloc, kind, value)?))
+        Some(tell_either(alloc, object_of(alloc, kind, value)?))
     }
 }
 

@@ -121,7 +121,7 @@ pub const OBJECTS: &str =
     headers:[{name:"x-request-id",value:"alternative",regex:false}],query:[{name:"animal",value:"wh.*",
     regex:true}],method:-}],filters:[],backends:[{service:true,ns:"test",name:"backend-a-podinfo",port:9898,
     weight:90},{service:true,ns:"other",name:"backend-b-podinfo",port:80,weight:1},{service:false,ns:"test",
-    name:"logs",port:0,weight:0}],request_timeout:10000000000,backend_timeout:61500000000},
+    name:"logs",port:-,weight:0}],request_timeout:10000000000,backend_timeout:61500000000},
     {matches:[{path:Prefix("/"),headers:[],query:[],method:-}],filters:[],backends:[],request_timeout:-,
     backend_timeout:-}]}
 
@@ -194,12 +194,12 @@ GatewayRoute {"metadata":{"name":"web"},"spec":{"rules":[{"filters":[{"type":"a"
 GatewayRoute {"metadata":{"name":"web"},"spec":{"rules":[{"backendRefs":[{"name":"a","group":"example.com","kind":"Service"}]}]}}
     => {kind:GatewayRoute,meta:{ns:"default",name:"web",labels:{},notes:{},created:-},parents:[],hosts:[],
     rules:[{matches:[{path:Prefix("/"),headers:[],query:[],method:-}],filters:[],backends:[{service:false,
-    ns:"default",name:"a",port:0,weight:1}],request_timeout:-,backend_timeout:-}]}
+    ns:"default",name:"a",port:-,weight:1}],request_timeout:-,backend_timeout:-}]}
 
 GatewayRoute {"metadata":{"name":"web"},"spec":{"rules":[{"backendRefs":[{"name":"a","kind":"Bucket","port":null}]}]}}
     => {kind:GatewayRoute,meta:{ns:"default",name:"web",labels:{},notes:{},created:-},parents:[],hosts:[],
     rules:[{matches:[{path:Prefix("/"),headers:[],query:[],method:-}],filters:[],backends:[{service:false,
-    ns:"default",name:"a",port:0,weight:1}],request_timeout:-,backend_timeout:-}]}
+    ns:"default",name:"a",port:-,weight:1}],request_timeout:-,backend_timeout:-}]}
 
 GatewayRoute {"metadata":{"name":"web"},"spec":{"rules":[{"backendRefs":[{"group":null,"kind":null,"name":"a","namespace":null,"port":80,"weight":null}]}]}}
     => {kind:GatewayRoute,meta:{ns:"default",name:"web",labels:{},notes:{},created:-},parents:[],hosts:[],

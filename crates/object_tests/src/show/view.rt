@@ -26,6 +26,7 @@ impl Show for Message {
     fn show(&self, page: &mut Page) {
         match self {
             Message::Add(rows) => page.variant("Add", rows),
+            Message::Remove(pairs) => page.variant("Remove", pairs),
             Message::NoEndpoints(exists) => page.variant("NoEndpoints", exists),
         }
     }
