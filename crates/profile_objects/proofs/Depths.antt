@@ -8,7 +8,7 @@ use Rattle.serde_json.specs.Find.{get_member}
 use Rattle.serde_json.specs.View.{view, items_view}
 use Rattle.serde_json.specs.declared.value.Value.{Value}
 use Rattle.k8s_meta.specs.Keys.{key_text}
-use Rattle.k8s_meta.specs.Spots.{Spot, ◌·◌, item_spot, or_null}
+use Rattle.k8s_meta.specs.Spots.{Spot, ◌·◌, item_spot, or_null, then}
 use Rattle.k8s_meta.specs.Words as words
 use Rattle.k8s_meta.specs.declared.key.Key.{Key}
 use Rattle.profile_objects.specs.Matches.{only}
@@ -28,7 +28,7 @@ pub member_below : (at : List ℕ) (ms : Members) (key : Key) → depth (record 
 member_below at ms key = omega (arith, depth_found (key_text key) ms)
 
 by_value : (at : List ℕ) (d : Data) (x : Spot) (key : Key) → words.object (record { at = at; value = d }) ≡ Ok x → depth (record { at = at; value = d } · key).value < depth d
-unfolding words.object
+unfolding words.object then
 by_value at null x key e = absurd cc
 by_value at (boolean b) x key e = absurd cc
 by_value at (number n) x key e = absurd cc

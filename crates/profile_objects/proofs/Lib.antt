@@ -1,5 +1,8 @@
 pub mod Depths
+pub mod Kept
 pub mod Lawfully
-pub mod Methods
 pub mod Negations
+pub mod Quantities
+pub mod Statuses
+pub mod Strings
 pub mod Tables

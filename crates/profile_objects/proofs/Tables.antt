@@ -1,21 +1,19 @@
--- Matches are their tables.
-use Rattle.std.proofs.Common.{◌≡◌, ℕ, zero, suc, ◌<◌, ◌≤◌, List, ◌∷◌, Some, None, Result, Ok, refl, ap, ◌∙◌, arith, if◌then◌else◌}
+-- Matches are their tables, and nothing else is.
+use Rattle.std.proofs.Common.{◌≡◌, ℕ, zero, suc, ◌<◌, ◌≤◌, List, ◌∷◌, Some, None, Result, Ok, refl, sym, ap, ◌∙◌, arith, if◌then◌else◌}
 use Rattle.serde_json.specs.Data.{Data, null, boolean, number, string, array, object, Items, no_items, item, Members, depth, items_depth}
 use Rattle.k8s_meta.specs.Lists.{each, each_from}
-use Rattle.k8s_meta.specs.Spots.{Reading, Spot, ◌·◌, ◌>>=◌, is_absent, item_spot}
+use Rattle.k8s_meta.specs.Spots.{Reading, Spot, ◌·◌, ◌>>=◌, is_absent, item_spot, then}
 use Rattle.k8s_meta.specs.Words.{default, list, optional}
 use Rattle.k8s_meta.specs.Words as words
 use Rattle.k8s_meta.specs.declared.fault.ReadFault.{ReadFault}
 use Rattle.k8s_meta.specs.declared.key.Key.{Key}
 use Rattle.k8s_meta.specs.declared.key.Key.TheVariants as keys
-use Rattle.profile_objects.specs.MatchLaws.{RequestsAreTheirTable, ResponsesAreTheirTable}
-use Rattle.profile_objects.specs.Matches.{made, negation, only, request_by, response_by}
-use Rattle.profile_objects.specs.Nested.{Form, levels, nested}
+use Rattle.profile_objects.specs.Laws.{RequestsAreTheirTable, ResponsesAreTheirTable}
+use Rattle.profile_objects.specs.Matches.{MatchKind, match_by, match_of, negation, only}
+use Rattle.profile_objects.specs.Nested.{Form, IsOnlySolution, Solves, levels, nested}
+use Rattle.profile_objects.specs.Requests.{requests_kind}
+use Rattle.profile_objects.specs.Responses.{responses_kind}
 use Rattle.profile_objects.proofs.Depths.{member_below}
-use Rattle.view_types.specs.declared.profile.ReqMatch.{ReqMatch}
-use Rattle.view_types.specs.declared.profile.ReqMatch.TheVariants as requests
-use Rattle.view_types.specs.declared.profile.RespMatch.{RespMatch}
-use Rattle.view_types.specs.declared.profile.RespMatch.TheVariants as responses
 
 -- two readings give the same of each value that is less deep
 abbrev AgreeBelow : {A : Type 0} → ℕ → Reading A → Reading A → Type 0
@@ -36,6 +34,18 @@ unfolding nested
 nested_is form local s =
     local (levels form (depth s.value)) (nested form) s (λ t less. levels_agree form local (depth s.value) (suc (depth t.value)) t less (omega arith))
 
+-- a reading that solves the form agrees with it where the values are less deep, and so here
+alone_at : {A : Type 0} (form : Form A) → IsLocal form → (other : Reading A) → Solves form other → (n : ℕ) (t : Spot) → depth t.value < n → other t ≡ nested form t
+alone_at form local other solves zero t low = absurd (omega (arith, low))
+alone_at form local other solves (suc n) t low =
+    solves t ∙ local other (nested form) t (λ u less. alone_at form local other solves n u (omega (arith, less, low))) ∙ sym (nested_is form local t)
+
+is_only : {A : Type 0} (form : Form A) → IsLocal form → IsOnlySolution form (nested form)
+is_only form local = record {
+  solves = nested_is form local;
+  alone = λ other solves s. alone_at form local other solves (suc (depth s.value)) s (omega arith);
+}
+
 items_agree : {A : Type 0} (f g : Reading A) (ds : Items) (at : List ℕ) (n : ℕ) → ((t : Spot) → depth t.value ≤ items_depth ds → f t ≡ g t) → each_from f at n ds ≡ each_from g at n ds
 unfolding each_from
 items_agree f g no_items at n same = refl
@@ -45,7 +55,7 @@ items_agree {A} f g (item d ds) at n same =
 
 -- a list of matches
 each_of : {A : Type 0} (f g : Reading A) (at : List ℕ) (d : Data) → ((t : Spot) → depth t.value < depth d → f t ≡ g t) → each f (record { at = at; value = d }) ≡ each g (record { at = at; value = d })
-unfolding each default list
+unfolding each default list then
 each_of f g at null same = refl
 each_of f g at (boolean b) same = refl
 each_of f g at (number n) same = refl
@@ -55,7 +65,7 @@ each_of f g at (object ms) same = refl
 
 -- one match, or a list of one
 only_in : {A : Type 0} (f g : Reading A) (at : List ℕ) (d : Data) → ((t : Spot) → depth t.value ≤ depth d → f t ≡ g t) → (only (record { at = at; value = d }) >>= f) ≡ (only (record { at = at; value = d }) >>= g)
-unfolding only
+unfolding only then
 only_in f g at null same = same (record { at = at; value = null }) (omega arith)
 only_in f g at (boolean b) same = same (record { at = at; value = boolean b }) (omega arith)
 only_in f g at (number n) same = same (record { at = at; value = number n }) (omega arith)
@@ -65,45 +75,40 @@ only_in f g at (array (item d no_items)) same = same (item_spot at 0 d) (omega a
 only_in f g at (array (item d (item e ds))) same = refl
 only_in f g at (object ms) same = same (record { at = at; value = object ms }) (omega arith)
 
-optional_agrees : {A B : Type 0} (make : A → B) (f g : Reading A) (s : Spot) → f s ≡ g s → optional (made make f) s ≡ optional (made make g) s
+optional_agrees : {A : Type 0} (f g : Reading A) (s : Spot) → f s ≡ g s → optional f s ≡ optional g s
 unfolding optional default
-optional_agrees {A} make f g s same = ap (λ (r : Result A ReadFault). if is_absent s then Ok None else (r >>= λ x. Ok (make x)) >>= λ x. Ok (Some x)) same
+optional_agrees {A} f g s same = ap (λ (r : Result A ReadFault). if is_absent s then Ok None else r >>= λ x. Ok (Some x)) same
 
 module _ {M : Type 0} (f g : Reading M) (at : List ℕ) (ms : Members) (same : AgreeBelow (depth (object ms)) f g) (key : Key) where
-  lists_agree : (make : List M → M) → optional (made make (each f)) (record { at = at; value = object ms } · key) ≡ optional (made make (each g)) (record { at = at; value = object ms } · key)
-  lists_agree make =
+  lists_agree : optional (each f) (record { at = at; value = object ms } · key) ≡ optional (each g) (record { at = at; value = object ms } · key)
+  lists_agree =
       let s : Spot = record { at = at; value = object ms } · key in
       let h = member_below at ms key in
-      optional_agrees make (each f) (each g) s (each_of f g s.at s.value (λ t less. same t (omega (arith, less, h))))
+      optional_agrees (each f) (each g) s (each_of f g s.at s.value (λ t less. same t (omega (arith, less, h))))
 
-  negations_agree : (make : M → M) → optional (made make (negation f)) (record { at = at; value = object ms } · key) ≡ optional (made make (negation g)) (record { at = at; value = object ms } · key)
-  negations_agree make =
+  negations_agree : optional (negation f) (record { at = at; value = object ms } · key) ≡ optional (negation g) (record { at = at; value = object ms } · key)
+  negations_agree =
       let s : Spot = record { at = at; value = object ms } · key in
       let h = member_below at ms key in
-      optional_agrees make (negation f) (negation g) s (only_in f g s.at s.value (λ t less. same t (omega (arith, less, h))))
+      optional_agrees (negation f) (negation g) s (only_in f g s.at s.value (λ t less. same t (omega (arith, less, h))))
 
-requests_in : (f g : Reading ReqMatch) (at : List ℕ) (d : Data) → AgreeBelow (depth d) f g → request_by f (record { at = at; value = d }) ≡ request_by g (record { at = at; value = d })
-unfolding request_by words.object
-requests_in f g at null same = refl
-requests_in f g at (boolean b) same = refl
-requests_in f g at (number n) same = refl
-requests_in f g at (string t) same = refl
-requests_in f g at (array ds) same = refl
-requests_in f g at (object ms) same =
-    rw (lists_agree f g at ms same keys.All requests.All, lists_agree f g at ms same keys.Any requests.Any, negations_agree f g at ms same keys.Not requests.Not) refl
+match_in : {M : Type 0} (kind : MatchKind M) (f g : Reading M) (at : List ℕ) (d : Data) → AgreeBelow (depth d) f g → match_by kind f (record { at = at; value = d }) ≡ match_by kind g (record { at = at; value = d })
+unfolding match_by words.object then
+match_in kind f g at null same = refl
+match_in kind f g at (boolean b) same = refl
+match_in kind f g at (number n) same = refl
+match_in kind f g at (string t) same = refl
+match_in kind f g at (array ds) same = refl
+match_in kind f g at (object ms) same = rw (lists_agree f g at ms same keys.All, lists_agree f g at ms same keys.Any, negations_agree f g at ms same keys.Not) refl
 
-responses_in : (f g : Reading RespMatch) (at : List ℕ) (d : Data) → AgreeBelow (depth d) f g → response_by f (record { at = at; value = d }) ≡ response_by g (record { at = at; value = d })
-unfolding response_by words.object
-responses_in f g at null same = refl
-responses_in f g at (boolean b) same = refl
-responses_in f g at (number n) same = refl
-responses_in f g at (string t) same = refl
-responses_in f g at (array ds) same = refl
-responses_in f g at (object ms) same =
-    rw (lists_agree f g at ms same keys.All responses.All, lists_agree f g at ms same keys.Any responses.Any, negations_agree f g at ms same keys.Not responses.Not) refl
+is_local : {M : Type 0} (kind : MatchKind M) → IsLocal (match_by kind)
+is_local kind f g t same = match_in kind f g t.at t.value same
+
+pub match_is : {M : Type 0} (kind : MatchKind M) (s : Spot) → match_of kind s ≡ match_by kind (match_of kind) s
+match_is kind = nested_is (match_by kind) (is_local kind)
 
 pub request_is : RequestsAreTheirTable
-request_is s = nested_is request_by (λ f g t same. requests_in f g t.at t.value same) s
+request_is = is_only (match_by requests_kind) (is_local requests_kind)
 
 pub response_is : ResponsesAreTheirTable
-response_is s = nested_is response_by (λ f g t same. responses_in f g t.at t.value same) s
+response_is = is_only (match_by responses_kind) (is_local responses_kind)

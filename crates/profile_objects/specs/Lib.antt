@@ -1,4 +1,6 @@
-pub mod MatchLaws
+pub mod Laws
 pub mod Matches
 pub mod Nested
 pub mod Profiles
+pub mod Requests
+pub mod Responses

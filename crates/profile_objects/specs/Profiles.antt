@@ -7,7 +7,8 @@ use Rattle.k8s_meta.specs.Spots.{Spot, ◌·◌, ◌>>=◌}
 use Rattle.k8s_meta.specs.Words.{boolean, default, object, optional, part, required, text}
 use Rattle.k8s_meta.specs.declared.fault.ReadFault.{ReadFault}
 use Rattle.k8s_meta.specs.declared.key.Key.TheVariants as keys
-use Rattle.profile_objects.specs.Matches.{request_match, response_match}
+use Rattle.profile_objects.specs.Requests.{request_match}
+use Rattle.profile_objects.specs.Responses.{response_match}
 use Rattle.view_types.specs.declared.profile.Override.{Override}
 use Rattle.view_types.specs.declared.profile.Profile.{Profile}
 use Rattle.view_types.specs.declared.profile.ProfileRoute.{ProfileRoute}
@@ -41,7 +42,6 @@ override_at o = do
 
 unfoldable pub profile_at : Spot → Result Profile ReadFault
 profile_at s = do
-  s ← object s
   meta ← meta_at s
   spec ← part (s · keys.Spec)
   routes ← each route_at (spec · keys.Routes)

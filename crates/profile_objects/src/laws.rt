@@ -1,8 +1,14 @@
-ghost use Rattle.profile_objects.specs.MatchLaws.{RequestsAreTheirTable, ResponsesAreTheirTable};
+ghost use Rattle.profile_objects.specs.Laws.{ProfilesAreLawful, RequestsAreTheirTable, ResponsesAreTheirTable};
 
-/// A match reads as its table says, where each match in it reads as a match.
+/// A match reads as its table says, where each match in it reads as a match; and only one reading does so.
 #[tactic(auto, using(crate::proofs::Tables::request_is, crate::proofs::Tables::response_is))]
 pub fn matches_are_their_tables()
     ensures requests { RequestsAreTheirTable }
     ensures responses { ResponsesAreTheirTable }
+{}
+
+/// Each profile that is read is lawful.
+#[tactic(auto, using(crate::proofs::Lawfully::profile_gives))]
+pub fn profiles_are_lawful()
+    ensures { ProfilesAreLawful }
 {}

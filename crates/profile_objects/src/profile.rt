@@ -4,8 +4,9 @@ ghost use Rattle.view_types.specs.Lawful.{IsLawfulProfile};
 ghost use Rattle.profile_objects.specs.Profiles.{class_at, override_at, profile_at, route_at};
 ghost use Rattle.k8s_meta.specs.Spots.{Reads, seen};
 
-use crate::request::RequestMatch;
-use crate::response::ResponseMatch;
+use crate::nested::MatchOf;
+use crate::request::Requests;
+use crate::response::Responses;
 use k8s_meta::fault::ReadFault;
 use k8s_meta::key::Key;
 use k8s_meta::meta::meta_of;
@@ -25,11 +26,17 @@ pub fn read_profile(alloc: Global, object: &Value, at: &str) -> Result<Profile, 
 }
 
 /// The ServiceProfile at a place.
-#[tactic(auto, unfolding(crate::specs::Profiles::profile_at))]
 pub fn profile_of<'a>(object: &'a Place<'a>) -> Result<Profile, ReadFault>
+    ensures value { Reads result (profile_at (seen object.now)) }
+    ensures lawful { IfOk result IsLawfulProfile }
+{
+    members_of(object)
+}
+
+#[tactic(auto, unfolding(k8s_meta::specs::Spots::then, crate::specs::Profiles::profile_at))]
+fn members_of<'a>(object: &'a Place<'a>) -> Result<Profile, ReadFault>
     ensures { Reads result (profile_at (seen object.now)) }
 {
-    object.object()?;
     let meta = meta_of(object)?;
     let spec = object.part(Key::Spec)?;
     let routes = spec.each(Key::Routes, &Route)?;
@@ -49,11 +56,11 @@ impl Reader for Route {
 
     ghost reading = { λ _. route_at };
 
-    #[tactic(auto, unfolding(crate::specs::Profiles::route_at))]
+    #[tactic(auto, unfolding(k8s_meta::specs::Spots::then, crate::specs::Profiles::route_at))]
     fn read<'a>(&self, place: &'a Place<'a>) -> Result<ProfileRoute, ReadFault> {
         place.object()?;
         let name = place.required(Key::Name, &AnyText)?;
-        let condition = place.required(Key::Condition, &RequestMatch)?;
+        let condition = place.required(Key::Condition, &MatchOf(Requests))?;
         let classes = place.each(Key::ResponseClasses, &Class)?;
         let retryable = place.default(Key::IsRetryable, &Flag, false)?;
         let timeout = place.optional(Key::Timeout, &Nanoseconds)?;
@@ -75,10 +82,10 @@ impl Reader for Class {
 
     ghost reading = { λ _. class_at };
 
-    #[tactic(auto, unfolding(crate::specs::Profiles::class_at))]
+    #[tactic(auto, unfolding(k8s_meta::specs::Spots::then, crate::specs::Profiles::class_at))]
     fn read<'a>(&self, place: &'a Place<'a>) -> Result<RespClass, ReadFault> {
         place.object()?;
-        let condition = place.required(Key::Condition, &ResponseMatch)?;
+        let condition = place.required(Key::Condition, &MatchOf(Responses))?;
         let failure = place.default(Key::IsFailure, &Flag, false)?;
         Ok(RespClass { condition, failure })
     }
@@ -92,7 +99,7 @@ impl Reader for OtherDestination {
 
     ghost reading = { λ _. override_at };
 
-    #[tactic(auto, unfolding(crate::specs::Profiles::override_at))]
+    #[tactic(auto, unfolding(k8s_meta::specs::Spots::then, crate::specs::Profiles::override_at))]
     fn read<'a>(&self, place: &'a Place<'a>) -> Result<Override, ReadFault> {
         place.object()?;
         let authority = place.required(Key::Authority, &AnyText)?;
