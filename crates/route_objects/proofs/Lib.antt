@@ -1,1 +1,3 @@
 pub mod Lawfully
+pub mod ParentLaw
+pub mod Parts

@@ -3,7 +3,7 @@ use Rattle.std.specs.Prelude.{Bool, true, false, Result, Ok}
 use Rattle.k8s_meta.specs.Lists.{each, each_some}
 use Rattle.k8s_meta.specs.Metadata.{meta_at}
 use Rattle.k8s_meta.specs.Spots.{Spot, ◌·◌, ◌>>=◌}
-use Rattle.k8s_meta.specs.Words.{object, part, text}
+use Rattle.k8s_meta.specs.Words.{part, text}
 use Rattle.k8s_meta.specs.declared.fault.ReadFault.{ReadFault}
 use Rattle.k8s_meta.specs.declared.key.Key.TheVariants as keys
 use Rattle.mesh_base.specs.declared.key.Kind.{Kind}
@@ -20,7 +20,6 @@ is_route _ = false
 
 unfoldable pub route_at : Kind → Spot → Result Route ReadFault
 route_at kind s = do
-  s ← object s
   meta ← meta_at s
   spec ← part (s · keys.Spec)
   parents ← each_some (parent_at meta.ns) (spec · keys.ParentRefs)

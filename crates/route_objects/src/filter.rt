@@ -24,7 +24,7 @@ impl Reader for RuleFilter {
 
     ghost reading = { λ _. filter_at };
 
-    #[tactic(auto, unfolding(crate::specs::Filters::filter_at))]
+    #[tactic(auto, unfolding(k8s_meta::specs::Spots::then, crate::specs::Filters::filter_at))]
     fn read<'a>(&self, place: &'a Place<'a>) -> Result<Option<Filter>, ReadFault> {
         place.object()?;
         let kind = place.required(Key::Type, &AnyText)?;
@@ -46,8 +46,9 @@ fn kept_filter(kind: &str, headers: Filter, redirect: Filter) -> Option<Filter>
     }
 }
 
-#[tactic(auto, unfolding(crate::specs::Filters::headers_at))]
-fn headers_of<'a>(filter: &'a Place<'a>) -> Result<Filter, ReadFault>
+/// The headers that a filter adds, sets and removes.
+#[tactic(auto, unfolding(k8s_meta::specs::Spots::then, crate::specs::Filters::headers_at))]
+pub fn headers_of<'a>(filter: &'a Place<'a>) -> Result<Filter, ReadFault>
     ensures { Reads result (headers_at ((seen filter.now) · keys.RequestHeaderModifier)) }
 {
     let modifier = filter.part(Key::RequestHeaderModifier)?;
@@ -57,7 +58,7 @@ fn headers_of<'a>(filter: &'a Place<'a>) -> Result<Filter, ReadFault>
     Ok(Filter::Headers { add, set, remove })
 }
 
-#[tactic(auto, unfolding(crate::specs::Filters::redirect_at))]
+#[tactic(auto, unfolding(k8s_meta::specs::Spots::then, crate::specs::Filters::redirect_at))]
 fn redirect_of<'a>(filter: &'a Place<'a>) -> Result<Filter, ReadFault>
     ensures { Reads result (redirect_at ((seen filter.now) · keys.RequestRedirect)) }
 {
@@ -82,7 +83,7 @@ impl Reader for Header {
 
     ghost reading = { λ _. header_at };
 
-    #[tactic(auto, unfolding(crate::specs::Filters::header_at))]
+    #[tactic(auto, unfolding(k8s_meta::specs::Spots::then, crate::specs::Filters::header_at))]
     fn read<'a>(&self, place: &'a Place<'a>) -> Result<(Text, Text), ReadFault> {
         place.object()?;
         let name = place.required(Key::Name, &AnyText)?;

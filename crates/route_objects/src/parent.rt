@@ -22,7 +22,7 @@ impl<'b> Reader for ParentRef<'b> {
 
     ghost reading = { λ r. parent_at r.own.now };
 
-    #[tactic(auto, unfolding(crate::specs::Parents::parent_at))]
+    #[tactic(auto, unfolding(k8s_meta::specs::Spots::then, crate::specs::Parents::parent_at))]
     fn read<'a>(&self, place: &'a Place<'a>) -> Result<Option<Parent>, ReadFault> {
         place.object()?;
         let group = place.optional(Key::Group, &AnyText)?;

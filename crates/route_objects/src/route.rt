@@ -26,12 +26,19 @@ pub fn read_route(alloc: Global, kind: Kind, object: &Value, at: &str) -> Result
 }
 
 /// The HTTPRoute of a route's kind at a place.
-#[tactic(auto, unfolding(crate::specs::Routes::route_at))]
 pub fn route_of<'a>(kind: Kind, object: &'a Place<'a>) -> Result<Route, ReadFault>
+    requires { IsTrue (is_route kind) }
+    ensures value { Reads result (route_at kind (seen object.now)) }
+    ensures lawful { IfOk result (IsLawfulRoute kind) }
+{
+    members_of(kind, object)
+}
+
+#[tactic(auto, unfolding(k8s_meta::specs::Spots::then, crate::specs::Routes::route_at))]
+fn members_of<'a>(kind: Kind, object: &'a Place<'a>) -> Result<Route, ReadFault>
     requires { IsTrue (is_route kind) }
     ensures { Reads result (route_at kind (seen object.now)) }
 {
-    object.object()?;
     let meta = meta_of(object)?;
     let spec = object.part(Key::Spec)?;
     let parents = spec.each_some(

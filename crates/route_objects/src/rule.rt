@@ -1,26 +1,22 @@
 ghost use Rattle.std.specs.Prelude.{◌≡◌, ◌∷◌, [], IfOk};
 ghost use Rattle.k8s_meta.specs.Spots.{◌·◌, Reads, seen};
 ghost use Rattle.k8s_meta.specs.declared.key.Key.TheVariants as keys;
-ghost use Rattle.route_objects.specs.Rules.{backend_at, backend_port, default_match, default_rule, is_service, rule_at, rules_at, some_match};
+ghost use Rattle.route_objects.specs.Matches.{default_match, some_match};
+ghost use Rattle.route_objects.specs.Rules.{default_rule, rule_at, rules_at};
 
+use crate::backend::Backend;
 use crate::filter::RuleFilter;
 use crate::matches::RuleMatch;
 use k8s_meta::fault::ReadFault;
 use k8s_meta::key::Key;
 use k8s_meta::place::Place;
 use k8s_meta::reader::Reader;
-use k8s_meta::words::{AnyText, Name, Namespace, Nanoseconds, Number32, PORT};
+use k8s_meta::words::Nanoseconds;
 use mesh_base::list::List;
 use mesh_base::memory::Memory;
 use mesh_base::text::Text;
-use mesh_text::group::is_core;
 use std::alloc::Global;
-use view_types::route::{BackendRef, HttpMatch, PathMatch, Rule};
-
-const WEIGHT: Number32 = Number32 {
-    low: 0,
-    high: 1_000_000,
-};
+use view_types::route::{HttpMatch, PathMatch, Rule};
 
 /// The rules of a route in a namespace. Where it has none, it has one with the default match.
 #[tactic(auto, unfolding(k8s_meta::specs::Words::default))]
@@ -58,7 +54,7 @@ impl<'b> Reader for RouteRule<'b> {
 
     ghost reading = { λ r. rule_at r.own.now };
 
-    #[tactic(auto, unfolding(crate::specs::Rules::rule_at))]
+    #[tactic(auto, unfolding(k8s_meta::specs::Spots::then, crate::specs::Rules::rule_at))]
     fn read<'a>(&self, place: &'a Place<'a>) -> Result<Rule, ReadFault> {
         place.object()?;
         let matches = place.each(Key::Matches, &RuleMatch)?;
@@ -92,53 +88,4 @@ fn some_match(alloc: Global, matches: List<HttpMatch>) -> Result<List<HttpMatch>
         method: None,
     })?;
     Ok(matches)
-}
-
-/// Where requests to a route in a namespace go.
-#[derive(Clone, Copy)]
-struct Backend<'b> {
-    own: &'b str,
-}
-
-impl<'b> Reader for Backend<'b> {
-    type Made = BackendRef;
-
-    ghost reading = { λ r. backend_at r.own.now };
-
-    #[tactic(auto, unfolding(crate::specs::Rules::backend_at))]
-    fn read<'a>(&self, place: &'a Place<'a>) -> Result<BackendRef, ReadFault> {
-        place.object()?;
-        let group = place.str_or(Key::Group, "")?;
-        let kind = place.str_or(Key::Kind, "Service")?;
-        let name = place.required(Key::Name, &Name)?;
-        let ns = place.text_or(Key::Namespace, &Namespace, self.own)?;
-        let service = is_service(group, kind);
-        let port = port_of(place, service)?;
-        let weight = place.default(Key::Weight, &WEIGHT, 1)?;
-        Ok(BackendRef {
-            service,
-            ns,
-            name,
-            port,
-            weight,
-        })
-    }
-}
-
-/// The port, which a Service has to have.
-#[tactic(auto, unfolding(crate::specs::Rules::backend_port))]
-fn port_of<'a>(place: &'a Place<'a>, service: bool) -> Result<Option<u16>, ReadFault>
-    ensures { Reads result (backend_port service ((seen place.now) · keys.Port)) }
-{
-    if service {
-        let port = place.required(Key::Port, &PORT)?;
-        return Ok(Some(port));
-    }
-    place.optional(Key::Port, &PORT)
-}
-
-fn is_service(group: &str, kind: &str) -> bool
-    ensures { result ≡ is_service group.now kind.now }
-{
-    kind == "Service" && is_core(group)
 }
