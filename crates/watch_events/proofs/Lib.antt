@@ -1,4 +1,5 @@
 pub mod Apart
+pub mod EachObject
 pub mod Groups
 pub mod KeyCmp
 pub mod Lawfully

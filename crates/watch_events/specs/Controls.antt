@@ -1,9 +1,8 @@
 -- What a control line says.
 use Rattle.std.specs.Prelude.{ℕ, List, Option, Some, None, Result, Ok, Err, bytes_eq, codes, option_and_then, if◌then◌else◌}
-use Rattle.serde_json.specs.Find.{as_str}
 use Rattle.k8s_meta.specs.Scalars.{number}
 use Rattle.k8s_meta.specs.Spots.{Spot, ◌·◌}
-use Rattle.k8s_meta.specs.Words.{choice, object, required}
+use Rattle.k8s_meta.specs.Words.{choice, object, required, string_in}
 use Rattle.k8s_meta.specs.declared.key.Key.TheVariants as keys
 use Rattle.view_types.specs.declared.config.Config.{Config}
 use Rattle.view_types.specs.declared.query.Method.{Method}
@@ -18,7 +17,7 @@ use Rattle.watch_events.specs.declared.line.Line.TheVariants as lines
 use Rattle.watch_events.specs.declared.line.LineFault.{LineFault}
 use Rattle.watch_events.specs.declared.line.LineFault.TheVariants as faults
 
--- The other methods aren't taken yet.
+-- The other methods aren't accepted yet.
 abbrev pub query_of : Config → Method → Spot → Result Query LineFault
 query_of config methods.Get q = of_query (get_at config q)
 query_of config _ q = Err faults.NotBuilt
@@ -39,7 +38,7 @@ control_word t =
     if bytes_eq t (codes "simulate") then Some words.Simulate else
     if bytes_eq t (codes "stop") then Some words.Stop else None
 
--- Cancellations, drains and simulations aren't taken yet.
+-- Cancellations, drains and simulations aren't accepted yet.
 abbrev pub control_as : Config → Option ControlWord → Spot → Result Line LineFault
 control_as config None s = Err (faults.BadQuery (s · keys.Control).at)
 control_as config (Some words.Subscribe) s = subscription_of config s
@@ -49,4 +48,4 @@ control_as config (Some words.Simulate) s = Err faults.NotBuilt
 control_as config (Some words.Stop) s = Ok lines.Stop
 
 abbrev pub control_of : Config → Spot → Result Line LineFault
-control_of config s = control_as config (option_and_then control_word (as_str (s · keys.Control).value)) s
+control_of config s = control_as config (option_and_then control_word (string_in (s · keys.Control).value)) s

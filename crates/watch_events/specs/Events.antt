@@ -1,8 +1,7 @@
 -- What a watch event says.
 use Rattle.std.specs.Prelude.{ℕ, List, Option, Some, None, Result, Ok, Err, bytes_eq, codes, option_and_then, if◌then◌else◌}
-use Rattle.serde_json.specs.Find.{as_str}
 use Rattle.k8s_meta.specs.Spots.{Spot, ◌·◌}
-use Rattle.k8s_meta.specs.Words.{object, required}
+use Rattle.k8s_meta.specs.Words.{object, required, string_in}
 use Rattle.k8s_meta.specs.declared.key.Key.TheVariants as keys
 use Rattle.watch_events.specs.Keys.{key_at}
 use Rattle.watch_events.specs.Kinds.{kind_of, text_or_empty}
@@ -50,4 +49,4 @@ event_as (Some Bookmark) s = Ok (lines.Event events.Bookmark)
 event_as (Some Error) s = Err faults.ErrorEvent
 
 abbrev pub event_of : Spot → Result Line LineFault
-event_of s = event_as (option_and_then event_type (as_str (s · keys.Type).value)) s
+event_of s = event_as (option_and_then event_type (string_in (s · keys.Type).value)) s

@@ -5,7 +5,7 @@ use Rattle.k8s_meta.specs.FaultText.{read_fault_text}
 use Rattle.watch_events.specs.declared.line.LineFault.{LineFault}
 use Rattle.watch_events.specs.declared.line.LineFault.TheVariants.{Memory, TooLong, NotJson, NotBuilt, NoForm, UnknownType, ErrorEvent, UnknownKind, Object, RepeatedItem, BadQuery}
 
--- Want of memory has no text.
+-- Out of memory has no text.
 abbrev pub line_fault_text : LineFault → List ℕ
 line_fault_text Memory = []
 line_fault_text TooLong = codes "TooLong"

@@ -1,8 +1,8 @@
 -- Which kind of object is meant, by the name of a kind and an API group.
 use Rattle.std.specs.Prelude.{ℕ, List, [], ◌∷◌, Option, Some, None, Result, Ok, Err, codes, unwrap_or, ◌&&◌, if◌then◌else◌}
 use Rattle.std.specs.Str.{bytes_eq}
-use Rattle.serde_json.specs.Find.{as_str}
 use Rattle.k8s_meta.specs.Spots.{Spot, ◌·◌}
+use Rattle.k8s_meta.specs.Words.{string_in}
 use Rattle.k8s_meta.specs.declared.key.Key.TheVariants as keys
 use Rattle.mesh_base.specs.Pieces.{pieces}
 use Rattle.mesh_base.specs.declared.key.Kind.{Kind}
@@ -18,9 +18,9 @@ before_slash _ = []
 unfoldable pub group_in : List ℕ → List ℕ
 group_in version = before_slash (pieces 47 version)
 
--- the text at a spot, or the empty text where there is none
+-- the string at a spot, or the empty string where there is none
 abbrev pub text_or_empty : Spot → List ℕ
-text_or_empty s = unwrap_or (as_str s.value) []
+text_or_empty s = unwrap_or (string_in s.value) []
 
 unfoldable pub group_of : Spot → List ℕ
 group_of s = group_in (text_or_empty (s · keys.ApiVersion))
@@ -45,7 +45,7 @@ kind_named kind group =
     if bytes_eq kind (codes "ServiceProfile") && bytes_eq group (codes "linkerd.io") then Some ServiceProfile else
     if bytes_eq kind (codes "HTTPRoute") && bytes_eq group (codes "gateway.networking.k8s.io") then Some GatewayRoute else None
 
--- A Pod isn't taken yet.
+-- A Pod isn't accepted yet.
 abbrev pub taken : Option Kind → Result Kind LineFault
 taken None = Err faults.UnknownKind
 taken (Some Pod) = Err faults.NotBuilt

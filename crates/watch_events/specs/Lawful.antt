@@ -1,11 +1,26 @@
--- What holds of each line that was read, and applying it requires.
+-- What holds of each object and of each line that was read, and applying it requires.
+use Rattle.std.specs.Prelude.{◌≡◌, ℕ, List, Ok}
 use Rattle.std.specs.List.{AllByRecursion}
+use Rattle.k8s_meta.specs.Given.{GivesOnly}
+use Rattle.mesh_base.specs.declared.key.Kind.{Kind}
+use Rattle.mesh_base.specs.declared.limits.Limits.{Limits}
 use Rattle.view_types.specs.Lawful.{IsLawful}
-use Rattle.view_types.specs.Objects.{IsListOf}
+use Rattle.view_types.specs.Objects.{IsListOf, kind_of}
+use Rattle.view_types.specs.declared.config.Config.{Config}
+use Rattle.view_types.specs.declared.object.Object.{Object}
+use Rattle.watch_events.specs.Lines.{line_of, text_line}
+use Rattle.watch_events.specs.Objects.{object_at}
 use Rattle.watch_events.specs.declared.event.Event.{Event}
 use Rattle.watch_events.specs.declared.event.Event.TheVariants.{Set, Delete, Relist, Bookmark}
 use Rattle.watch_events.specs.declared.line.Line.{Line}
 use Rattle.watch_events.specs.declared.line.Line.TheVariants as lines
+
+-- a lawful object of a kind
+abbrev pub IsLawfulOf : Kind → Object → Type 0
+IsLawfulOf kind o = IsLawful o × (kind_of o ≡ kind)
+
+abbrev pub ObjectsAreLawful : Type 0
+ObjectsAreLawful = (kind : Kind) → GivesOnly (IsLawfulOf kind) (object_at kind)
 
 -- Its objects are lawful, and a list's are of its kind, no two of them with one key.
 abbrev pub IsLawfulEvent : Event → Type 0
@@ -17,3 +32,10 @@ IsLawfulEvent Bookmark = Unit {0}
 abbrev pub IsLawfulLine : Line → Type 0
 IsLawfulLine (lines.Event event) = IsLawfulEvent event
 IsLawfulLine _ = Unit {0}
+
+-- each line that is read, whatever its length, and each under a limit
+abbrev pub TextsAreLawful : Type 0
+TextsAreLawful = (config : Config) (bytes : List ℕ) (line : Line) → text_line config bytes ≡ Ok line → IsLawfulLine line
+
+abbrev pub LinesAreLawful : Type 0
+LinesAreLawful = (config : Config) (limits : Limits) (bytes : List ℕ) (line : Line) → line_of config limits bytes ≡ Ok line → IsLawfulLine line

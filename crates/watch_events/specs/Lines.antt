@@ -1,10 +1,11 @@
 -- What a line says, or its first fault.
-use Rattle.std.specs.Prelude.{ℕ, List, [], Bool, Option, Some, None, Result, Ok, Err, ◌||◌, ◌==◌, length, nat_lt, option_and_then, if◌then◌else◌}
+use Rattle.std.specs.Prelude.{ℕ, List, [], Bool, Option, Some, None, Result, Ok, Err, ◌||◌, ◌==◌, option_and_then, if◌then◌else◌}
 use Rattle.std.specs.List.{list_all}
 use Rattle.serde_json.specs.Data.{Data}
-use Rattle.serde_json.specs.Find.{as_str}
 use Rattle.k8s_meta.specs.Spots.{Spot, ◌·◌, is_absent}
+use Rattle.k8s_meta.specs.Words.{string_in}
 use Rattle.k8s_meta.specs.declared.key.Key.TheVariants as keys
+use Rattle.line_run.specs.Rows.{Row, row_of}
 use Rattle.mesh_base.specs.declared.limits.Limits.{Limits}
 use Rattle.mesh_text.specs.Json.{json_of}
 use Rattle.view_types.specs.declared.config.Config.{Config}
@@ -32,7 +33,7 @@ list_as (Some name) s = list_of name s
 unfoldable pub form_of : Config → Spot → Result Line LineFault
 form_of config s =
     if is_absent (s · keys.Control) then
-    (if is_absent (s · keys.Type) then list_as (option_and_then item_kind (as_str (s · keys.Kind).value)) s else event_of s)
+    (if is_absent (s · keys.Type) then list_as (option_and_then item_kind (string_in (s · keys.Kind).value)) s else event_of s)
     else control_of config s
 
 -- the value of a line, whose members have their names as paths
@@ -47,5 +48,10 @@ json_line config (Some value) = form_of config (line_spot value)
 unfoldable pub text_line : Config → List ℕ → Result Line LineFault
 text_line config bytes = if is_blank bytes then Ok lines.Blank else json_line config (json_of bytes)
 
+-- What a row of a feed says, where lines read so. A row is a line, or none for one that is longer than the limit.
+abbrev pub row_says : (List ℕ → Result Line LineFault) → Row → Result Line LineFault
+row_says reads None = Err faults.TooLong
+row_says reads (Some bytes) = reads bytes
+
 abbrev pub line_of : Config → Limits → List ℕ → Result Line LineFault
-line_of config limits bytes = if nat_lt limits.line (length bytes) then Err faults.TooLong else text_line config bytes
+line_of config limits bytes = row_says (text_line config) (row_of limits.line bytes)

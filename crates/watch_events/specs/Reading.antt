@@ -5,11 +5,14 @@ use Rattle.k8s_meta.specs.declared.fault.ReadFault.TheVariants as reads
 use Rattle.watch_events.specs.declared.line.LineFault.{LineFault}
 use Rattle.watch_events.specs.declared.line.LineFault.TheVariants as faults
 
-infixl 10 ◌>>=◌
 -- one reading after another, up to the first fault
+unfoldable pub then : {A B : Type 0} → Result A LineFault → (A → Result B LineFault) → Result B LineFault
+then (Ok x) f = f x
+then (Err e) f = Err e
+
+infixl 10 ◌>>=◌
 abbrev pub ◌>>=◌ : {A B : Type 0} → Result A LineFault → (A → Result B LineFault) → Result B LineFault
-(Ok x) >>= f = f x
-(Err e) >>= f = Err e
+r >>= f = then r f
 
 -- a fault of an object, or of a list, is the line's
 abbrev pub object_fault : ReadFault → LineFault

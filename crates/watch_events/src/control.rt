@@ -1,8 +1,7 @@
 ghost use Rattle.std.specs.Prelude.{◌≡◌, Err, option_and_then};
-ghost use Rattle.serde_json.specs.Find.{as_str};
 ghost use Rattle.k8s_meta.specs.Scalars.{number};
 ghost use Rattle.k8s_meta.specs.Spots.{◌·◌, seen};
-ghost use Rattle.k8s_meta.specs.Words.{choice, object, required};
+ghost use Rattle.k8s_meta.specs.Words.{choice, object, required, string_in};
 ghost use Rattle.k8s_meta.specs.declared.key.Key.TheVariants as keys;
 ghost use Rattle.watch_events.specs.Controls.{control_of, control_word, query_of, subscription_of};
 ghost use Rattle.watch_events.specs.Given.{Fails, Gives, GivesAs};
@@ -14,6 +13,7 @@ ghost use Rattle.watch_events.specs.declared.line.LineFault.TheVariants.{BadQuer
 use crate::fault::query_fault;
 use crate::line::{Line, LineFault};
 use crate::query::{MethodWord, read_get};
+use k8s_meta::choice::Choice;
 use k8s_meta::key::Key;
 use k8s_meta::place::Place;
 use k8s_meta::words::Number32;
@@ -75,7 +75,7 @@ fn query_in<'a>(line: &'a Place<'a>) -> Result<Place<'a>, LineFault>
 fn read_method<'a>(query: &'a Place<'a>) -> Result<Method, LineFault>
     ensures { Gives result (of_query (required (choice method_of) ((seen query.now) · keys.Method))) }
 {
-    match query.required(Key::Method, &MethodWord) {
+    match query.required(Key::Method, &Choice(MethodWord)) {
         Ok(method) => Ok(method),
         Err(fault) => Err(query_fault(fault)),
     }
@@ -93,7 +93,7 @@ fn read_query<'a>(config: &Config, method: Method, query: &'a Place<'a>) -> Resu
     }
 }
 
-#[tactic(auto, unfolding(crate::specs::Controls::subscription_of))]
+#[tactic(auto, unfolding(crate::specs::Reading::then, crate::specs::Controls::subscription_of))]
 fn read_subscription<'a>(config: &Config, line: &'a Place<'a>) -> Result<Line, LineFault>
     ensures { Gives result (subscription_of config.now (seen line.now)) }
 {
@@ -108,7 +108,7 @@ fn read_subscription<'a>(config: &Config, line: &'a Place<'a>) -> Result<Line, L
 }
 
 fn word_of<'a>(line: &'a Place<'a>) -> Option<ControlWord>
-    ensures { result ≡ option_and_then control_word (as_str ((seen line.now) · keys.Control).value) }
+    ensures { result ≡ option_and_then control_word (string_in ((seen line.now) · keys.Control).value) }
 {
     match line.member(Key::Control).as_text() {
         Some(word) => control_word(word),

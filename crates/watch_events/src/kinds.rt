@@ -26,7 +26,7 @@ fn group_in(version: &str) -> &[u8]
     }
 }
 
-/// The text at a place, or the empty text where there is none.
+/// The string at a place, or the empty string where there is none.
 pub fn text_or_empty<'a>(place: &Place<'a>) -> &'a str
     ensures { result.now ≡ text_or_empty (seen place.now) }
 {

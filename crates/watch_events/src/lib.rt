@@ -1,8 +1,9 @@
 //! A line of the feed: from its bytes to what it says, or the first fault.
 //!
 //! Stands on k8s_core, profile_objects, policy_objects and route_objects for objects, on mesh_text for JSON and the short
-//! texts, on k8s_meta for members and on view_types for what a line may say. `read_line` gives `line_of` of
-//! `specs/Lines`, and what it gives is lawful (`specs/Lawful`).
+//! texts, on k8s_meta for members and on view_types for what a line may say. `read_row` gives `row_says` of `specs/Lines`
+//! for the rows that line_run cuts, `read_line` the same for a line of any length, and what they give is lawful
+//! (`specs/Lawful`).
 #![tactic(auto)]
 
 mod control;
@@ -10,6 +11,7 @@ pub mod event;
 mod event_type;
 mod fault;
 mod kinds;
+pub mod laws;
 pub mod line;
 mod line_text;
 mod list;

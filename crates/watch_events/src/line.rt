@@ -39,9 +39,9 @@ pub enum LineFault {
     Object(ReadFault),
     /// The item at this place of a list, counted from 0, has the key of an earlier one.
     RepeatedItem { place: u64 },
-    /// The member of a control line is absent, or has a value that isn't taken there.
+    /// The member of a control line is absent, or its value isn't accepted there.
     BadQuery { path: Text },
-    /// It reads so far, and this program doesn't take such lines yet.
+    /// It reads so far, and this program doesn't accept such lines yet.
     NotBuilt,
 }
 

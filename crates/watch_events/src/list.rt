@@ -62,7 +62,7 @@ fn unless_repeated(kind: Kind, items: List<Object>, place: Option<usize>) -> Res
 }
 
 /// What a list says, whose items are of the kind of this name.
-#[tactic(auto, unfolding(crate::specs::ListLines::list_of))]
+#[tactic(auto, unfolding(crate::specs::Reading::then, crate::specs::ListLines::list_of))]
 pub fn read_list<'a>(name: &[u8], list: &'a Place<'a>) -> Result<Line, LineFault>
     ensures { Gives result (list_of name.now (seen list.now)) }
 {

@@ -37,7 +37,7 @@ impl Reader for ObjectOf {
 }
 
 /// The object at a place, as one of the kind.
-#[tactic(auto, unfolding(crate::specs::Objects::object_at))]
+#[tactic(auto, unfolding(k8s_meta::specs::Spots::then, crate::specs::Objects::object_at))]
 pub fn read_object<'a>(kind: Kind, place: &'a Place<'a>) -> Result<Object, ReadFault>
     ensures { Reads result (object_at kind (seen place.now)) }
 {
@@ -91,7 +91,7 @@ pub fn read_object<'a>(kind: Kind, place: &'a Place<'a>) -> Result<Object, ReadF
 }
 
 /// The key of the object at a place: its name and its namespace alone are read.
-#[tactic(auto, unfolding(crate::specs::Keys::key_at))]
+#[tactic(auto, unfolding(k8s_meta::specs::Spots::then, crate::specs::Keys::key_at))]
 pub fn read_key<'a>(kind: Kind, object: &'a Place<'a>) -> Result<ObjKey, ReadFault>
     ensures { Reads result (key_at kind (seen object.now)) }
 {

@@ -1,8 +1,8 @@
 ghost use Rattle.std.specs.Prelude.{◌≡◌, Ok};
 ghost use Rattle.k8s_meta.specs.Spots.{Reads, seen};
-ghost use Rattle.k8s_meta.specs.Words.{choice};
 ghost use Rattle.watch_events.specs.Queries.{context_at, get_at, method_of, no_context, service_port, service_port_at};
 
+use k8s_meta::choice::Word;
 use k8s_meta::fault::{ReadFault, What};
 use k8s_meta::key::Key;
 use k8s_meta::place::Place;
@@ -13,40 +13,32 @@ use mesh_text::token::read_context;
 use view_types::config::Config;
 use view_types::query::{Context, Method, Query, Target};
 
-fn method_of(word: &str) -> Option<Method>
-    ensures { result ≡ method_of word.now }
-{
-    if word == "Get" {
-        Some(Method::Get)
-    } else if word == "GetProfile" {
-        Some(Method::GetProfile)
-    } else if word == "WatchPort" {
-        Some(Method::WatchPort)
-    } else if word == "Watch" {
-        Some(Method::Watch)
-    } else {
-        None
-    }
-}
-
-/// A method by its word.
+/// The words for methods.
 #[derive(Clone, Copy)]
 pub struct MethodWord;
 
-impl Reader for MethodWord {
-    type Made = Method;
+impl Word for MethodWord {
+    type Meaning = Method;
 
-    ghost reading = { λ _. choice method_of };
+    ghost meaning = { λ _. method_of };
 
-    #[tactic(auto, unfolding(k8s_meta::specs::Words::choice))]
-    fn read<'a>(&self, place: &'a Place<'a>) -> Result<Method, ReadFault> {
-        let text = place.text()?;
-        place.valid(What::Choice, method_of(text))
+    fn meaning_of(&self, text: &str) -> Option<Method> {
+        if text == "Get" {
+            Some(Method::Get)
+        } else if text == "GetProfile" {
+            Some(Method::GetProfile)
+        } else if text == "WatchPort" {
+            Some(Method::WatchPort)
+        } else if text == "Watch" {
+            Some(Method::Watch)
+        } else {
+            None
+        }
     }
 }
 
 /// A port of a Service.
-#[derive(Debug, Drop)]
+#[derive(Drop)]
 pub struct ServicePort {
     pub ns: Text,
     pub name: Text,
@@ -73,7 +65,7 @@ impl Reader for ServiceTarget<'_> {
 
     ghost reading = { λ reader. service_port_at reader.config.now };
 
-    #[tactic(auto, unfolding(crate::specs::Queries::service_port_at))]
+    #[tactic(auto, unfolding(k8s_meta::specs::Spots::then, crate::specs::Queries::service_port_at))]
     fn read<'a>(&self, place: &'a Place<'a>) -> Result<ServicePort, ReadFault> {
         let text = place.text()?;
         match read_target(place.alloc(), text.as_bytes(), self.config) {
@@ -93,7 +85,7 @@ impl Reader for ContextToken {
 
     ghost reading = { λ _. context_at };
 
-    #[tactic(auto, unfolding(crate::specs::Queries::context_at))]
+    #[tactic(auto, unfolding(k8s_meta::specs::Spots::then, crate::specs::Queries::context_at))]
     fn read<'a>(&self, place: &'a Place<'a>) -> Result<Context, ReadFault> {
         let text = place.text()?;
         Ok(read_context(place.alloc(), text.as_bytes())?)
@@ -101,7 +93,7 @@ impl Reader for ContextToken {
 }
 
 /// The endpoints of a port of a Service, as a query asks for them.
-#[tactic(auto, unfolding(crate::specs::Queries::get_at))]
+#[tactic(auto, unfolding(k8s_meta::specs::Spots::then, crate::specs::Queries::get_at))]
 pub fn read_get<'a>(config: &Config, query: &'a Place<'a>) -> Result<Query, ReadFault>
     ensures { Reads result (get_at config.now (seen query.now)) }
 {

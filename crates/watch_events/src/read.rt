@@ -1,13 +1,16 @@
 ghost use Rattle.std.specs.Prelude.{◌≡◌, IfOk, option_and_then};
-ghost use Rattle.serde_json.specs.Find.{as_str};
+ghost use Rattle.std.specs.Option.{option_copied};
+ghost use Rattle.line_run.specs.Rows.{row_of};
 ghost use Rattle.k8s_meta.specs.Spots.{◌·◌, seen};
+ghost use Rattle.k8s_meta.specs.Words.{string_in};
 ghost use Rattle.k8s_meta.specs.declared.key.Key.TheVariants as keys;
 ghost use Rattle.watch_events.specs.Given.{Gives};
 ghost use Rattle.watch_events.specs.Lawful.{IsLawfulLine};
-ghost use Rattle.watch_events.specs.Lines.{form_of, is_blank, is_blank_byte, line_of, list_as, text_line};
+ghost use Rattle.watch_events.specs.Lines.{form_of, is_blank, is_blank_byte, line_of, list_as, row_says, text_line};
 ghost use Rattle.watch_events.specs.ListLines.{item_kind};
 
 use crate::control::read_control;
+use crate::laws::lines_are_lawful;
 use crate::line::{Line, LineFault};
 use crate::list::{item_kind, read_list};
 use crate::watch::read_event;
@@ -31,7 +34,7 @@ fn is_blank(line: &[u8]) -> bool
 }
 
 fn read_if_list<'a>(line: &'a Place<'a>) -> Result<Line, LineFault>
-    ensures { Gives result (list_as (option_and_then item_kind (as_str ((seen line.now) · keys.Kind).value)) (seen line.now)) }
+    ensures { Gives result (list_as (option_and_then item_kind (string_in ((seen line.now) · keys.Kind).value)) (seen line.now)) }
 {
     let Some(kind) = line.member(Key::Kind).as_text() else {
         return Err(LineFault::NoForm);
@@ -68,6 +71,34 @@ fn read_text(alloc: Global, line: &[u8], config: &Config) -> Result<Line, LineFa
     }
 }
 
+fn read_here(alloc: Global, row: Option<&[u8]>, config: &Config) -> Result<Line, LineFault>
+    ensures { Gives result (row_says (text_line config.now) (option_copied row.entry)) }
+{
+    match row {
+        Some(line) => read_text(alloc, line, config),
+        None => Err(LineFault::TooLong),
+    }
+}
+
+/// What a row says, or the first fault. A row is a line, or none for one that is longer than the limit.
+pub fn read_row(alloc: Global, row: Option<&[u8]>, config: &Config) -> Result<Line, LineFault>
+    ensures value { Gives result (row_says (text_line config.now) (option_copied row.entry)) }
+    ensures lawful { IfOk result IsLawfulLine }
+{
+    lines_are_lawful();
+    read_here(alloc, row, config)
+}
+
+fn row_of<'a>(line: &'a [u8], limits: &Limits) -> Option<&'a [u8]>
+    ensures { option_copied result ≡ row_of limits.now.line line.now }
+{
+    if line.len() as u64 <= limits.line {
+        Some(line)
+    } else {
+        None
+    }
+}
+
 /// What the bytes of a line say, or the first fault.
 pub fn read_line(
     alloc: Global,
@@ -78,8 +109,5 @@ pub fn read_line(
     ensures value { Gives result (line_of config.now limits.now line.now) }
     ensures lawful { IfOk result IsLawfulLine }
 {
-    if line.len() as u64 > limits.line {
-        return Err(LineFault::TooLong);
-    }
-    read_text(alloc, line, config)
+    read_row(alloc, row_of(line, limits), config)
 }

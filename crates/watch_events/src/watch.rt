@@ -1,7 +1,6 @@
 ghost use Rattle.std.specs.Prelude.{◌≡◌, option_and_then};
-ghost use Rattle.serde_json.specs.Find.{as_str};
 ghost use Rattle.k8s_meta.specs.Spots.{◌·◌, seen};
-ghost use Rattle.k8s_meta.specs.Words.{object, required};
+ghost use Rattle.k8s_meta.specs.Words.{object, required, string_in};
 ghost use Rattle.k8s_meta.specs.declared.key.Key.TheVariants as keys;
 ghost use Rattle.watch_events.specs.Events.{delete_of, event_of, event_type, set_of};
 ghost use Rattle.watch_events.specs.Given.{Gives, GivesAs};
@@ -56,7 +55,7 @@ fn read_gone<'a>(kind: Kind, object: &'a Place<'a>) -> Result<ObjKey, LineFault>
     }
 }
 
-#[tactic(auto, unfolding(crate::specs::Events::set_of))]
+#[tactic(auto, unfolding(crate::specs::Reading::then, crate::specs::Events::set_of))]
 fn read_set<'a>(event: &'a Place<'a>) -> Result<Line, LineFault>
     ensures { Gives result (set_of (seen event.now)) }
 {
@@ -66,7 +65,7 @@ fn read_set<'a>(event: &'a Place<'a>) -> Result<Line, LineFault>
     Ok(Line::Event(Event::Set(held)))
 }
 
-#[tactic(auto, unfolding(crate::specs::Events::delete_of))]
+#[tactic(auto, unfolding(crate::specs::Reading::then, crate::specs::Events::delete_of))]
 fn read_delete<'a>(event: &'a Place<'a>) -> Result<Line, LineFault>
     ensures { Gives result (delete_of (seen event.now)) }
 {
@@ -77,7 +76,7 @@ fn read_delete<'a>(event: &'a Place<'a>) -> Result<Line, LineFault>
 }
 
 fn type_of<'a>(event: &'a Place<'a>) -> Option<EventType>
-    ensures { result ≡ option_and_then event_type (as_str ((seen event.now) · keys.Type).value) }
+    ensures { result ≡ option_and_then event_type (string_in ((seen event.now) · keys.Type).value) }
 {
     match event.member(Key::Type).as_text() {
         Some(word) => event_type(word),
