@@ -6,6 +6,7 @@ use Rattle.line_run.specs.Rows.{Row, row_of}
 use Rattle.mesh_base.specs.declared.key.Kind.{Kind}
 use Rattle.serde_json.specs.Data.{Data}
 use Rattle.mesh_text.specs.Json.{json_of}
+use Rattle.k8s_meta.specs.Lists.{each}
 use Rattle.k8s_meta.specs.Spots.{Spot, ◌·◌, is_absent}
 use Rattle.k8s_meta.specs.Words.{string_in}
 use Rattle.k8s_meta.specs.declared.fault.ReadFault.{ReadFault}
@@ -25,6 +26,7 @@ use Rattle.watch_events.specs.Objects.{object_at}
 use Rattle.watch_events.specs.Reading.{of_object, ◌>>=◌, then}
 use Rattle.watch_events.specs.declared.control.ControlWord.{ControlWord}
 use Rattle.watch_events.specs.declared.control.ControlWord.TheVariants as words
+use Rattle.watch_events.specs.declared.event.Event.TheVariants as events
 use Rattle.watch_events.specs.declared.event_type.EventType.{EventType}
 use Rattle.watch_events.specs.declared.event_type.EventType.TheVariants.{Added, Modified, Deleted, Bookmark, Error}
 use Rattle.watch_events.specs.declared.line.Line.{Line}
@@ -71,7 +73,7 @@ P = IsLawfulLine
 
 subscription_gives : (config : Config) (s : Spot) → Lawful (subscription_of config s)
 unfolding subscription_of
-subscription_gives config s = step P _ _ (λ id _. step P _ _ (λ q _. step P _ _ (λ method _. step P _ _ (λ query _. end P _ tt))))
+subscription_gives config s = step P _ _ (λ id _. step P _ _ (λ q _. step P _ _ (λ method _. step P _ _ (λ query _. end P (lines.Subscribe (record { 0 = id }) query) tt))))
 
 control_gives : (config : Config) (word : Option ControlWord) (s : Spot) → Lawful (control_as config word s)
 control_gives config None s line e = absurd cc
@@ -83,35 +85,35 @@ control_gives config (Some words.Stop) s line e = end P lines.Stop tt line e
 
 delete_gives : (s : Spot) → Lawful (delete_of s)
 unfolding delete_of
-delete_gives s = step P _ _ (λ o _. step P _ _ (λ kind _. step P _ _ (λ key _. end P _ tt)))
+delete_gives s = step P _ _ (λ o _. step P _ _ (λ kind _. step P _ _ (λ key _. end P (lines.Event (events.Delete key)) tt)))
 
 module _ (lawful : ObjectsAreLawful) where
   set_gives : (s : Spot) → Lawful (set_of s)
   unfolding set_of
-  set_gives s = step P _ _ (λ o _. step P _ _ (λ kind _. step P _ _ (λ x is. end P _ (lawful kind o x (object_read _ x is)).0)))
+  set_gives s = step P _ _ (λ o _. step P _ _ (λ kind _. step P _ _ (λ x is. end P (lines.Event (events.Set x)) (lawful kind o x (object_read (object_at kind o) x is)).0)))
 
   event_gives : (kind : Option EventType) (s : Spot) → Lawful (event_as kind s)
   event_gives None s line e = absurd cc
   event_gives (Some Added) s line e = set_gives s line e
   event_gives (Some Modified) s line e = set_gives s line e
   event_gives (Some Deleted) s line e = delete_gives s line e
-  event_gives (Some Bookmark) s line e = end P _ tt line e
+  event_gives (Some Bookmark) s line e = end P (lines.Event events.Bookmark) tt line e
   event_gives (Some Error) s line e = absurd cc
 
   list_is : (kind : Kind) (items : List Object) → AllByRecursion (IsLawfulOf kind) items → (place : Option ℕ) → repeated items ≡ place → Lawful (unless_repeated kind items place)
-  list_is kind items all None is = end P _ (
+  list_is kind items all None is line e = end P (lines.Event (events.Relist kind items)) (
     record {
       each = All-from_recursion (λ (o : Object). kind_of o ≡ kind) items (seconds IsLawful (λ (o : Object). kind_of o ≡ kind) items all);
       apart = apart_unless_repeated (map key_of items) is;
     },
     firsts IsLawful (λ (o : Object). kind_of o ≡ kind) items all,
-  )
+  ) line e
   list_is kind items all (Some n) is line e = absurd cc
 
   list_gives : (name : List ℕ) (s : Spot) → Lawful (list_of name s)
   unfolding list_of
   list_gives name s =
-      step P _ _ (λ kind _. step P _ _ (λ items are. list_is kind items (each_gives (IsLawfulOf kind) (object_at kind) (lawful kind) (s · keys.Items) items (object_read _ items are)) (repeated items) refl))
+      step P _ _ (λ kind _. step P _ _ (λ items are. list_is kind items (each_gives (IsLawfulOf kind) (object_at kind) (lawful kind) (s · keys.Items) items (object_read (each (object_at kind) (s · keys.Items)) items are)) (repeated items) refl))
 
   list_as_gives : (name : Option (List ℕ)) (s : Spot) → Lawful (list_as name s)
   list_as_gives None s line e = absurd cc
@@ -138,7 +140,7 @@ module _ (lawful : ObjectsAreLawful) where
   text_gives config bytes line e = cases (is_blank bytes) e
     where
       cases : (b : Bool) → (if b then Ok lines.Blank else json_line config (json_of bytes)) ≡ Ok line → IsLawfulLine line
-      cases true e = end P _ tt line e
+      cases true e = end P lines.Blank tt line e
       cases false e = json_gives config (json_of bytes) line e
 
 row_gives : TextsAreLawful → (config : Config) (row : Row) → Lawful (row_says (text_line config) row)
