@@ -1,7 +1,7 @@
 -- What is seen by folding is in order.
-use Rattle.std.proofs.Common.{◌≡◌, ◌&&◌, Bool, true, false, cond, List, [], ◌∷◌, map, Option, Some, None, Ordering, refl, sym, ap, subst, ◌∙◌}
+use Rattle.std.proofs.Common.{◌≡◌, cond, List, [], ◌∷◌, map, Some, None, refl, sym, ap, subst, ◌∙◌}
 use lib.Dec.{T}
-use Rattle.std.specs.FinMap.{empty, get, get-empty, same_map, values}
+use Rattle.std.specs.FinMap.{empty, get-empty, same_map, values}
 use Rattle.std.specs.FinMap.Entries.{below_all}
 use Rattle.std.specs.List.{AllByRecursion, list_any}
 use Rattle.std.specs.List.Sorted.{IsStrictlySortedBy}
@@ -11,12 +11,11 @@ use Rattle.view_rules.proofs.Pairs.{pairs_exact, pairs_total}
 use Rattle.view_rules.proofs.RowMaps.{Pair, IsOwn, IsRising, either_none, first, less, own_put, own_rows, own_taken, rows_shown, second, taken, values_rise}
 use Rattle.view_rules.specs.Batch.{same_pair}
 use Rattle.view_rules.specs.Endpoints.{no_endpoints, pair_cmp, pair_of}
-use Rattle.view_rules.specs.Fold.{IsOrderly, RowMap, after, fold, folded_onto, put_rows, row_map, take_out}
+use Rattle.view_rules.specs.Fold.{IsOrderly, RowMap, after, folded_onto, put_rows, row_map, take_out}
 use Rattle.view_types.specs.declared.endpoint.EndpointRow.{EndpointRow}
 use Rattle.view_types.specs.declared.endpoint.EndpointView.{EndpointView}
 use Rattle.view_types.specs.declared.message.Message.{Message}
 use Rattle.view_types.specs.declared.message.Message.TheVariants.{Add, Remove, NoEndpoints}
-use Rattle.view_types.specs.declared.view.View.{View}
 use Rattle.view_types.specs.declared.view.View.TheVariants.{Endpoints}
 use Rattle.view_fold.specs.Laws.{FoldsAreOrderly}
 
