@@ -126,6 +126,7 @@ filled_fits (Some ls) (Some rs) n left right e = cases (nat_le (length ls + leng
   where
     long : length ls + length rs ≤ 7 → length (filled_up_to ls rs) ≡ 8
     long le = length-append ls _ ∙ ap (λ k. length ls + k) (length-append (replicate (8 - length ls - length rs) 0) rs ∙ ap (λ k. k + length rs) (length-replicate (8 - length ls - length rs) 0)) ∙ omega arith
+
     cases : (b : Bool) → nat_le (length ls + length rs) 7 ≡ b → cond b (Some (number_after 0 (filled_up_to ls rs))) None ≡ Some n → n < 2 ^ 128
     cases true is f = subst (λ m. m < 2 ^ 128) (same (number_after 0 (filled_up_to ls rs)) n f) (of_eight (filled_up_to ls rs) (long (grind (arith, nat_tests)))
         (groups-append ls _ (left ls refl) (groups-append (replicate (8 - length ls - length rs) 0) rs (zeros (8 - length ls - length rs)) (right rs refl))))

@@ -1,4 +1,4 @@
-ghost use Rattle.std.specs.Prelude.{IfOk};
+ghost use Rattle.std.specs.Prelude.{◌+◌, ◌<◌, IfOk};
 ghost use Rattle.view_rules.specs.Fold.{IsOrderly};
 
 use mesh_base::copied::Copied;
@@ -32,27 +32,19 @@ fn view(alloc: Global, first: u32, count: u32, weight: u32) -> Result<EndpointVi
             h2: false,
         })?;
     }
-    shown(alloc, rows)
+    shown(alloc, Message::Add(rows))
 }
 
-fn shown(alloc: Global, rows: List<EndpointRow>) -> Result<EndpointView, Memory>
+/// What a subscriber sees who is sent the message alone.
+fn shown(alloc: Global, message: Message) -> Result<EndpointView, Memory>
     ensures { IfOk result IsOrderly }
 {
     let mut fold = Fold::new();
-    fold.take(alloc, Message::Add(rows))?;
+    fold.take(alloc, message)?;
     match fold.view() {
         Some(View::Endpoints(view)) => view.copy(alloc),
-        _ => none(alloc),
+        _ => Err(Memory),
     }
-}
-
-fn none(alloc: Global) -> Result<EndpointView, Memory>
-    ensures { IfOk result IsOrderly }
-{
-    Ok(EndpointView {
-        exists: false,
-        rows: List::new(alloc),
-    })
 }
 
 /// How many rows each Add has, how many addresses each Remove in an error's place, and 0 for a NoEndpoints.
@@ -111,7 +103,7 @@ fn batches_bring_from_view_to_view(rt: HostRuntime) -> Result<(), Memory> {
     let again = batch(alloc, Some(&others), &others, &limits)?;
     assert_eq!(rt; again.len(), 0);
 
-    let empty = none(alloc)?;
+    let empty = shown(alloc, Message::NoEndpoints(false))?;
     let last = batch(alloc, Some(&others), &empty, &limits)?;
     let sizes_of_last = sizes(alloc, &last)?;
     assert_eq!(rt; sizes_of_last.as_slice(), [Err(0)].as_slice());

@@ -71,16 +71,12 @@ fn is_so(alloc: Global, row: &str) -> Result<bool, Memory> {
     };
     let ns = Text::from_str(alloc, "app")?;
     let name = Text::from_str(alloc, "web")?;
-    let view = endpoints(alloc, objects, &ns, &name, port)?;
-    let mut pairs = Vec::new(alloc);
-    for row in view.rows.as_slice() {
-        pairs.push((row.ip, row.port))?;
-    }
-    Ok(pairs)
+    let view = endpoints(alloc, objects.as_slice(), &ns, &name, port)?;
+    Ok(is_shown(alloc, &view, expected))
 }
 
 #[test]
-fn endpoints(rt: HostRuntime) -> Result<(), Memory> {
+fn endpoint_rows(rt: HostRuntime) -> Result<(), Memory> {
     for row in VIEWS.split("\n\n") {
         assert!(rt; is_so(rt.alloc(), row)?, "at {row}");
     }

@@ -20,7 +20,7 @@ use Rattle.proto_wire.specs.Wire.{scan_in, spelled, spelling}
 use Rattle.proto_wire.proofs.Spellings.{spelling-append}
 use Rattle.proxy_proto.specs.Messages.{chunk, number_field, fixed64_field, bool_field, text_field, optional_field, each_field, half_records, ip_records, address_records, label_records, identity_records, h2_field, hint_records, hint_field, row_records, pair_records, message_records, canonical}
 use Rattle.proxy_proto.specs.Reading.{records_of, value_at, number_from, fixed64_from, chunk_from, inside, each_in, ip_in, label_in, some_text, identity_in, tunnel_in, pair_in, row_in, message_in}
-use Rattle.proxy_proto.specs.Sendable.{PortFits, IsSendableRow, IsSendablePair, IsSendable}
+use Rattle.proxy_proto.specs.Sendable.{PortFits, IsSendableIdentity, IsSendableRow, IsSendablePair, IsSendable}
 use Rattle.proxy_proto.proofs.Found.{IsSound, recorded, body_short, all_inside, sound_append, sound_number, sound_fixed64, sound_chunk, sound_optional, sound_each, skip, not_number, not_fixed64, not_optional, not_each, found_number, found_fixed64, only_number, only_fixed64, each_skip, each_back}
 
 nothing_read : records_of [] ≡ []

@@ -169,7 +169,7 @@ pub live_by_the_last : (program : Program) → IsLiveByTheLast program
 live_by_the_last program [] id = refl
 live_by_the_last program (row ∷ past) id =
     asked_step program.has_place program.limits.objects program.limits.subs (after program past) (reading program row) (refusal_after program past row) id refl (ordered program past)
-        ∙ ap (last_told (refusal_after program past row) (asked_by (reading program row) id)) (live_by_the_last program past id)
+    ∙ ap (last_told (refusal_after program past row) (asked_by (reading program row) id)) (live_by_the_last program past id)
 
 pub last_is_greatest : (program : Program) → LastIsGreatest program
 last_is_greatest program [] = refl

@@ -15,13 +15,14 @@ use Rattle.mesh_base.specs.declared.limits.Limits.{Limits}
 use Rattle.net_cidr.specs.Texts.{FitsIp}
 use Rattle.net_cidr.specs.declared.ip.Ip.{Ip}
 use Rattle.line_run.specs.Rows.{Row}
-use Rattle.view_rules.specs.Batch.{in_pieces, messages_of, pieces_up_to}
+use Rattle.view_rules.specs.Batch.{changed_rows, gone_pairs, in_pieces, messages_to, pieces_up_to}
+use Rattle.view_diff.proofs.Passed.{only_new}
 use Rattle.view_rules.specs.Endpoints.{address_rows, bare_row, endpoints_from, first_rows, has_addresses, no_endpoints, pair_of, point_rows, port_name, port_rows, rows_from, service_held, slice_in, slice_rows, slices_among, slices_held}
 use Rattle.view_types.specs.Lawful.{IsLawful, IsLawfulSlice}
 use Rattle.view_types.specs.declared.endpoint.EndpointRow.{EndpointRow}
 use Rattle.view_types.specs.declared.endpoint.EndpointView.{EndpointView}
 use Rattle.view_types.specs.declared.message.Message.{Message}
-use Rattle.view_types.specs.declared.message.Message.TheVariants.{Add, NoEndpoints}
+use Rattle.view_types.specs.declared.message.Message.TheVariants.{Add, Remove, NoEndpoints}
 use Rattle.view_types.specs.declared.object.Object.{Object}
 use Rattle.view_types.specs.declared.object.Object.TheVariants.{EndpointSlice}
 use Rattle.view_types.specs.declared.query.Query.{Query}
@@ -36,8 +37,8 @@ use Rattle.view_rules.proofs.FirstRows.{are_first}
 use Rattle.view_rules.proofs.Given.{slice_is}
 use Rattle.view_rules.proofs.Entries.{held_somewhere}
 use Rattle.proxy_proto.specs.Messages.{canonical}
-use Rattle.proxy_proto.specs.Plain.{IsPlain, rows_in}
-use Rattle.proxy_proto.specs.Sendable.{IsSendable, IsSendableLabel, IsSendableRow}
+use Rattle.proxy_proto.specs.Plain.{IsPlain, count_in, pairs_in, rows_in}
+use Rattle.proxy_proto.specs.Sendable.{IsSendable, IsSendableLabel, IsSendablePair, IsSendableRow}
 use Rattle.proxy_proto.proofs.Lengths.{plain_length}
 use Rattle.proxy_proto.proofs.Round.{message_back}
 use Rattle.replay_core.specs.Lawful.{HeldAreLawful}
@@ -137,15 +138,16 @@ view_is_good : (slices : List Slice) (number : ℕ) (found : Option Service) →
 view_is_good slices number None lawful = tt
 view_is_good slices number (Some s) lawful = elim s.external as (λ b. AllByRecursion IsGood
     (cond {A = EndpointView} b no_endpoints (record { exists = true; rows = rows_from slices (port_name number s.ports) })).rows) [
-  | true ↦ tt
-  | false ↦ rows_are_good slices (port_name number s.ports) lawful
-]
+      | true ↦ tt
+      | false ↦ rows_are_good slices (port_name number s.ports) lawful
+    ]
 
 -- ---- messages
 
-good_message : (message : Message) (most : ℕ) → most < 2 ^ 32 → length (rows_in message) ≤ most → AllByRecursion IsGood (rows_in message) → IsSendable message
-good_message message most lt few good = record {
+good_message : (message : Message) (most : ℕ) → most < 2 ^ 32 → count_in message ≤ most → pairs_in message ≡ [] → AllByRecursion IsGood (rows_in message) → IsSendable message
+good_message message most lt few none good = record {
   rows = all_weaker IsGood IsSendableRow (λ row is. is.sendable) (rows_in message) good;
+  pairs = subst (AllByRecursion IsSendablePair) (sym none) tt;
   short = let long = plain_length message (All-from_recursion _ _ (all_weaker IsGood IsPlain (λ row is. is.plain) (rows_in message) good)) in omega (arith, long, few, lt);
 }
 
@@ -153,13 +155,17 @@ adds_are_sendable : (n size : ℕ) (rows : List EndpointRow) → size < 2 ^ 32 �
 adds_are_sendable zero size rows lt good = tt
 adds_are_sendable (suc n) size [] lt good = tt
 adds_are_sendable (suc n) size (r ∷ rs) lt good = (
-  good_message (Add (take size (r ∷ rs))) size lt (omega (arith, length-take size (r ∷ rs))) (all_taken IsGood size (r ∷ rs) good),
+  good_message (Add (take size (r ∷ rs))) size lt (omega (arith, length-take size (r ∷ rs))) refl (all_taken IsGood size (r ∷ rs) good),
   adds_are_sendable n size (drop size (r ∷ rs)) lt (all_left IsGood size (r ∷ rs) good),
 )
 
-batch_is_sendable : (size : ℕ) (exists : Bool) (rows : List EndpointRow) → size < 2 ^ 32 → AllByRecursion IsGood rows → AllByRecursion IsSendable (messages_of size exists rows)
-batch_is_sendable size exists [] lt good = (good_message (NoEndpoints exists) 0 (lit< tt) (omega arith) tt, tt)
-batch_is_sendable size exists (r ∷ rs) lt good = adds_are_sendable (length (r ∷ rs)) size (r ∷ rs) lt good
+-- the messages to one who has no view yet
+batch_is_sendable : (size : ℕ) (exists : Bool) (rows : List EndpointRow) → size < 2 ^ 32 → AllByRecursion IsGood rows → AllByRecursion IsSendable (messages_to size None exists rows)
+batch_is_sendable size exists [] lt good = (good_message (NoEndpoints exists) 0 (lit< tt) (omega arith) refl tt, tt)
+batch_is_sendable size exists (r ∷ rs) lt good = subst
+    (λ (rows : List EndpointRow). AllByRecursion IsSendable (map Add (in_pieces size rows) ++ map Remove (in_pieces size (gone_pairs [] (r ∷ rs)))))
+    (sym (only_new (r ∷ rs)))
+    (all_joined IsSendable (map Add (in_pieces size (r ∷ rs))) [] (adds_are_sendable (length (r ∷ rs)) size (r ∷ rs) lt good) tt)
 
 -- ---- the history
 
@@ -170,7 +176,7 @@ pub messages_are_sendable : (program : Program) → HeldAreLawful program → Me
 messages_are_sendable program lawful lt past (queries.Get ns name port ctx) =
     let held = (after program past).objects in
     batch_is_sendable program.limits.frame_addrs _ _ lt
-        (view_is_good (slices_held held ns name) port (service_held held ns name) (slices_are_lawful ns name (values held) (values_are_lawful program lawful past)))
+    (view_is_good (slices_held held ns name) port (service_held held ns name) (slices_are_lawful ns name (values held) (values_are_lawful program lawful past)))
 messages_are_sendable program lawful lt past (queries.Profile target ctx) = tt
 messages_are_sendable program lawful lt past (queries.Port ns pod port) = tt
 messages_are_sendable program lawful lt past (queries.Traffic target) = tt

@@ -11,7 +11,7 @@ use Rattle.view_types.specs.Objects.{ObjectMap}
 use Rattle.view_types.specs.declared.query.Query.{Query}
 use Rattle.replay_core.specs.declared.cluster.Subscription.{Subscription}
 use Rattle.view_rules.specs.Fold.{fold}
-use Rattle.view_diff.proofs.Folded.{first_messages_fold}
+use Rattle.view_diff.proofs.FirstFolds.{first_folds}
 use Rattle.replay_core.specs.Folded.{FoldsToView}
 use Rattle.replay_core.specs.History.{after}
 use Rattle.replay_core.specs.Live.{Ascend, query_at}
@@ -50,14 +50,14 @@ pub end_is_sent : (program : Program) → EndIsSent program
 end_is_sent program past =
     let subs = (after program past).subs in
     same_flat (IsFoundIn subs) (sub_lines program.limits (after program past).objects) (λ sub. flat_map (message_line sub.id.0) (sent_to program past sub.id.0))
-        (λ sub found. ap (λ (query : Option Query). flat_map (message_line sub.id.0) (messages_for program past query)) (sym found)) subs (each_found subs (live_ids_ascend program past))
+    (λ sub found. ap (λ (query : Option Query). flat_map (message_line sub.id.0) (messages_for program past query)) (sym found)) subs (each_found subs (live_ids_ascend program past))
 
 pub same_objects_same_messages : (program : Program) → SameObjectsSameMessages program
 same_objects_same_messages program past other same id other_id query here there =
     ap (messages_for program past) here
-        ∙ ap (λ (objects : ObjectMap). messages_of program.limits objects query) (same_map keys_total keys_exact (after program past).objects (after program other).objects same)
-        ∙ sym (ap (messages_for program other) there)
+    ∙ ap (λ (objects : ObjectMap). messages_of program.limits objects query) (same_map keys_total keys_exact (after program past).objects (after program other).objects same)
+    ∙ sym (ap (messages_for program other) there)
 
 pub folds_to_view : (program : Program) → FoldsToView program
 folds_to_view program one past id query live =
-    ap (λ (asked : Option Query). fold (messages_for program past asked)) live ∙ first_messages_fold (after program past).objects query program.limits one
+    ap (λ (asked : Option Query). fold (messages_for program past asked)) live ∙ first_folds (after program past).objects query program.limits one

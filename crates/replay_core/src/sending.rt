@@ -1,6 +1,7 @@
 ghost use Rattle.std.specs.Prelude.{◌≡◌, ◌≤◌, ◌++◌, OnOk, IfOk};
 ghost use Rattle.std.specs.List.{flat_map};
 ghost use Rattle.view_rules.specs.Endpoints.{endpoints};
+ghost use Rattle.view_rules.specs.Fold.{IsOrderly};
 ghost use Rattle.replay_core.specs.Output.{messages_of, message_line, sub_lines};
 
 use crate::cluster::Subscription;
@@ -12,7 +13,7 @@ use mesh_base::text::Text;
 use object_store::store::Store;
 use proxy_proto::writing::frame_message;
 use std::alloc::Global;
-use view_diff::batch::first_batch;
+use view_diff::batch::batch;
 use view_scratch::endpoints::endpoints;
 use view_types::endpoint::EndpointView;
 use view_types::message::Message;
@@ -26,7 +27,8 @@ fn endpoints_held(
     name: &Text,
     port: u16,
 ) -> Result<EndpointView, Memory>
-    ensures { IfOk result (λ view. view ≡ endpoints store.now.objects ns.now name.now port) }
+    ensures value { IfOk result (λ view. view ≡ endpoints store.now.objects ns.now name.now port) }
+    ensures orderly { IfOk result IsOrderly }
 {
     endpoints(alloc, store.all(), ns, name, port)
 }
@@ -44,7 +46,7 @@ fn messages_of(
     match query {
         Query::Get { ns, name, port, .. } => {
             let view = endpoints_held(alloc, store, ns, name, *port)?;
-            first_batch(alloc, &view, limits)
+            batch(alloc, None, &view, limits)
         }
         _ => Ok(List::new(alloc)),
     }

@@ -1,9 +1,9 @@
-mod FirstFolds
+pub mod FirstFolds
 mod Folding
 mod FoldsBack
 mod Keys
 mod OnePass
-mod Passed
+pub mod Passed
 mod Pieces
 mod SameRow
 mod Sizes

@@ -1,3 +1,3 @@
 mod Folded
-mod Orderly
+pub mod Orderly
 mod Seen

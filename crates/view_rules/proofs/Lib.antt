@@ -1,7 +1,7 @@
 pub mod Among
 pub mod Entries
 pub mod FirstOfEach
-mod FirstRows
+pub mod FirstRows
 mod Firsts
 pub mod Given
 mod Least

@@ -7,19 +7,14 @@ ghost use Rattle.linkerd_cli.specs.Command.{IsReplay};
 
 use super::{Outcome, top};
 use crate::top::tests::lines::{GET, NO_ENDPOINTS, NO_SERVICE, SERVICE, SLICE, named};
-use crate::top::tests::rows::{ACCEPTED, LIMITED, OBJECTS, REFUSED};
+use crate::top::tests::rows::{ACCEPTED, LIMITED, REFUSED};
 use line_run::Status;
-use mesh_base::copied::Copied;
 use mesh_base::limits::Limits;
 use mesh_base::list::List;
 use mesh_base::text::Text;
 use mesh_outside::{MemSink, MemSource, SurePatterns, SureSink, SureSource};
 use std::alloc::Global;
 use std::test::Fail;
-use view_types::config::Config;
-use watch_events::event::Event;
-use watch_events::line::Line;
-use watch_events::read::read_line;
 
 fn source_of(alloc: Global, text: &str, fails: &[u64]) -> Result<MemSource, Fail> {
     Ok(MemSource {
@@ -287,23 +282,5 @@ fn three_messages(rt: HostRuntime) -> Result<(), Fail> {
     let text = format!(in alloc; "{SERVICE}\n{slice}\n{GET}\n")?;
     let same = comes_to(alloc, &text, Status::Done, &frames)?;
     assert!(rt; same);
-    Ok(())
-}
-
-/// Whether the line is an event with an object, of which there is a copy.
-fn has_copy(alloc: Global, config: &Config, line: &str) -> bool {
-    match read_line(alloc, line.as_bytes(), config, &Limits::USUAL) {
-        Ok(Line::Event(Event::Set(object))) => object.copy(alloc).is_ok(),
-        _ => false,
-    }
-}
-
-#[test]
-fn objects_are_copied(rt: HostRuntime) -> Result<(), Fail> {
-    let alloc = rt.alloc();
-    let config = Config::usual(alloc)?;
-    for line in OBJECTS.lines() {
-        assert!(rt; has_copy(alloc, &config, line), "at {line}");
-    }
     Ok(())
 }
