@@ -16,10 +16,20 @@ use crate::exit::exit_code;
 use crate::report::Report;
 use crate::tally::Tally;
 use crate::top::{Outcome, top};
+use line_run::Status;
 use mesh_base::limits::Limits;
+use mesh_base::memory::Memory;
+use mesh_hub::hub::Hub;
 use mesh_outside::{ReadSource, SurePatterns, WriteSink};
+use std::alloc::Global;
 use std::io::IsTerminal;
 use std::process::ExitCode;
+use view_types::config::Config;
+
+// A hub that holds nothing.
+fn new_hub(alloc: Global) -> Result<Hub, Memory> {
+    Hub::new(alloc, Config::usual(alloc)?, Limits::usual())
+}
 
 // What the words of the command line come to.
 fn run(rt: &HostRuntime) -> Report {
@@ -27,12 +37,16 @@ fn run(rt: &HostRuntime) -> Report {
         Ok(words) => words,
         Err(status) => return Report::of(status),
     };
+    let Ok(mut hub) = new_hub(rt.alloc()) else {
+        return Report::of(Status::Memory);
+    };
     let mut input = ReadSource::new(rt.stdin());
     let mut out = Tally::new(WriteSink::new(rt.stdout()));
     let Outcome::Ended(status) = top(
         rt.alloc(),
         &words,
         &Limits::usual(),
+        &mut hub,
         &mut input,
         &mut out,
         &mut SurePatterns,

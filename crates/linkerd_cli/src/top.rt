@@ -2,7 +2,7 @@ ghost use Rattle.std.specs.Prelude.{◌≡◌, ◌≢◌, ◌↔◌, ◌≤◌, 
 ghost use Rattle.mesh_outside.specs.Causes.{Rose, Unrisen};
 ghost use Rattle.line_run.specs.Run.{OnEnd, OnStop, TookLimit, IsAnswered, IsTooLong};
 ghost use Rattle.view_types.specs.Defaults.{usual_config};
-ghost use Rattle.replay_core.specs.Headline.{WritesOutput, WritesFront};
+ghost use Rattle.replay_core.specs.Headline.{StandsAtEnd, WritesFront, WritesOutput, WritesSaid};
 ghost use Rattle.linkerd_cli.specs.Command.{IsReplay};
 ghost use Rattle.linkerd_cli.specs.Outcome.{EndsWith};
 
@@ -10,6 +10,7 @@ use crate::command::is_replay;
 use line_run::Status;
 use mesh_base::limits::Limits;
 use mesh_base::text::Text;
+use mesh_hub::machine::Machine;
 use mesh_outside::{Patterns, Sink, Source};
 use replay_core::replay::replay;
 use std::alloc::Global;
@@ -23,23 +24,31 @@ pub enum Outcome {
 }
 
 /// Does all that the program does: what the words ask for, from the input to the output.
-pub fn top<S: Source, K: Sink, P: Patterns>(
+pub fn top<H: Machine, S: Source, K: Sink, P: Patterns>(
     alloc: Global,
     words: &[Text],
     limits: &Limits,
+    hub: &mut H,
     input: &mut S,
     out: &mut K,
-    _patterns: &mut P,
+    patterns: &mut P,
 ) -> Outcome
     requires { 1 ≤ limits.now.frame_addrs }
 
-    // Read to the end: what was written is the defined output, and a line was refused or none.
-    ensures output { EndsWith result (λ status. OnEnd status (WritesOutput usual_config limits.now (S.left input.old) (K.held out.old) (K.held out.new))) }
+    // Read to the end, where the machine tells what it holds: what was written is the defined output, and a line was
+    // refused or none.
+    ensures output { EndsWith result (λ status. OnEnd status (WritesOutput usual_config limits.now (H.state hub.old) (S.left input.old) (K.held out.old) (K.held out.new))) }
+
+    // The machine then stands where the input leads.
+    ensures state { EndsWith result (λ status. OnEnd status (λ refused. StandsAtEnd usual_config limits.now (H.state hub.old) (H.state hub.new) (S.left input.old))) }
+
+    // Where it tells its replies, what was written is what they and the lines say.
+    ensures said { EndsWith result (λ status. OnEnd status (WritesSaid usual_config limits.now (H.replies hub.old) (H.replies hub.new) (S.left input.old) (K.held out.old) (K.held out.new))) }
 
     // Else it is a front of the defined output, and for words that are no command nothing was read or written.
-    ensures front { IsReplay words.now → EndsWith result (λ status. OnStop status (WritesFront usual_config limits.now (S.left input.old) (K.held out.old) (K.held out.new))) }
+    ensures front { IsReplay words.now → EndsWith result (λ status. OnStop status (WritesFront usual_config limits.now (H.state hub.old) (S.left input.old) (K.held out.old) (K.held out.new))) }
     ensures usage { EndsWith result (λ status. (status ≡ Status.Usage) ↔ (¬ IsReplay words.now)) }
-    ensures untouched { EndsWith result (λ status. status ≡ Status.Usage → (input.new ≡ input.old) × (out.new ≡ out.old)) }
+    ensures untouched { EndsWith result (λ status. status ≡ Status.Usage → (hub.new ≡ hub.old) × (input.new ≡ input.old) × (out.new ≡ out.old)) }
 
     // When each other status comes.
     ensures read { EndsWith result (λ status. status ≡ Status.ReadFault → Rose (S.faults input.old) (S.faults input.new)) }
@@ -56,7 +65,7 @@ pub fn top<S: Source, K: Sink, P: Patterns>(
     let Ok(config) = Config::usual(alloc) else {
         return Outcome::Ended(Status::Memory);
     };
-    Outcome::Ended(replay(alloc, &config, limits, input, out))
+    Outcome::Ended(replay(alloc, hub, &config, limits, input, out, patterns))
 }
 
 #[cfg(test)]

@@ -1,5 +1,5 @@
 ghost use Rattle.std.specs.Prelude.{◌+◌, ◌<◌, IfOk};
-ghost use Rattle.view_rules.specs.Fold.{IsOrderly};
+ghost use Rattle.view_rules.specs.Fold.{IsOrderly, IsOrderlyIfShown};
 
 use mesh_base::copied::Copied;
 use mesh_base::labels::Labels;
@@ -9,16 +9,16 @@ use mesh_base::memory::Memory;
 use mesh_base::same::Same;
 use net_cidr::ip::Ip;
 use std::alloc::Global;
-use view_diff::batch::batch;
+use view_diff::views::messages_between;
 use view_fold::folding::Fold;
 use view_types::endpoint::{EndpointRow, EndpointView};
 use view_types::message::Message;
 use view_types::view::View;
 
 /// The view of so many addresses from the first on.
-fn view(alloc: Global, first: u32, count: u32, weight: u32) -> Result<EndpointView, Memory>
+fn view(alloc: Global, first: u32, count: u32, weight: u32) -> Result<Option<View>, Memory>
     requires { first + count < 1000000 }
-    ensures { IfOk result IsOrderly }
+    ensures { IfOk result IsOrderlyIfShown }
 {
     let mut rows = List::new(alloc);
     for number in first..first + count {
@@ -32,7 +32,13 @@ fn view(alloc: Global, first: u32, count: u32, weight: u32) -> Result<EndpointVi
             h2: false,
         })?;
     }
-    shown(alloc, Message::Add(rows))
+    seen_of(alloc, Message::Add(rows))
+}
+
+fn seen_of(alloc: Global, message: Message) -> Result<Option<View>, Memory>
+    ensures { IfOk result IsOrderlyIfShown }
+{
+    Ok(Some(View::Endpoints(shown(alloc, message)?)))
 }
 
 /// What a subscriber sees who is sent the message alone.
@@ -67,9 +73,9 @@ fn take_all(alloc: Global, fold: &mut Fold, messages: List<Message>) -> Result<(
     Ok(())
 }
 
-fn shows(fold: &Fold, view: &EndpointView) -> bool {
-    match fold.view() {
-        Some(View::Endpoints(seen)) => seen.is_same(view),
+fn shows(fold: &Fold, view: &Option<View>) -> bool {
+    match (fold.view(), view) {
+        (Some(seen), Some(view)) => seen.is_same(view),
         _ => false,
     }
 }
@@ -81,7 +87,7 @@ fn batches_bring_from_view_to_view(rt: HostRuntime) -> Result<(), Memory> {
     let mut fold = Fold::new();
 
     let many = view(alloc, 0, 2_500, 10_000)?;
-    let first = batch(alloc, None, &many, &limits)?;
+    let first = messages_between(alloc, &None, &many, &limits)?;
     let sizes_of_first = sizes(alloc, &first)?;
     assert_eq!(rt;
         sizes_of_first.as_slice(),
@@ -91,7 +97,7 @@ fn batches_bring_from_view_to_view(rt: HostRuntime) -> Result<(), Memory> {
     assert!(rt; shows(&fold, &many));
 
     let others = view(alloc, 2_000, 1_200, 5_000)?;
-    let change = batch(alloc, Some(&many), &others, &limits)?;
+    let change = messages_between(alloc, &many, &others, &limits)?;
     let sizes_of_change = sizes(alloc, &change)?;
     assert_eq!(rt;
         sizes_of_change.as_slice(),
@@ -100,14 +106,17 @@ fn batches_bring_from_view_to_view(rt: HostRuntime) -> Result<(), Memory> {
     take_all(alloc, &mut fold, change)?;
     assert!(rt; shows(&fold, &others));
 
-    let again = batch(alloc, Some(&others), &others, &limits)?;
+    let again = messages_between(alloc, &others, &others, &limits)?;
     assert_eq!(rt; again.len(), 0);
 
-    let empty = shown(alloc, Message::NoEndpoints(false))?;
-    let last = batch(alloc, Some(&others), &empty, &limits)?;
+    let empty = seen_of(alloc, Message::NoEndpoints(false))?;
+    let last = messages_between(alloc, &others, &empty, &limits)?;
     let sizes_of_last = sizes(alloc, &last)?;
     assert_eq!(rt; sizes_of_last.as_slice(), [Err(0)].as_slice());
     take_all(alloc, &mut fold, last)?;
     assert!(rt; shows(&fold, &empty));
+
+    let none = messages_between(alloc, &others, &None, &limits)?;
+    assert_eq!(rt; none.len(), 0);
     Ok(())
 }

@@ -1,7 +1,6 @@
+pub mod Calls
+pub mod Ends
 pub mod Fronts
-pub mod Held
-pub mod Lives
+pub mod Lines
+pub mod Placed
 pub mod Rows
-pub mod Sendable
-pub mod Sent
-pub mod Telling

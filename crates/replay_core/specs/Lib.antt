@@ -1,15 +1,4 @@
-pub mod Cluster
-pub mod Folded
 pub mod Headline
-pub mod History
-pub mod Lawful
-pub mod Live
-pub mod LookBack
-pub mod Output
-pub mod Program
-pub mod RefusalText
-pub mod Sendable
-pub mod Sent
+pub mod Said
 pub mod Stand
 pub mod Take
-pub mod Text

@@ -1,25 +1,148 @@
--- What a step of a replay comes to.
-use Rattle.std.specs.Prelude.{◌≡◌, Bool, Option, Some, None, Result, Ok, Err}
+-- What a step of a replay comes to, by what the machine holds and by its replies.
+use Rattle.std.specs.Prelude.{◌≡◌, ℕ, ◌<◌, List, [], ◌∷◌, ◌++◌, Option, Some, None, Result, is_some, length, option_map}
+use Rattle.std.specs.List.{remove}
+use Rattle.mesh_base.specs.declared.sub_id.SubId.{SubId}
 use Rattle.watch_events.specs.declared.line.Line.{Line}
 use Rattle.watch_events.specs.declared.line.LineFault.{LineFault}
-use Rattle.replay_core.specs.declared.cluster.Cluster.{Cluster}
-use Rattle.replay_core.specs.declared.refusal.HubFault.{HubFault}
-use Rattle.replay_core.specs.declared.refusal.HubFault.TheVariants.{Memory, Full, TooManySubs, IdOrder}
-use Rattle.replay_core.specs.declared.refusal.Refusal.{Refusal}
-use Rattle.replay_core.specs.declared.refusal.Refusal.TheVariants as refusals
-use Rattle.replay_core.specs.Cluster.{state_of, KeepsLimits}
-use Rattle.replay_core.specs.History.{refusal_of, unless_refused, after_line}
+use Rattle.watch_events.specs.declared.line.LineFault.TheVariants as line_faults
+use Rattle.mesh_hub.specs.Drains.{too_long}
+use Rattle.mesh_hub.specs.History.{State, after_line, refusal_of, unless_refused}
+use Rattle.mesh_hub.specs.Hub.{HubState, drained, messages_for, sub_at}
+use Rattle.mesh_hub.specs.Ids.{ended, in_place}
+use Rattle.mesh_hub.specs.Output.{line_text, message_lines, row_piece}
+use Rattle.mesh_hub.specs.Program.{Program}
+use Rattle.mesh_hub.specs.Seen.{seen}
+use Rattle.mesh_hub.specs.Text.{oversize_line}
+use Rattle.mesh_hub.specs.declared.hub.Subscription.{Subscription}
+use Rattle.mesh_hub.specs.declared.machine.Reply.{Reply}
+use Rattle.mesh_hub.specs.declared.refusal.HubFault.{HubFault}
+use Rattle.mesh_hub.specs.declared.refusal.HubFault.TheVariants as faults
+use Rattle.mesh_hub.specs.declared.refusal.Refusal.{Refusal}
+use Rattle.mesh_hub.specs.declared.refusal.Refusal.TheVariants as refusals
+use Rattle.replay_core.specs.Said.{Saying, refusal_in, refused_said, reply_text, said_by, text_said}
+use Rattle.replay_core.specs.Stand.{ids_of}
+use Rattle.replay_core.specs.declared.drain.Drained.{Drained}
+use Rattle.replay_core.specs.declared.drain.Drained.TheVariants.{Sent, Ended, Undrained}
 
--- the refusal that a call's answer is
-abbrev pub IsRefusalOf : Result (Unit {0}) HubFault → Option Refusal → Type 0
-IsRefusalOf (Ok _) refusal = refusal ≡ None
-IsRefusalOf (Err Memory) refusal = ⊥
-IsRefusalOf (Err (Full held)) refusal = refusal ≡ Some (refusals.Hub (Full held))
-IsRefusalOf (Err (TooManySubs live)) refusal = refusal ≡ Some (refusals.Hub (TooManySubs live))
-IsRefusalOf (Err (IdOrder last)) refusal = refusal ≡ Some (refusals.Hub (IdOrder last))
+-- ---- one call of the machine
 
--- a line was refused for its cause, or done, in a program where these lines have their place
-pub record Takes (has_place : Line → Bool) (reading : Result Line LineFault) (refusal : Option Refusal) (old new : Cluster) : Type 0 where
-  pub refusal_is : refusal ≡ refusal_of has_place old.store.limit old.most_subs (state_of old) reading
-  pub state : state_of new ≡ unless_refused refusal (state_of old) (after_line (state_of old) reading)
-  pub limits : KeepsLimits old new
+-- the refusal that a fault is
+abbrev pub IsRefusalBy : HubFault → Option Refusal → Type 0
+IsRefusalBy faults.Memory refusal = ⊥
+IsRefusalBy (faults.Full held) refusal = refusal ≡ Some (refusals.Hub (faults.Full held))
+IsRefusalBy (faults.TooManySubs live) refusal = refusal ≡ Some (refusals.Hub (faults.TooManySubs live))
+IsRefusalBy (faults.IdOrder last) refusal = refusal ≡ Some (refusals.Hub (faults.IdOrder last))
+IsRefusalBy (faults.NoSuchId id) refusal = refusal ≡ Some (refusals.Hub (faults.NoSuchId id))
+IsRefusalBy (faults.Oversize bytes) refusal = refusal ≡ Some (refusals.Hub (faults.Oversize bytes))
+
+-- a call was refused for its cause, or done, and led here
+pub record Makes (fault : Option HubFault) (after : HubState) (refusal : Option Refusal) (new : HubState) : Type 0 where
+  pub refusal_is : refusal ≡ option_map refusals.Hub fault
+  pub state : new ≡ after
+
+-- the machine gave one reply more: it refuses the line, or its text is written
+pub record Replied (refusal : Option Refusal) (out out_new : List ℕ) (old new : List Reply) : Type 0 where
+  pub reply : Reply
+  pub adds : new ≡ old ++ reply ∷ []
+  pub refuses : refusal ≡ refusal_in reply
+  pub texts : out_new ≡ out ++ reply_text reply
+
+-- the machine gave none, and refused nothing
+pub record Unreplied (refusal : Option Refusal) (old new : List Reply) : Type 0 where
+  pub none : new ≡ old
+  pub accepts : refusal ≡ None
+
+-- the ids that live, where a call that may change them was refused or not
+abbrev pub live_unless : Option Refusal → List ℕ → List ℕ → List ℕ
+live_unless None live live_new = live_new
+live_unless (Some refusal) live live_new = live
+
+-- an id stands here, and those before and behind it are left where it gives way to nothing
+pub record IsPlaceOf (id : ℕ) (ids : List ℕ) (at : ℕ) : Type 0 where
+  pub within : at < length ids
+  pub leaves : remove ids at ≡ in_place (λ other. other) id ended ids
+
+-- ---- a drain
+
+-- what is written of a drain of an id under which this stands
+abbrev pub drained_lines : HubState → ℕ → Option Subscription → List ℕ
+drained_lines now id None = []
+drained_lines now id (Some sub) = message_lines now.limits.message id (messages_for now sub)
+
+abbrev pub drained_unless : Option ℕ → Drained
+drained_unless None = Sent
+drained_unless (Some bytes) = Ended
+
+-- what comes of it
+abbrev pub drained_as : HubState → ℕ → Option Subscription → Drained
+drained_as now id None = Undrained (faults.NoSuchId id)
+drained_as now id (Some sub) = drained_unless (too_long now.limits.message (messages_for now sub))
+
+pub record Drains (id : SubId) (outcome : Drained) (out out_new : List ℕ) (old new : HubState) : Type 0 where
+  pub outcome_is : outcome ≡ drained_as old id.0 (sub_at id.0 old.subs)
+  pub state : new ≡ drained old id.0
+  pub text : out_new ≡ out ++ drained_lines old id.0 (sub_at id.0 old.subs)
+
+abbrev pub drain_refusal : Drained → Option Refusal
+drain_refusal Sent = None
+drain_refusal Ended = None
+drain_refusal (Undrained fault) = Some (refusals.Hub fault)
+
+-- the ids that live after it
+abbrev pub live_drained : ℕ → Drained → List ℕ → List ℕ
+live_drained id Sent live = live
+live_drained id Ended live = in_place (λ other. other) id ended live
+live_drained id (Undrained fault) live = live
+
+-- what comes of a drain that a fault ended
+abbrev pub IsUndrained : ℕ → HubFault → List ℕ → List ℕ → Drained → Type 0
+IsUndrained id faults.Memory out out_new outcome = ⊥
+IsUndrained id (faults.Oversize bytes) out out_new outcome = (outcome ≡ Ended) × (out_new ≡ out ++ oversize_line id bytes)
+IsUndrained id (faults.Full held) out out_new outcome = (outcome ≡ Undrained (faults.Full held)) × (out_new ≡ out)
+IsUndrained id (faults.TooManySubs live) out out_new outcome = (outcome ≡ Undrained (faults.TooManySubs live)) × (out_new ≡ out)
+IsUndrained id (faults.IdOrder last) out out_new outcome = (outcome ≡ Undrained (faults.IdOrder last)) × (out_new ≡ out)
+IsUndrained id (faults.NoSuchId unknown) out out_new outcome = (outcome ≡ Undrained (faults.NoSuchId unknown)) × (out_new ≡ out)
+
+-- ---- a line
+
+-- a fault of a line, other than out of memory
+abbrev pub IsTold : LineFault → Type 0
+IsTold line_faults.Memory = ⊥
+IsTold _ = Unit {0}
+
+-- the refusal of a line that doesn't read
+pub record IsUnread (fault : LineFault) (refusal : Option Refusal) : Type 0 where
+  pub refuses : refusal ≡ Some (refusals.Line fault)
+  pub told : IsTold fault
+
+-- an accepted line's text is added, a refused one's isn't
+abbrev pub text_unless : Option Refusal → List ℕ → List ℕ
+text_unless None text = text
+text_unless (Some refusal) text = []
+
+-- the state that a refused or accepted line leads to
+abbrev pub led_to : Program → State → Option Refusal → Result Line LineFault → State
+led_to program now refusal line = unless_refused {A = Refusal} refusal now (after_line program now line)
+
+-- The line is refused for its cause or done, its text is added, and the machine stands where the line leads.
+pub record TakesByState (program : Program) (line : Result Line LineFault) (refusal : Option Refusal) (live_new : List ℕ) (out out_new : List ℕ) (now : State) (new : HubState) : Type 0 where
+  pub refusal_is : refusal ≡ refusal_of program now line
+  pub state : new ≡ seen program (led_to program now refusal line)
+  pub live_ids : live_new ≡ ids_of (led_to program now refusal line).subs
+  pub text : out_new ≡ out ++ text_unless refusal (line_text program now line)
+
+-- So it is wherever the machine stood where a history leads.
+abbrev pub TakesFrom : Program → Result Line LineFault → Option Refusal → List ℕ → List ℕ → List ℕ → List ℕ → HubState → HubState → Type 0
+TakesFrom program line refusal live live_new out out_new old new =
+    (now : State) → old ≡ seen program now → live ≡ ids_of now.subs → TakesByState program line refusal live_new out out_new now new
+
+-- The replies that were added are the line's.
+pub record TakesByReplies (program : Program) (line : Result Line LineFault) (refusal : Option Refusal) (out out_new : List ℕ) (old new : List Reply) : Type 0 where
+  pub mine : List Reply
+  pub adds : new ≡ old ++ mine
+  pub text : List ℕ
+  pub texts : out_new ≡ out ++ text_unless refusal text
+  pub sayings : ℕ → List Saying
+  pub says : (number : ℕ) (left : List Reply) (more : List Reply → List Saying) → said_by program number line (mine ++ left) more ≡ sayings number ++ more left
+  pub says_text : (number : ℕ) → text_said (sayings number) ≡ row_piece number refusal text
+  pub says_refused : (number : ℕ) → refused_said (sayings number) ≡ is_some refusal

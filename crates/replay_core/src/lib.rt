@@ -1,14 +1,13 @@
 //! The replay of a recorded feed: from the bytes in to the bytes out.
 //!
-//! Stands on line_run for the loop, watch_events for lines, object_store for what is held, view_scratch, view_diff
-//! and proxy_proto for what a subscriber is sent. `replay` writes `output_of` of `specs/Output`, which looks back
-//! through the list of lines by `specs/History`.
+//! Stands on line_run for the loop, watch_events for lines, and mesh_hub for the machine that does what they say. `replay`
+//! writes `output_of` of mesh_hub's `specs/Output` where the machine tells what it holds, and `said` of `specs/Said` where
+//! it tells its replies; one body serves both.
 #![tactic(auto)]
 
-pub mod cluster;
-pub mod laws;
-pub mod refusal;
+mod drain;
+mod lives;
 pub mod replay;
 mod replaying;
-mod sending;
+mod take;
 mod text;

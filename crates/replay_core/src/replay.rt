@@ -1,31 +1,42 @@
 ghost use Rattle.std.specs.Prelude.{◌≡◌, ◌≢◌, ◌≤◌, ◌<◌, ℕ, List, length, Some};
 ghost use Rattle.mesh_outside.specs.Causes.{Rose, Unrisen};
 ghost use Rattle.line_run.specs.Run.{OnEnd, OnStop, TookLimit, IsAnswered, IsTooLong};
-ghost use Rattle.replay_core.specs.Headline.{WritesOutput, WritesFront};
+ghost use Rattle.replay_core.specs.Headline.{StandsAtEnd, WritesFront, WritesOutput, WritesSaid};
 
 use crate::replaying::Replaying;
 use line_run::{Status, run_lines};
+use mesh_base::copied::Copied;
 use mesh_base::limits::Limits;
-use mesh_outside::{Sink, Source};
+use mesh_base::list::List;
+use mesh_hub::machine::Machine;
+use mesh_outside::{Patterns, Sink, Source};
 use std::alloc::Global;
 use view_types::config::Config;
 
 /// Replays a recorded feed: reads its lines to the end, writes why each refused line is refused, and then what each
 /// live subscription is sent.
-pub fn replay<S: Source, K: Sink>(
+pub fn replay<H: Machine, S: Source, K: Sink, P: Patterns>(
     alloc: Global,
+    hub: &mut H,
     config: &Config,
     limits: &Limits,
     input: &mut S,
     out: &mut K,
+    _patterns: &mut P,
 ) -> Status
     requires { 1 ≤ limits.now.frame_addrs }
 
     // Read to the end: what was written is the defined output, and a line was refused or none.
-    ensures output { OnEnd result (WritesOutput config.now limits.now (S.left input.old) (K.held out.old) (K.held out.new)) }
+    ensures output { OnEnd result (WritesOutput config.now limits.now (H.state hub.old) (S.left input.old) (K.held out.old) (K.held out.new)) }
 
     // Else it is a front of the defined output.
-    ensures front { OnStop result (WritesFront config.now limits.now (S.left input.old) (K.held out.old) (K.held out.new)) }
+    ensures front { OnStop result (WritesFront config.now limits.now (H.state hub.old) (S.left input.old) (K.held out.old) (K.held out.new)) }
+
+    // The machine then stands where the input leads.
+    ensures state { OnEnd result (λ refused. StandsAtEnd config.now limits.now (H.state hub.old) (H.state hub.new) (S.left input.old)) }
+
+    // A machine that tells its replies: what was written is what they and the lines say.
+    ensures said { OnEnd result (WritesSaid config.now limits.now (H.replies hub.old) (H.replies hub.new) (S.left input.old) (K.held out.old) (K.held out.new)) }
 
     // When each status comes.
     ensures read { result ≡ Status.ReadFault → Rose (S.faults input.old) (S.faults input.new) }
@@ -37,6 +48,20 @@ pub fn replay<S: Source, K: Sink>(
         → (bytes : List ℕ) → S.left input.old ≡ Some bytes → limits.now.input ≤ length bytes → IsTooLong result }
     ensures usage { result ≢ Status.Usage }
 {
-    let mut machine = Replaying::new(alloc, config, *limits);
+    let Ok(copy) = config.copy(alloc) else {
+        return Status::Memory;
+    };
+    let Ok(()) = hub.begin(copy, *limits) else {
+        return Status::Memory;
+    };
+    let mut live = List::new(alloc);
+    let mut machine = Replaying {
+        alloc,
+        config,
+        limits: *limits,
+        hub,
+        live: &mut live,
+        sent: 0,
+    };
     run_lines(alloc, *limits, &mut machine, input, out)
 }

@@ -1,7 +1,9 @@
-ghost use Rattle.std.specs.Prelude.{◌≡◌, ◌++◌, OnOk};
-ghost use Rattle.replay_core.specs.Text.{refused_line, frame_line};
+ghost use Rattle.std.specs.Prelude.{◌≡◌, ◌++◌, OnOk, flat_map};
+ghost use Rattle.mesh_hub.specs.Text.{frame_line, oversize_line, refused_line};
 
-use crate::refusal::Refusal;
+use bytes::Bytes;
+use mesh_base::list::List;
+use mesh_hub::refusal::Refusal;
 use std::alloc::{AllocError, Global};
 
 /// Writes `refused <line> <fault>`.
@@ -17,16 +19,39 @@ pub(crate) fn push_refused(
     out.extend_from_slice(text.as_bytes())
 }
 
-/// Writes `frame <id> <hex>`.
-pub(crate) fn push_frame(
+/// Writes `oversize <id> <bytes>`.
+pub(crate) fn push_oversize(
     alloc: Global,
     out: &mut Vec<u8>,
     id: u32,
-    frame: &[u8],
+    bytes: u64,
 ) -> Result<(), AllocError>
+    ensures { OnOk result (out.new.items ≡ out.old.items ++ oversize_line id bytes) }
+{
+    let text = format!(in alloc; "oversize {id} {bytes}\n")?;
+    out.extend_from_slice(text.as_bytes())
+}
+
+// Writes `frame <id> <hex>`.
+fn push_frame(alloc: Global, out: &mut Vec<u8>, id: u32, frame: &[u8]) -> Result<(), AllocError>
     ensures { OnOk result (out.new.items ≡ out.old.items ++ frame_line id frame.now) }
 {
     let hex = hex::encode(alloc, frame)?;
     let text = format!(in alloc; "frame {id} {hex}\n")?;
     out.extend_from_slice(text.as_bytes())
+}
+
+/// Writes a `frame` line for each frame.
+pub(crate) fn push_frames(
+    alloc: Global,
+    out: &mut Vec<u8>,
+    id: u32,
+    frames: &List<Bytes>,
+) -> Result<(), AllocError>
+    ensures { OnOk result (out.new.items ≡ out.old.items ++ flat_map (frame_line id) frames.now) }
+{
+    for frame in frames.as_slice() {
+        push_frame(alloc, out, id, frame.as_slice())?;
+    }
+    Ok(())
 }

@@ -9,9 +9,11 @@ use Rattle.std.specs.declared.cmp.Ordering.TheVariants.{Less}
 use Rattle.mesh_base.specs.Keyed.{keyed, IsKeyed}
 use Rattle.view_types.specs.declared.endpoint.EndpointRow.{EndpointRow}
 use Rattle.view_types.specs.declared.endpoint.EndpointView.{EndpointView}
+use Rattle.view_types.specs.declared.view.View.{View}
+use Rattle.view_types.specs.declared.view.View.TheVariants.{Endpoints, Profile, Server, Outbound}
 use Rattle.view_rules.specs.Endpoints.{no_endpoints, pair_cmp, pair_of}
-use Rattle.view_rules.specs.Batch.{IsOrderlyBefore, rows_before}
-use Rattle.view_rules.specs.Fold.{IsOrderly}
+use Rattle.view_rules.specs.Batch.{IsOrderlyBefore, endpoints_in, rows_before}
+use Rattle.view_rules.specs.Fold.{IsOrderly, IsOrderlyIfShown}
 
 both : (a b : Bool) → T a → T b → T (a && b)
 both true b p q = q
@@ -35,6 +37,14 @@ keyed_rows view is = rises view.rows is.rise
 pub keyed_before : (old : Option EndpointView) → IsOrderlyBefore old → IsKeyed pair_cmp pair_of (λ row. row) (rows_before old)
 keyed_before None is = tt
 keyed_before (Some old) is = keyed_rows old is
+
+-- the endpoints that a view shows are in order, where what it shows is
+pub orderly_before : (old : Option View) → IsOrderlyIfShown old → IsOrderlyBefore (endpoints_in old)
+orderly_before None is = tt
+orderly_before (Some (Endpoints view)) is = is
+orderly_before (Some (Profile view)) is = tt
+orderly_before (Some (Server view)) is = tt
+orderly_before (Some (Outbound view)) is = tt
 
 -- a Service with rows is there
 pub is_there : (view : EndpointView) → IsOrderly view → view.rows ≢ [] → view.exists ≡ true

@@ -1,7 +1,7 @@
-pub mod FirstFolds
 mod Folding
 mod FoldsBack
 mod Keys
+pub mod MessagesFold
 mod OnePass
 pub mod Passed
 mod Pieces

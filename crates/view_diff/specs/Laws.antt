@@ -3,13 +3,14 @@ use Rattle.std.specs.Prelude.{◌≡◌, ◌+◌, ◌<◌, ◌≤◌, ℕ, List,
 use Rattle.mesh_base.specs.declared.limits.Limits.{Limits}
 use Rattle.net_cidr.specs.declared.ip.Ip.{Ip}
 use Rattle.view_types.specs.Objects.{ObjectMap}
+use Rattle.view_types.specs.declared.config.Config.{Config}
 use Rattle.view_types.specs.declared.endpoint.EndpointRow.{EndpointRow}
 use Rattle.view_types.specs.declared.endpoint.EndpointView.{EndpointView}
 use Rattle.view_types.specs.declared.query.Query.{Query}
 use Rattle.view_types.specs.declared.view.View.TheVariants.{Endpoints}
-use Rattle.view_rules.specs.Batch.{IsOrderlyBefore, batch, first_messages, in_pieces}
-use Rattle.view_rules.specs.Fold.{IsOrderly, fold, folded_onto}
-use Rattle.view_rules.specs.Views.{view_of}
+use Rattle.view_rules.specs.Batch.{IsOrderlyBefore, endpoint_batch, in_pieces, messages_between}
+use Rattle.view_rules.specs.Fold.{IsOrderly, folded_onto}
+use Rattle.view_rules.specs.Views.{view_before, view_of}
 
 -- the items of the pieces are the items
 pub record IsCut {X : Type 0} (size : ℕ) (items : List X) (pieces : List (List X)) : Type 0 where
@@ -29,8 +30,10 @@ PairsAreCut = (size : ℕ) (pairs : List (Ip × ℕ)) → 1 ≤ size → IsCut s
 -- folding the messages on top of the old view gives the new one
 abbrev pub BatchFolds : Type 0
 BatchFolds = (old : Option EndpointView) (new : EndpointView) (limits : Limits) → 1 ≤ limits.frame_addrs → IsOrderlyBefore old → IsOrderly new
-    → folded_onto (option_map Endpoints old) (batch old new limits) ≡ Some (Endpoints new)
+    → folded_onto (option_map Endpoints old) (endpoint_batch old new limits) ≡ Some (Endpoints new)
 
--- whatever is held, folding the first messages of a query gives its view
-abbrev pub FirstMessagesFold : Type 0
-FirstMessagesFold = (held : ObjectMap) (query : Query) (limits : Limits) → 1 ≤ limits.frame_addrs → fold (first_messages limits (view_of held query)) ≡ view_of held query
+-- Whatever was held when a query's view was last shown, if it was, and whatever is held now, folding the messages of the
+-- query on top of the view then gives the view now.
+abbrev pub MessagesFold : Type 0
+MessagesFold = (config : Config) (before : Option ObjectMap) (held : ObjectMap) (query : Query) (limits : Limits) → 1 ≤ limits.frame_addrs
+    → folded_onto (view_before config query before) (messages_between limits (view_before config query before) (view_of config held query)) ≡ view_of config held query

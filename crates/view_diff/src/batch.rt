@@ -2,7 +2,7 @@ ghost use Rattle.std.specs.Prelude.{◌≡◌, ◌≤◌, ◌++◌, IfOk, OnOk, 
 ghost use Rattle.std.specs.Option.{option_copied};
 ghost use Rattle.mesh_base.specs.Keyed.{IsKeyed};
 ghost use Rattle.view_rules.specs.Endpoints.{pair_cmp, pair_of};
-ghost use Rattle.view_rules.specs.Batch.{batch, messages_to_none, messages_to_rows, rows_before, IsOrderlyBefore, is_news};
+ghost use Rattle.view_rules.specs.Batch.{endpoint_batch, messages_to_none, messages_to_rows, rows_before, IsOrderlyBefore, is_news};
 ghost use Rattle.view_rules.specs.Fold.{IsOrderly};
 ghost use Rattle.view_types.specs.declared.message.Message.TheVariants.{Add, Remove};
 
@@ -16,9 +16,9 @@ use std::alloc::Global;
 use view_types::endpoint::{EndpointRow, EndpointView};
 use view_types::message::Message;
 
-/// The messages that bring a subscriber from the old view, or from none, to the new one. The rows that they carry are
-/// copied.
-pub fn batch(
+/// The messages that bring a subscriber from the old endpoints, or from none, to the new ones. The rows that they carry
+/// are copied.
+pub fn endpoint_batch(
     alloc: Global,
     old: Option<&EndpointView>,
     new: &EndpointView,
@@ -27,7 +27,7 @@ pub fn batch(
     requires limit { 1 ≤ limits.now.frame_addrs }
     requires old { IsOrderlyBefore (option_copied old) }
     requires new { IsOrderly new.now }
-    ensures { IfOk result (λ messages. messages ≡ batch (option_copied old.entry) new.now limits.now) }
+    ensures { IfOk result (λ messages. messages ≡ endpoint_batch (option_copied old.entry) new.now limits.now) }
 {
     let rows = new.rows.as_slice();
     if rows.is_empty() {

@@ -1,4 +1,4 @@
-ghost use Rattle.view_diff.specs.Laws.{BatchFolds, FirstMessagesFold, PairsAreCut, RowsAreCut};
+ghost use Rattle.view_diff.specs.Laws.{BatchFolds, MessagesFold, PairsAreCut, RowsAreCut};
 
 /// The messages that add rows have as many each as may be, but for the last.
 pub fn rows_are_cut()
@@ -15,7 +15,8 @@ pub fn batch_folds()
     ensures { BatchFolds }
 {}
 
-/// Whatever objects are held, folding the first messages of a query gives its view.
-pub fn first_messages_fold()
-    ensures { FirstMessagesFold }
+/// Whatever was held when a query's view was last shown, and whatever is held now, folding the messages of the query on top
+/// of the view then gives the view now.
+pub fn messages_fold()
+    ensures { MessagesFold }
 {}

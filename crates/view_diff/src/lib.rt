@@ -8,3 +8,4 @@ pub mod batch;
 mod cut;
 pub mod laws;
 mod merge;
+pub mod views;

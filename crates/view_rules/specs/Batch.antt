@@ -101,10 +101,22 @@ abbrev pub messages_to : ℕ → Option EndpointView → Bool → List EndpointR
 messages_to size old exists [] = messages_to_none old exists
 messages_to size old exists (r ∷ rs) = messages_to_rows size (rows_before old) (r ∷ rs)
 
-abbrev pub batch : Option EndpointView → EndpointView → Limits → List Message
-batch old new limits = messages_to limits.frame_addrs old new.exists new.rows
+abbrev pub endpoint_batch : Option EndpointView → EndpointView → Limits → List Message
+endpoint_batch old new limits = messages_to limits.frame_addrs old new.exists new.rows
 
--- the messages to one who has no view yet
-abbrev pub first_messages : Limits → Option View → List Message
-first_messages limits (Some (Endpoints view)) = batch None view limits
-first_messages limits _ = []
+-- ---- views
+
+-- the endpoints that a view shows, if it shows any
+abbrev pub endpoints_in : Option View → Option EndpointView
+endpoints_in (Some (Endpoints view)) = Some view
+endpoints_in _ = None
+
+-- from the old view of a query, or from none, to the new one; views of the other methods aren't sent yet
+abbrev pub batch : Option View → View → Limits → List Message
+batch old (Endpoints new) limits = endpoint_batch (endpoints_in old) new limits
+batch old _ limits = []
+
+-- there may be no new view either
+abbrev pub messages_between : Limits → Option View → Option View → List Message
+messages_between limits old None = []
+messages_between limits old (Some new) = batch old new limits

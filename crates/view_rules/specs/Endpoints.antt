@@ -2,7 +2,7 @@
 use Rattle.std.specs.Prelude.{◌&&◌, ◌==◌, ℕ, Bool, true, false, if◌then◌else◌, List, [], ◌∷◌, Option, Some, None, codes, find, filter_map, flat_map, option_map}
 use Rattle.std.specs.Ordering.{nat_cmp, ordering_then}
 use Rattle.std.specs.Str.{bytes_eq}
-use Rattle.std.specs.FinMap.{empty, from_entries, get, values}
+use Rattle.std.specs.FinMap.{from_entries, get, values}
 use Rattle.std.specs.declared.cmp.Ordering.{Ordering}
 use Rattle.mesh_base.specs.Keyed.{keyed}
 use Rattle.mesh_base.specs.declared.key.Kind.TheVariants as kind
@@ -10,6 +10,7 @@ use Rattle.mesh_base.specs.declared.key.ObjKey.{ObjKey}
 use Rattle.net_cidr.specs.Address.{ip_cmp}
 use Rattle.net_cidr.specs.declared.ip.Ip.{Ip}
 use Rattle.view_types.specs.Objects.{ObjectMap}
+use Rattle.view_types.specs.declared.config.Config.{Config}
 use Rattle.view_types.specs.declared.object.Object.{Object}
 use Rattle.view_types.specs.declared.object.Object.TheVariants as object
 use Rattle.view_types.specs.declared.service.Service.{Service}
@@ -20,6 +21,7 @@ use Rattle.view_types.specs.declared.slice.Family.{Family}
 use Rattle.view_types.specs.declared.slice.Family.TheVariants.{V4, V6, Fqdn}
 use Rattle.view_types.specs.declared.endpoint.EndpointRow.{EndpointRow}
 use Rattle.view_types.specs.declared.endpoint.EndpointView.{EndpointView}
+use Rattle.view_rules.specs.PodRows.{row_for}
 
 -- where a Service is held
 abbrev pub service_key : List ℕ → List ℕ → ObjKey
@@ -60,27 +62,31 @@ slices_among ns name objects = filter_map (slice_in ns name) objects
 abbrev pub slices_held : ObjectMap → List ℕ → List ℕ → List Slice
 slices_held held ns name = slices_among ns name (values held)
 
--- an endpoint of which only the address and port are known
-abbrev pub bare_row : Ip → ℕ → EndpointRow
-bare_row ip port = record { ip = ip; port = port; weight = 10000; labels = empty; identity = None; tunnel = None; h2 = false }
+-- how a row is made at an address and port
+abbrev pub RowAt : Type 0
+RowAt = Ip → ℕ → EndpointRow
+
+-- by what its endpoint targets
+abbrev pub RowFor : Type 0
+RowFor = Option (List ℕ × List ℕ) → RowAt
 
 -- the rows that the places of a slice give, in the order of the places
-abbrev pub port_rows : List ℕ → Ip → NamedPort → List EndpointRow
-port_rows port_name ip port = if port.tcp && bytes_eq port.name port_name then bare_row ip port.port ∷ [] else []
+abbrev pub port_rows : RowAt → List ℕ → Ip → NamedPort → List EndpointRow
+port_rows row port_name ip port = if port.tcp && bytes_eq port.name port_name then row ip port.port ∷ [] else []
 
-abbrev pub address_rows : List ℕ → List NamedPort → Ip → List EndpointRow
-address_rows port_name ports ip = flat_map (port_rows port_name ip) ports
+abbrev pub address_rows : RowAt → List ℕ → List NamedPort → Ip → List EndpointRow
+address_rows row port_name ports ip = flat_map (port_rows row port_name ip) ports
 
-abbrev pub point_rows : List ℕ → List NamedPort → Point → List EndpointRow
-point_rows port_name ports point = if point.ready then flat_map (address_rows port_name ports) point.addrs else []
+abbrev pub point_rows : RowFor → List ℕ → List NamedPort → Point → List EndpointRow
+point_rows row port_name ports point = if point.ready then flat_map (address_rows (row point.pod) port_name ports) point.addrs else []
 
 abbrev pub has_addresses : Family → Bool
 has_addresses V4 = true
 has_addresses V6 = true
 has_addresses Fqdn = false
 
-abbrev pub slice_rows : List ℕ → Slice → List EndpointRow
-slice_rows port_name s = if has_addresses s.family then flat_map (point_rows port_name s.ports) s.points else []
+abbrev pub slice_rows : RowFor → List ℕ → Slice → List EndpointRow
+slice_rows row port_name s = if has_addresses s.family then flat_map (point_rows row port_name s.ports) s.points else []
 
 -- by address, and then by port
 abbrev pub pair_cmp : Ip × ℕ → Ip × ℕ → Ordering
@@ -94,20 +100,20 @@ abbrev pub first_rows : List EndpointRow → List EndpointRow
 first_rows rows = values (from_entries {R = pair_cmp} (keyed pair_cmp pair_of (λ row. row) rows))
 
 -- the rows at the ports of a name
-abbrev pub rows_from : List Slice → Option (List ℕ) → List EndpointRow
-rows_from slices None = []
-rows_from slices (Some port_name) = first_rows (flat_map (slice_rows port_name) slices)
+abbrev pub rows_from : RowFor → List Slice → Option (List ℕ) → List EndpointRow
+rows_from row slices None = []
+rows_from row slices (Some port_name) = first_rows (flat_map (slice_rows row port_name) slices)
 
 abbrev pub no_endpoints : EndpointView
 no_endpoints = record { exists = false; rows = [] }
 
 -- the endpoints of the port of a Service with these slices
-abbrev pub endpoints_from : List Slice → ℕ → Option Service → EndpointView
-endpoints_from slices port None = no_endpoints
-endpoints_from slices port (Some s) =
+abbrev pub endpoints_from : RowFor → List Slice → ℕ → Option Service → EndpointView
+endpoints_from row slices port None = no_endpoints
+endpoints_from row slices port (Some s) =
     if s.external then no_endpoints
-    else record { exists = true; rows = rows_from slices (port_name port s.ports) }
+    else record { exists = true; rows = rows_from row slices (port_name port s.ports) }
 
 -- the endpoints of the port of the Service of the namespace and name, where these objects are held
-abbrev pub endpoints : ObjectMap → List ℕ → List ℕ → ℕ → EndpointView
-endpoints held ns name port = endpoints_from (slices_held held ns name) port (service_held held ns name)
+abbrev pub endpoints : Config → ObjectMap → List ℕ → List ℕ → ℕ → EndpointView
+endpoints config held ns name port = endpoints_from (row_for config held) (slices_held held ns name) port (service_held held ns name)

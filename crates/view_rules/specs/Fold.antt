@@ -53,3 +53,8 @@ fold messages = folded_onto None messages
 pub record IsOrderly (view : EndpointView) : Type 0 where
   pub rise : IsStrictlySortedBy pair_cmp (map pair_of view.rows)
   pub absent : view.exists ≡ false → view.rows ≡ []
+
+-- so it is of the endpoints that were shown, if any were
+abbrev pub IsOrderlyIfShown : Option View → Type 0
+IsOrderlyIfShown (Some (Endpoints view)) = IsOrderly view
+IsOrderlyIfShown _ = Unit {0}

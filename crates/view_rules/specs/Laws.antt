@@ -10,14 +10,16 @@ use Rattle.mesh_base.specs.declared.key.Kind.TheVariants as kind
 use Rattle.mesh_base.specs.declared.key.ObjKey.{ObjKey}
 use Rattle.net_cidr.specs.declared.ip.Ip.{Ip}
 use Rattle.view_types.specs.Objects.{AtKeys, ObjectMap}
+use Rattle.view_types.specs.declared.config.Config.{Config}
 use Rattle.view_types.specs.declared.endpoint.EndpointRow.{EndpointRow}
 use Rattle.view_types.specs.declared.object.Object.TheVariants as object
 use Rattle.view_types.specs.declared.service.NamedPort.{NamedPort}
 use Rattle.view_types.specs.declared.service.Service.{Service}
 use Rattle.view_types.specs.declared.slice.Point.{Point}
 use Rattle.view_types.specs.declared.slice.Slice.{Slice}
-use Rattle.view_rules.specs.Endpoints.{bare_row, endpoints, first_rows, has_addresses, pair_cmp, pair_of, port_name, service_held, service_of, slices_held}
+use Rattle.view_rules.specs.Endpoints.{RowFor, endpoints, first_rows, has_addresses, pair_cmp, pair_of, port_name, service_held, service_of, slices_held}
 use Rattle.view_rules.specs.Fold.{IsOrderly}
+use Rattle.view_rules.specs.PodRows.{row_for}
 
 -- the name of the Service port of the number, where the Service has endpoints
 abbrev pub name_of_port : ℕ → Option Service → Option (List ℕ)
@@ -44,8 +46,8 @@ pub record IsGiven (held : ObjectMap) (ns name : List ℕ) (named : Option (List
 
 -- a pair stands in the view exactly where some place gives it
 abbrev pub PairsAreGiven : Type 0
-PairsAreGiven = (held : ObjectMap) (ns name : List ℕ) (number : ℕ) (ip : Ip) (port : ℕ)
-    → Contains (map pair_of (endpoints held ns name number).rows) (ip, port) ↔ IsGiven held ns name (name_of_port number (service_held held ns name)) ip port
+PairsAreGiven = (config : Config) (held : ObjectMap) (ns name : List ℕ) (number : ℕ) (ip : Ip) (port : ℕ)
+    → Contains (map pair_of (endpoints config held ns name number).rows) (ip, port) ↔ IsGiven held ns name (name_of_port number (service_held held ns name)) ip port
 
 abbrev pub is_at : Ip × ℕ → EndpointRow → Bool
 is_at pair row = eq_by_cmp pair_cmp pair (pair_of row)
@@ -66,7 +68,7 @@ SlicesByName = (held : ObjectMap) → AtKeys held → (ns name : List ℕ)
 
 -- the rows of each view are in order, and a Service that isn't there has none
 abbrev pub EndpointsAreOrderly : Type 0
-EndpointsAreOrderly = (held : ObjectMap) (ns name : List ℕ) (port : ℕ) → IsOrderly (endpoints held ns name port)
+EndpointsAreOrderly = (config : Config) (held : ObjectMap) (ns name : List ℕ) (port : ℕ) → IsOrderly (endpoints config held ns name port)
 
 -- ---- the place that a row comes from
 
@@ -80,8 +82,8 @@ pub record Place : Type 0 where
 abbrev pub place_cmp : Place → Place → Ordering
 place_cmp a b = ordering_then (slice_cmp nat_cmp a.slice b.slice) (ordering_then (nat_cmp a.point b.point) (ordering_then (nat_cmp a.address b.address) (nat_cmp a.port b.port)))
 
--- what stands in the slice at the place gives the row, at ports of the name
-pub record GivesFrom (port_name : List ℕ) (slice : Slice) (place : Place) (row : EndpointRow) : Type 0 where
+-- what stands in the slice at the place gives the row, which its endpoint's target makes, at ports of the name
+pub record GivesFrom (row_of : RowFor) (port_name : List ℕ) (slice : Slice) (place : Place) (row : EndpointRow) : Type 0 where
   pub with_addresses : has_addresses slice.family ≡ true
   pub point : Point
   pub at_point : slice_get slice.points place.point ≡ Some point
@@ -92,24 +94,24 @@ pub record GivesFrom (port_name : List ℕ) (slice : Slice) (place : Place) (row
   pub at_port : slice_get slice.ports place.port ≡ Some entry
   pub tcp : entry.tcp ≡ true
   pub same_name : entry.name ≡ port_name
-  pub made : bare_row ip entry.port ≡ row
+  pub made : row_of point.pod ip entry.port ≡ row
 
 abbrev pub slice_key : List ℕ → List ℕ → ObjKey
 slice_key ns name = record { kind = kind.EndpointSlice; ns = ns; name = name }
 
 -- the place, in a slice of the Service, gives the row
-pub record Gives (held : ObjectMap) (ns name port_name : List ℕ) (place : Place) (row : EndpointRow) : Type 0 where
+pub record Gives (config : Config) (held : ObjectMap) (ns name port_name : List ℕ) (place : Place) (row : EndpointRow) : Type 0 where
   pub slice : Slice
   pub at_key : get held (slice_key ns place.slice) ≡ Some (object.EndpointSlice slice)
   pub of_service : service_of slice ≡ Some name
-  pub from : GivesFrom port_name slice place row
+  pub from : GivesFrom (row_for config held) port_name slice place row
 
 -- the row comes from a place, and no place before it gives a row of the same address and port
-pub record IsOfTheLeast (held : ObjectMap) (ns name port_name : List ℕ) (row : EndpointRow) : Type 0 where
+pub record IsOfTheLeast (config : Config) (held : ObjectMap) (ns name port_name : List ℕ) (row : EndpointRow) : Type 0 where
   pub place : Place
-  pub gives : Gives held ns name port_name place row
-  pub least : (other : Place) (found : EndpointRow) → Gives held ns name port_name other found → pair_of found ≡ pair_of row → place_cmp place other ≢ Greater
+  pub gives : Gives config held ns name port_name place row
+  pub least : (other : Place) (found : EndpointRow) → Gives config held ns name port_name other found → pair_of found ≡ pair_of row → place_cmp place other ≢ Greater
 
 abbrev pub RowsAreOfTheLeast : Type 0
-RowsAreOfTheLeast = (held : ObjectMap) → AtKeys held → (ns name port_name : List ℕ) (number : ℕ) (row : EndpointRow)
-    → name_of_port number (service_held held ns name) ≡ Some port_name → Contains (endpoints held ns name number).rows row → IsOfTheLeast held ns name port_name row
+RowsAreOfTheLeast = (config : Config) (held : ObjectMap) → AtKeys held → (ns name port_name : List ℕ) (number : ℕ) (row : EndpointRow)
+    → name_of_port number (service_held held ns name) ≡ Some port_name → Contains (endpoints config held ns name number).rows row → IsOfTheLeast config held ns name port_name row

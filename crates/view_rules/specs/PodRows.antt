@@ -1,7 +1,9 @@
--- The row of an endpoint whose Pod is known.
-use Rattle.std.specs.Prelude.{codes, ◌&&◌, ℕ, Bool, List, Option, Some, None, not, nat_le, if◌then◌else◌}
+-- The row of an endpoint: its address and port, and what its Pod adds.
+use Rattle.std.specs.Prelude.{codes, ◌&&◌, ℕ, Bool, false, List, Option, Some, None, not, nat_le, if◌then◌else◌}
 use Rattle.std.specs.List.{list_any}
-use Rattle.std.specs.FinMap.{empty, get, insert}
+use Rattle.std.specs.Cmp.Lexicographic.{slice_cmp}
+use Rattle.std.specs.FinMap.{FinMap, empty, get, insert}
+use Rattle.std.specs.Ordering.{nat_cmp}
 use Rattle.mesh_base.specs.declared.key.Kind.TheVariants as kind
 use Rattle.mesh_base.specs.declared.key.ObjKey.{ObjKey}
 use Rattle.mesh_text.specs.Mesh.{identity_of, is_meshed, opaque_ranges}
@@ -12,7 +14,6 @@ use Rattle.view_types.specs.declared.endpoint.EndpointRow.{EndpointRow}
 use Rattle.view_types.specs.declared.object.Object.{Object}
 use Rattle.view_types.specs.declared.object.Object.TheVariants as object
 use Rattle.view_types.specs.declared.pod.Pod.{Pod}
-use Rattle.view_rules.specs.Endpoints.{bare_row}
 
 -- ---- the Pod that is held
 
@@ -34,6 +35,10 @@ pod_held held (Some target) = pod_found (get held (pod_key target.0 target.1))
 
 -- ---- its row
 
+-- an endpoint of which only the address and port are known
+abbrev pub bare_row : Ip → ℕ → EndpointRow
+bare_row ip port = record { ip = ip; port = port; weight = 10000; labels = empty; identity = None; tunnel = None; h2 = false }
+
 abbrev pub is_opaque : Pod → ℕ → Bool
 is_opaque pod port = list_any (λ r. nat_le r.0 port && nat_le port r.1) (opaque_ranges pod.meta)
 
@@ -52,12 +57,15 @@ meshed_row config pod port row = record {
   h2 = not (is_opaque pod port);
 }
 
+abbrev pub labels_of : Pod → FinMap (slice_cmp nat_cmp) (List ℕ)
+labels_of pod = insert (insert empty (codes "pod") pod.meta.name) (codes "serviceaccount") pod.account
+
 abbrev pub labelled_row : Pod → EndpointRow → EndpointRow
 labelled_row pod row = record {
   ip = row.ip;
   port = row.port;
   weight = row.weight;
-  labels = insert (insert empty (codes "pod") pod.meta.name) (codes "serviceaccount") pod.account;
+  labels = labels_of pod;
   identity = row.identity;
   tunnel = row.tunnel;
   h2 = row.h2;
@@ -70,3 +78,7 @@ row_of config None ip port = bare_row ip port
 row_of config (Some pod) ip port =
     let row = labelled_row pod (bare_row ip port) in
     if is_meshed config pod.meta then meshed_row config pod port row else row
+
+-- the row of an endpoint that targets this, where these objects are held
+abbrev pub row_for : Config → ObjectMap → Option (List ℕ × List ℕ) → Ip → ℕ → EndpointRow
+row_for config held target = row_of config (pod_held held target)

@@ -1,6 +1,7 @@
 -- What a subscriber of a query is to see.
-use Rattle.std.specs.Prelude.{Option, Some, None}
+use Rattle.std.specs.Prelude.{Option, Some, None, option_and_then}
 use Rattle.view_types.specs.Objects.{ObjectMap}
+use Rattle.view_types.specs.declared.config.Config.{Config}
 use Rattle.view_types.specs.declared.query.Query.{Query}
 use Rattle.view_types.specs.declared.query.Query.TheVariants.{Get}
 use Rattle.view_types.specs.declared.view.View.{View}
@@ -8,6 +9,10 @@ use Rattle.view_types.specs.declared.view.View.TheVariants.{Endpoints}
 use Rattle.view_rules.specs.Endpoints.{endpoints}
 
 -- the view of a query, where these objects are held; a query that can't be subscribed to yet has none
-abbrev pub view_of : ObjectMap → Query → Option View
-view_of held (Get ns name port ctx) = Some (Endpoints (endpoints held ns name port))
-view_of held _ = None
+abbrev pub view_of : Config → ObjectMap → Query → Option View
+view_of config held (Get ns name port ctx) = Some (Endpoints (endpoints config held ns name port))
+view_of config held _ = None
+
+-- the view of a query where this was held, if there was a moment at which it was
+abbrev pub view_before : Config → Query → Option ObjectMap → Option View
+view_before config query before = option_and_then (λ held. view_of config held query) before

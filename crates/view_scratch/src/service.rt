@@ -1,41 +1,46 @@
-ghost use Rattle.std.specs.Prelude.{◌≡◌, ◌&&◌, ◌==◌, find, option_map};
+ghost use Rattle.std.specs.Prelude.{◌≡◌, ◌&&◌, ◌==◌, IfOk, find, option_map};
 ghost use Rattle.std.specs.Option.{option_copied};
-ghost use Rattle.view_rules.specs.Endpoints.{port_name};
-ghost use Rattle.view_scratch.specs.Scan.{service_among, service_in};
+ghost use Rattle.view_rules.specs.Endpoints.{as_service, port_name, service_found, service_held};
 
+use mesh_base::key::{Kind, ObjKey};
+use mesh_base::memory::Memory;
+use mesh_base::steps::Steps;
 use mesh_base::text::Text;
+use object_store::store::Store;
 use view_types::object::Object;
 use view_types::service::{NamedPort, Service};
 
-/// The Service of the namespace and name.
-pub(crate) fn service_among<'a>(
-    objects: &'a [Object],
+/// The Service of the namespace and name, if it is held.
+pub(crate) fn service_held<'a>(
+    store: &'a Store,
     ns: &Text,
     name: &Text,
-) -> Option<&'a Service>
-    ensures { option_copied result ≡ service_among ns.now name.now objects.now }
+) -> Result<Option<&'a Service>, Memory>
+    ensures { IfOk result (λ service. option_copied service ≡ service_held store.now.objects ns.now name.now) }
 {
-    for object in objects {
-        match service_in(object, ns, name) {
-            Some(service) => return Some(service),
-            None => {}
-        }
-    }
-    None
+    let key = ObjKey {
+        kind: Kind::Service,
+        ns: ns.copy()?,
+        name: name.copy()?,
+    };
+    let mut steps = Steps::<()>::new();
+    Ok(service_found(store.get(&key, &mut steps)))
 }
 
-fn service_in<'a>(object: &'a Object, ns: &Text, name: &Text) -> Option<&'a Service>
-    ensures { option_copied result ≡ service_in ns.now name.now object.now }
+fn service_found(found: Option<&Object>) -> Option<&Service>
+    ensures { option_copied result ≡ service_found (option_copied found.entry) }
+{
+    match found {
+        Some(object) => as_service(object),
+        None => None,
+    }
+}
+
+fn as_service(object: &Object) -> Option<&Service>
+    ensures { option_copied result ≡ as_service object.now }
 {
     match object {
-        Object::Service(boxed) => {
-            let service = boxed.get();
-            if service.meta.ns == *ns && service.meta.name == *name {
-                Some(service)
-            } else {
-                None
-            }
-        }
+        Object::Service(boxed) => Some(boxed.get()),
         _ => None,
     }
 }

@@ -16,7 +16,7 @@ use Rattle.view_types.specs.Lawful.{IsLawful}
 use Rattle.view_types.specs.Objects.{key_of, kind_of}
 use Rattle.view_types.specs.declared.config.Config.{Config}
 use Rattle.view_types.specs.declared.object.Object.{Object}
-use Rattle.watch_events.specs.Controls.{control_as, control_of, subscription_of}
+use Rattle.watch_events.specs.Controls.{cancellation_of, drain_of, control_as, control_of, subscription_of}
 use Rattle.watch_events.specs.Events.{delete_of, event_as, event_of, set_of}
 use Rattle.watch_events.specs.Given.{Gives}
 use Rattle.watch_events.specs.Lawful.{IsLawfulLine, IsLawfulOf, LinesAreLawful, ObjectsAreLawful, TextsAreLawful}
@@ -75,11 +75,19 @@ subscription_gives : (config : Config) (s : Spot) → Lawful (subscription_of co
 unfolding subscription_of
 subscription_gives config s = step P _ _ (λ id _. step P _ _ (λ q _. step P _ _ (λ method _. step P _ _ (λ query _. end P (lines.Subscribe (record { 0 = id }) query) tt))))
 
+cancellation_gives : (s : Spot) → Lawful (cancellation_of s)
+unfolding cancellation_of
+cancellation_gives s = step P _ _ (λ id _. end P (lines.Cancel (record { 0 = id })) tt)
+
+drain_gives : (s : Spot) → Lawful (drain_of s)
+unfolding drain_of
+drain_gives s = step P _ _ (λ id _. end P (lines.Drain (record { 0 = id })) tt)
+
 control_gives : (config : Config) (word : Option ControlWord) (s : Spot) → Lawful (control_as config word s)
 control_gives config None s line e = absurd cc
 control_gives config (Some words.Subscribe) s line e = subscription_gives config s line e
-control_gives config (Some words.Cancel) s line e = absurd cc
-control_gives config (Some words.Drain) s line e = absurd cc
+control_gives config (Some words.Cancel) s line e = cancellation_gives s line e
+control_gives config (Some words.Drain) s line e = drain_gives s line e
 control_gives config (Some words.Simulate) s line e = absurd cc
 control_gives config (Some words.Stop) s line e = end P lines.Stop tt line e
 

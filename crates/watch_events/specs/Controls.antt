@@ -38,12 +38,23 @@ control_word t =
     if bytes_eq t (codes "simulate") then Some words.Simulate else
     if bytes_eq t (codes "stop") then Some words.Stop else None
 
--- Cancellations, drains and simulations aren't accepted yet.
+-- the subscription that a line ends or drains
+unfoldable pub cancellation_of : Spot → Result Line LineFault
+cancellation_of s = do
+  id ← of_query (required (number 0 4294967295) (s · keys.Id))
+  Ok (lines.Cancel (record { 0 = id }))
+
+unfoldable pub drain_of : Spot → Result Line LineFault
+drain_of s = do
+  id ← of_query (required (number 0 4294967295) (s · keys.Id))
+  Ok (lines.Drain (record { 0 = id }))
+
+-- Simulations aren't accepted yet.
 abbrev pub control_as : Config → Option ControlWord → Spot → Result Line LineFault
 control_as config None s = Err (faults.BadQuery (s · keys.Control).at)
 control_as config (Some words.Subscribe) s = subscription_of config s
-control_as config (Some words.Cancel) s = Err faults.NotBuilt
-control_as config (Some words.Drain) s = Err faults.NotBuilt
+control_as config (Some words.Cancel) s = cancellation_of s
+control_as config (Some words.Drain) s = drain_of s
 control_as config (Some words.Simulate) s = Err faults.NotBuilt
 control_as config (Some words.Stop) s = Ok lines.Stop
 

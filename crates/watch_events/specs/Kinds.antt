@@ -1,5 +1,6 @@
 -- Which kind of object is meant, by the name of a kind and an API group.
-use Rattle.std.specs.Prelude.{ℕ, List, [], ◌∷◌, Option, Some, None, Result, Ok, Err, codes, unwrap_or, ◌&&◌, if◌then◌else◌}
+use Rattle.std.specs.Prelude.{ℕ, List, [], ◌∷◌, Option, Some, None, Result, codes, unwrap_or, ◌&&◌, if◌then◌else◌}
+use Rattle.std.specs.Option.{ok_or}
 use Rattle.std.specs.Str.{bytes_eq}
 use Rattle.k8s_meta.specs.Spots.{Spot, ◌·◌}
 use Rattle.k8s_meta.specs.Words.{string_in}
@@ -45,12 +46,6 @@ kind_named kind group =
     if bytes_eq kind (codes "ServiceProfile") && bytes_eq group (codes "linkerd.io") then Some ServiceProfile else
     if bytes_eq kind (codes "HTTPRoute") && bytes_eq group (codes "gateway.networking.k8s.io") then Some GatewayRoute else None
 
--- A Pod isn't accepted yet.
-abbrev pub taken : Option Kind → Result Kind LineFault
-taken None = Err faults.UnknownKind
-taken (Some Pod) = Err faults.NotBuilt
-taken (Some kind) = Ok kind
-
 -- the kind of this name in the group that the value names
 unfoldable pub kind_of : List ℕ → Spot → Result Kind LineFault
-kind_of name s = taken (kind_named name (group_of s))
+kind_of name s = ok_or (kind_named name (group_of s)) faults.UnknownKind

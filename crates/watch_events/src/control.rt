@@ -3,7 +3,7 @@ ghost use Rattle.k8s_meta.specs.Scalars.{number};
 ghost use Rattle.k8s_meta.specs.Spots.{◌·◌, seen};
 ghost use Rattle.k8s_meta.specs.Words.{choice, object, required, string_in};
 ghost use Rattle.k8s_meta.specs.declared.key.Key.TheVariants as keys;
-ghost use Rattle.watch_events.specs.Controls.{control_of, control_word, query_of, subscription_of};
+ghost use Rattle.watch_events.specs.Controls.{cancellation_of, control_of, control_word, drain_of, query_of, subscription_of};
 ghost use Rattle.watch_events.specs.Given.{Fails, Gives, GivesAs};
 ghost use Rattle.watch_events.specs.Queries.{method_of};
 ghost use Rattle.watch_events.specs.Reading.{of_query};
@@ -107,6 +107,22 @@ fn read_subscription<'a>(config: &Config, line: &'a Place<'a>) -> Result<Line, L
     })
 }
 
+#[tactic(auto, unfolding(crate::specs::Reading::then, crate::specs::Controls::cancellation_of))]
+fn read_cancellation<'a>(line: &'a Place<'a>) -> Result<Line, LineFault>
+    ensures { Gives result (cancellation_of (seen line.now)) }
+{
+    let id = read_id(line)?;
+    Ok(Line::Cancel { id: SubId(id) })
+}
+
+#[tactic(auto, unfolding(crate::specs::Reading::then, crate::specs::Controls::drain_of))]
+fn read_drain<'a>(line: &'a Place<'a>) -> Result<Line, LineFault>
+    ensures { Gives result (drain_of (seen line.now)) }
+{
+    let id = read_id(line)?;
+    Ok(Line::Drain { id: SubId(id) })
+}
+
 fn word_of<'a>(line: &'a Place<'a>) -> Option<ControlWord>
     ensures { result ≡ option_and_then control_word (string_in ((seen line.now) · keys.Control).value) }
 {
@@ -129,8 +145,8 @@ pub fn read_control<'a>(config: &Config, line: &'a Place<'a>) -> Result<Line, Li
     match word_of(line) {
         None => Err(no_word(line)),
         Some(ControlWord::Subscribe) => read_subscription(config, line),
-        Some(ControlWord::Cancel) => Err(LineFault::NotBuilt),
-        Some(ControlWord::Drain) => Err(LineFault::NotBuilt),
+        Some(ControlWord::Cancel) => read_cancellation(line),
+        Some(ControlWord::Drain) => read_drain(line),
         Some(ControlWord::Simulate) => Err(LineFault::NotBuilt),
         Some(ControlWord::Stop) => Ok(Line::Stop),
     }

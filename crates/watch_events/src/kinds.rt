@@ -2,7 +2,7 @@ ghost use Rattle.std.specs.Prelude.{◌≡◌};
 ghost use Rattle.std.specs.Str.{bytes_eq};
 ghost use Rattle.k8s_meta.specs.Spots.{seen};
 ghost use Rattle.watch_events.specs.Given.{Gives};
-ghost use Rattle.watch_events.specs.Kinds.{group_in, group_of, kind_named, kind_of, policy_kind, taken, text_or_empty};
+ghost use Rattle.watch_events.specs.Kinds.{group_in, group_of, kind_named, kind_of, policy_kind, text_or_empty};
 
 use crate::line::LineFault;
 use k8s_meta::key::Key;
@@ -85,20 +85,13 @@ fn kind_named(kind: &[u8], group: &[u8]) -> Option<Kind>
     }
 }
 
-fn taken(kind: Option<Kind>) -> Result<Kind, LineFault>
-    ensures { Gives result (taken kind) }
-{
-    match kind {
-        None => Err(LineFault::UnknownKind),
-        Some(Kind::Pod) => Err(LineFault::NotBuilt),
-        Some(kind) => Ok(kind),
-    }
-}
-
 /// The kind of this name in the group that the place names.
 #[tactic(auto, unfolding(crate::specs::Kinds::kind_of))]
 pub fn kind_of<'a>(name: &[u8], place: &'a Place<'a>) -> Result<Kind, LineFault>
     ensures { Gives result (kind_of name.now (seen place.now)) }
 {
-    taken(kind_named(name, group_of(place)))
+    match kind_named(name, group_of(place)) {
+        None => Err(LineFault::UnknownKind),
+        Some(kind) => Ok(kind),
+    }
 }

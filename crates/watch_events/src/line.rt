@@ -16,6 +16,10 @@ pub enum Line {
     Event(Event),
     /// From now on the query is answered under the number.
     Subscribe { id: SubId, query: Query },
+    /// The subscription of this number ends.
+    Cancel { id: SubId },
+    /// The subscriber of this number is sent what has changed for it.
+    Drain { id: SubId },
     /// The program is to end.
     Stop,
 }

@@ -1,5 +1,8 @@
+mod drains;
 mod lines;
+mod pods;
 mod rows;
+mod script;
 
 ghost use Rattle.std.specs.Prelude.{◌<◌, ◌≤◌, length};
 ghost use Rattle.line_run.specs.Run.{IsAnswered, IsTooLong};
@@ -7,14 +10,23 @@ ghost use Rattle.linkerd_cli.specs.Command.{IsReplay};
 
 use super::{Outcome, top};
 use crate::top::tests::lines::{GET, NO_ENDPOINTS, NO_SERVICE, SERVICE, SLICE, named};
+use crate::top::tests::pods::PODS;
 use crate::top::tests::rows::{ACCEPTED, LIMITED, REFUSED};
 use line_run::Status;
 use mesh_base::limits::Limits;
 use mesh_base::list::List;
+use mesh_base::memory::Memory;
 use mesh_base::text::Text;
+use mesh_hub::hub::Hub;
 use mesh_outside::{MemSink, MemSource, SurePatterns, SureSink, SureSource};
 use std::alloc::Global;
 use std::test::Fail;
+use view_types::config::Config;
+
+// A hub that holds nothing.
+fn hub_of(alloc: Global) -> Result<Hub, Memory> {
+    Hub::new(alloc, Config::usual(alloc)?, Limits::usual())
+}
 
 fn source_of(alloc: Global, text: &str, fails: &[u64]) -> Result<MemSource, Fail> {
     Ok(MemSource {
@@ -54,8 +66,19 @@ fn replayed(
     ensures complete { IsReplay words.now → length bytes.now < limits.now.input → IsAnswered result }
     ensures too_long { IsReplay words.now → limits.now.input ≤ length bytes.now → IsTooLong result }
 {
+    let Ok(mut hub) = hub_of(alloc) else {
+        return Status::Memory;
+    };
     let mut input = SureSource { bytes };
-    let Outcome::Ended(status) = top(alloc, words, limits, &mut input, out, &mut SurePatterns);
+    let Outcome::Ended(status) = top(
+        alloc,
+        words,
+        limits,
+        &mut hub,
+        &mut input,
+        out,
+        &mut SurePatterns,
+    );
     status
 }
 
@@ -116,6 +139,23 @@ fn accepted_lines(rt: HostRuntime) -> Result<(), Fail> {
         let text = lines_named(alloc, words, "\r\n")?;
         let same = comes_to(alloc, &text, Status::Done, expected)?;
         assert!(rt; same, "at {row}");
+    }
+    Ok(())
+}
+
+#[test]
+fn endpoints_of_pods(rt: HostRuntime) -> Result<(), Fail> {
+    let alloc = rt.alloc();
+    for row in PODS.split("\n\n") {
+        let Some((given, expected)) = row.split_once("\n=> ") else {
+            return Err(Fail::new("a row has no output"));
+        };
+        let Some((case, lines)) = given.split_once('\n') else {
+            return Err(Fail::new("a row has no lines"));
+        };
+        let output = format!(in alloc; "{expected}\n")?;
+        let same = comes_to(alloc, lines, Status::Done, &output)?;
+        assert!(rt; same, "at {case}");
     }
     Ok(())
 }
@@ -207,10 +247,12 @@ fn faults_and_limits(rt: HostRuntime) -> Result<(), Fail> {
     for (reads, writes, limits, expected) in cases {
         let mut input = source_of(alloc, &text, reads)?;
         let mut out = sink_of(alloc, writes)?;
+        let mut hub = hub_of(alloc)?;
         let outcome = top(
             alloc,
             &words,
             &limits,
+            &mut hub,
             &mut input,
             &mut out,
             &mut SurePatterns,
@@ -230,10 +272,12 @@ fn words_that_are_no_command(rt: HostRuntime) -> Result<(), Fail> {
         let words = words_of(alloc, words)?;
         let mut input = source_of(alloc, GET, &[])?;
         let mut out = sink_of(alloc, &[])?;
+        let mut hub = hub_of(alloc)?;
         let outcome = top(
             alloc,
             &words,
             &Limits::USUAL,
+            &mut hub,
             &mut input,
             &mut out,
             &mut SurePatterns,

@@ -1,7 +1,8 @@
 use Rattle.std.proofs.Common.{rules, refl, ◌∙◌}
 use Rattle.std.proofs.lemmas.Fn.{dedup_same}
 use Rattle.std.proofs.lemmas.List.Sorted.{answers_always, ranks_by}
-use Rattle.view_rules.specs.Endpoints.{bare_row, pair_of}
+use Rattle.view_rules.specs.Endpoints.{pair_of}
+use Rattle.view_rules.specs.PodRows.{bare_row}
 use Rattle.view_rules.proofs.FirstOfEach.{first_of_each}
 use Rattle.view_rules.proofs.Pairs.{pairs_total, pairs_exact}
 use Rattle.view_fold.proofs.order.keep_first.Goals as goal

@@ -1,5 +1,6 @@
 use Rattle.std.proofs.Common.{refl, ◌∙◌}
-use Rattle.view_rules.specs.Endpoints.{bare_row, pair_of}
+use Rattle.view_rules.specs.Endpoints.{pair_of}
+use Rattle.view_rules.specs.PodRows.{bare_row}
 use Rattle.view_rules.proofs.Pairs.{pairs_total, pairs_exact}
 use Rattle.view_rules.proofs.FirstOfEach.{first_of_each}
 use Rattle.view_scratch.proofs.pairs.first_rows.Goals as goal

@@ -1,0 +1,380 @@
+use super::{comes_to, replayed_text};
+use crate::top::tests::lines::{GET, SERVICE, named};
+use line_run::Status;
+use mesh_base::limits::Limits;
+use std::alloc::Global;
+use std::test::Fail;
+
+// Lines, and frames that are written, each after its name. One text is proved in less time than a table of texts.
+const NAMED: &str = r#"broken: {"type":"ADDED"
+drain: {"control":"drain","id":1}
+drain_2: {"control":"drain","id":2}
+drain_5: {"control":"drain","id":5}
+cancel: {"control":"cancel","id":1}
+cancel_5: {"control":"cancel","id":5}
+get_2: {"control":"subscribe","id":2,"query":{"method":"Get","path":"web.app.svc.cluster.local:80"}}
+get_3: {"control":"subscribe","id":3,"query":{"method":"Get","path":"web.app.svc.cluster.local:80"}}
+get_5: {"control":"subscribe","id":5,"query":{"method":"Get","path":"web.app.svc.cluster.local:80"}}
+get_2_of_api: {"control":"subscribe","id":2,"query":{"method":"Get","path":"api.app.svc.cluster.local:80"}}
+service_admin: {"type":"MODIFIED","object":{"apiVersion":"v1","kind":"Service","metadata":{"name":"web","namespace":"app"},"spec":{"clusterIP":"10.96.0.10","ports":[{"name":"admin","port":80}]}}}
+service_external: {"type":"MODIFIED","object":{"apiVersion":"v1","kind":"Service","metadata":{"name":"web","namespace":"app"},"spec":{"type":"ExternalName","externalName":"web.example.org"}}}
+slice_of_both: {"type":"ADDED","object":{"apiVersion":"discovery.k8s.io/v1","kind":"EndpointSlice","metadata":{"name":"web-a","namespace":"app","labels":{"kubernetes.io/service-name":"web"}},"addressType":"IPv4","endpoints":[{"addresses":["10.1.2.3","10.1.2.4"]}],"ports":[{"name":"http","port":8080}]}}
+slice_of_second: {"type":"MODIFIED","object":{"apiVersion":"discovery.k8s.io/v1","kind":"EndpointSlice","metadata":{"name":"web-a","namespace":"app","labels":{"kubernetes.io/service-name":"web"}},"addressType":"IPv4","endpoints":[{"addresses":["10.1.2.4"]}],"ports":[{"name":"http","port":8080}]}}
+slice_b: {"type":"ADDED","object":{"apiVersion":"discovery.k8s.io/v1","kind":"EndpointSlice","metadata":{"name":"web-b","namespace":"app","labels":{"kubernetes.io/service-name":"web"}},"addressType":"IPv4","endpoints":[{"addresses":["10.1.2.4"]}],"ports":[{"name":"http","port":8080}]}}
+slice_6: {"type":"ADDED","object":{"apiVersion":"discovery.k8s.io/v1","kind":"EndpointSlice","metadata":{"name":"web-6","namespace":"app","labels":{"kubernetes.io/service-name":"web"}},"addressType":"IPv6","endpoints":[{"addresses":["fd00::1"]}],"ports":[{"name":"http","port":8080}]}}
+slice_6_gone: {"type":"DELETED","object":{"apiVersion":"discovery.k8s.io/v1","kind":"EndpointSlice","metadata":{"name":"web-6","namespace":"app"}}}
+list_b_and_c: {"kind":"EndpointSliceList","apiVersion":"discovery.k8s.io/v1","items":[{"metadata":{"name":"web-b","namespace":"app","labels":{"kubernetes.io/service-name":"web"}},"addressType":"IPv4","endpoints":[{"addresses":["10.1.2.5"]}],"ports":[{"name":"http","port":8080}]},{"metadata":{"name":"web-c","namespace":"app","labels":{"kubernetes.io/service-name":"web"}},"addressType":"IPv4","endpoints":[{"addresses":["10.1.2.6"]}],"ports":[{"name":"http","port":8080}]}]}
+list_c: {"kind":"EndpointSliceList","apiVersion":"discovery.k8s.io/v1","items":[{"metadata":{"name":"web-c","namespace":"app","labels":{"kubernetes.io/service-name":"web"}},"addressType":"IPv4","endpoints":[{"addresses":["10.1.2.5"]}],"ports":[{"name":"http","port":8080}]}]}
+list_without_name: {"kind":"EndpointSliceList","apiVersion":"discovery.k8s.io/v1","items":[{"metadata":{"name":"web-b","namespace":"app","labels":{"kubernetes.io/service-name":"web"}},"addressType":"IPv4","endpoints":[{"addresses":["10.1.2.5"]}],"ports":[{"name":"http","port":8080}]},{"metadata":{"name":"web-c","namespace":"app","labels":{"kubernetes.io/service-name":"web"}},"addressType":"IPv4","endpoints":[{"addresses":["10.1.2.6"]}],"ports":[{"name":"http","port":8080}]},{"metadata":{"namespace":"app","labels":{"kubernetes.io/service-name":"web"}},"addressType":"IPv4","endpoints":[{"addresses":["10.1.2.7"]}],"ports":[{"name":"http","port":8080}]}]}
+list_of_b_twice: {"kind":"EndpointSliceList","apiVersion":"discovery.k8s.io/v1","items":[{"metadata":{"name":"web-b","namespace":"app","labels":{"kubernetes.io/service-name":"web"}},"addressType":"IPv4","endpoints":[{"addresses":["10.1.2.5"]}],"ports":[{"name":"http","port":8080}]},{"metadata":{"name":"web-b","namespace":"app","labels":{"kubernetes.io/service-name":"web"}},"addressType":"IPv4","endpoints":[{"addresses":["10.1.2.6"]}],"ports":[{"name":"http","port":8080}]}]}
+no_pods: {"kind":"PodList","apiVersion":"v1","items":[]}
+slice_of_pod: {"type":"ADDED","object":{"apiVersion":"discovery.k8s.io/v1","kind":"EndpointSlice","metadata":{"name":"web-a","namespace":"app","labels":{"kubernetes.io/service-name":"web"}},"addressType":"IPv4","endpoints":[{"addresses":["10.1.2.3"],"targetRef":{"kind":"Pod","name":"web-1"}}],"ports":[{"name":"http","port":8080}]}}
+slice_b_of_pod_2: {"type":"ADDED","object":{"apiVersion":"discovery.k8s.io/v1","kind":"EndpointSlice","metadata":{"name":"web-b","namespace":"app","labels":{"kubernetes.io/service-name":"web"}},"addressType":"IPv4","endpoints":[{"addresses":["10.1.2.3"],"targetRef":{"kind":"Pod","name":"web-2"}}],"ports":[{"name":"http","port":8080}]}}
+slice_of_pod_of_db: {"type":"ADDED","object":{"apiVersion":"discovery.k8s.io/v1","kind":"EndpointSlice","metadata":{"name":"web-a","namespace":"app","labels":{"kubernetes.io/service-name":"web"}},"addressType":"IPv4","endpoints":[{"addresses":["10.1.2.3"],"targetRef":{"kind":"Pod","name":"web-1","namespace":"db"}}],"ports":[{"name":"http","port":8080}]}}
+slice_of_node: {"type":"ADDED","object":{"apiVersion":"discovery.k8s.io/v1","kind":"EndpointSlice","metadata":{"name":"web-a","namespace":"app","labels":{"kubernetes.io/service-name":"web"}},"addressType":"IPv4","endpoints":[{"addresses":["10.1.2.3"],"targetRef":{"kind":"Node","name":"web-1"}}],"ports":[{"name":"http","port":8080}]}}
+slice_of_pod_at_3306: {"type":"ADDED","object":{"apiVersion":"discovery.k8s.io/v1","kind":"EndpointSlice","metadata":{"name":"web-a","namespace":"app","labels":{"kubernetes.io/service-name":"web"}},"addressType":"IPv4","endpoints":[{"addresses":["10.1.2.3"],"targetRef":{"kind":"Pod","name":"web-1"}}],"ports":[{"name":"http","port":3306}]}}
+pod: {"type":"ADDED","object":{"apiVersion":"v1","kind":"Pod","metadata":{"name":"web-1","namespace":"app","labels":{"app":"web","linkerd.io/control-plane-ns":"linkerd"}},"spec":{"containers":[{"ports":[{"name":"http","containerPort":8080}]}]},"status":{"podIP":"10.1.2.3"}}}
+pod_gone: {"type":"DELETED","object":{"apiVersion":"v1","kind":"Pod","metadata":{"name":"web-1","namespace":"app"}}}
+pod_of_api: {"type":"ADDED","object":{"apiVersion":"v1","kind":"Pod","metadata":{"name":"web-1","namespace":"app","labels":{"app":"web","linkerd.io/control-plane-ns":"linkerd"}},"spec":{"serviceAccountName":"api","containers":[{"ports":[{"name":"http","containerPort":8080}]}]},"status":{"podIP":"10.1.2.3"}}}
+pod_on_host: {"type":"ADDED","object":{"apiVersion":"v1","kind":"Pod","metadata":{"name":"web-1","namespace":"app","labels":{"app":"web","linkerd.io/control-plane-ns":"linkerd"}},"spec":{"hostNetwork":true,"containers":[{"ports":[{"name":"http","containerPort":8080}]}]},"status":{"podIP":"10.1.2.3"}}}
+pod_of_others: {"type":"MODIFIED","object":{"apiVersion":"v1","kind":"Pod","metadata":{"name":"web-1","namespace":"app","labels":{"app":"web","linkerd.io/control-plane-ns":"linkerd-2"}},"spec":{"containers":[{"ports":[{"name":"http","containerPort":8080}]}]},"status":{"podIP":"10.1.2.3"}}}
+pod_opaque: {"type":"MODIFIED","object":{"apiVersion":"v1","kind":"Pod","metadata":{"name":"web-1","namespace":"app","annotations":{"config.linkerd.io/opaque-ports":"8080"},"labels":{"app":"web","linkerd.io/control-plane-ns":"linkerd"}},"spec":{"containers":[{"ports":[{"name":"http","containerPort":8080}]}]},"status":{"podIP":"10.1.2.3"}}}
+pod_of_db: {"type":"ADDED","object":{"apiVersion":"v1","kind":"Pod","metadata":{"name":"web-1","namespace":"db","labels":{"app":"web","linkerd.io/control-plane-ns":"linkerd"}},"spec":{"serviceAccountName":"db","containers":[{"ports":[{"name":"http","containerPort":8080}]}]},"status":{"podIP":"10.1.2.3"}}}
+pod_in_db: {"type":"ADDED","object":{"apiVersion":"v1","kind":"Pod","metadata":{"name":"web-1","namespace":"db","labels":{"app":"web","linkerd.io/control-plane-ns":"linkerd"}},"spec":{"containers":[{"ports":[{"name":"http","containerPort":8080}]}]},"status":{"podIP":"10.1.2.3"}}}
+bare_pod: {"type":"ADDED","object":{"apiVersion":"v1","kind":"Pod","metadata":{"name":"web-1","namespace":"app"},"status":{"podIP":"10.1.2.3"}}}
+bare_pod_2: {"type":"ADDED","object":{"apiVersion":"v1","kind":"Pod","metadata":{"name":"web-2","namespace":"app"},"status":{"podIP":"10.1.2.3"}}}
+bare_pod_of_api: {"type":"MODIFIED","object":{"apiVersion":"v1","kind":"Pod","metadata":{"name":"web-1","namespace":"app"},"spec":{"serviceAccountName":"api"},"status":{"podIP":"10.1.2.3"}}}
+one: frame 1 00000000130a110a0f0a0a0a050d0302010a10903f18904e
+both: frame 1 00000000240a220a0f0a0a0a050d0302010a10903f18904e0a0f0a0a0a050d0402010a10903f18904e
+no_service: frame 1 00000000021a00
+no_endpoints: frame 1 00000000041a020801
+second: frame 1 00000000130a110a0f0a0a0a050d0402010a10903f18904e
+fifth: frame 1 00000000130a110a0f0a0a0a050d0502010a10903f18904e
+sixth: frame 1 00000000130a110a0f0a0a0a050d0602010a10903f18904e
+fifth_and_sixth: frame 1 00000000240a220a0f0a0a0a050d0502010a10903f18904e0a0f0a0a0a050d0602010a10903f18904e
+both_and_6: frame 1 00000000440a420a0f0a0a0a050d0302010a10903f18904e0a0f0a0a0a050d0402010a10903f18904e0a1e0a190a1412120900000000000000fd11010000000000000010903f18904e
+first_gone: frame 1 000000000e120c0a0a0a050d0302010a10903f
+second_gone: frame 1 000000000e120c0a0a0a050d0402010a10903f
+both_gone: frame 1 000000001a12180a0a0a050d0302010a10903f0a0a0a050d0402010a10903f
+first_and_6_gone: frame 1 000000002912270a0a0a050d0302010a10903f0a190a1412120900000000000000fd11010000000000000010903f
+meshed: frame 1 00000000860a83010a80010a0a0a050d0302010a10903f18904e220c0a03706f6412057765622d3122190a0e736572766963656163636f756e74120764656661756c742a3d0a3b0a3964656661756c742e6170702e736572766963656163636f756e742e6964656e746974792e6c696e6b6572642e636c75737465722e6c6f63616c32070a00120308af20
+meshed_by_api: frame 1 000000007c0a7a0a780a0a0a050d0302010a10903f18904e220c0a03706f6412057765622d3122150a0e736572766963656163636f756e7412036170692a390a370a356170692e6170702e736572766963656163636f756e742e6964656e746974792e6c696e6b6572642e636c75737465722e6c6f63616c32070a00120308af20
+meshed_in_db: frame 1 00000000790a770a750a0a0a050d0302010a10903f18904e220c0a03706f6412057765622d3122140a0e736572766963656163636f756e74120264622a370a350a3364622e64622e736572766963656163636f756e742e6964656e746974792e6c696e6b6572642e636c75737465722e6c6f63616c32070a00120308af20
+meshed_in_db_by_default: frame 1 00000000840a81010a7f0a0a0a050d0302010a10903f18904e220c0a03706f6412057765622d3122190a0e736572766963656163636f756e74120764656661756c742a3c0a3a0a3864656661756c742e64622e736572766963656163636f756e742e6964656e746974792e6c696e6b6572642e636c75737465722e6c6f63616c32070a00120308af20
+labelled: frame 1 000000003c0a3a0a380a0a0a050d0302010a10903f18904e220c0a03706f6412057765622d3122190a0e736572766963656163636f756e74120764656661756c74
+labelled_by_api: frame 1 00000000380a360a340a0a0a050d0302010a10903f18904e220c0a03706f6412057765622d3122150a0e736572766963656163636f756e741203617069
+labelled_2: frame 1 000000003c0a3a0a380a0a0a050d0302010a10903f18904e220c0a03706f6412057765622d3222190a0e736572766963656163636f756e74120764656661756c74
+opaque: frame 1 00000000830a80010a7e0a0a0a050d0302010a10903f18904e220c0a03706f6412057765622d3122190a0e736572766963656163636f756e74120764656661756c742a3d0a3b0a3964656661756c742e6170702e736572766963656163636f756e742e6964656e746974792e6c696e6b6572642e636c75737465722e6c6f63616c3205120308af20
+opaque_at_3306: frame 1 00000000830a80010a7e0a0a0a050d0302010a10ea1918904e220c0a03706f6412057765622d3122190a0e736572766963656163636f756e74120764656661756c742a3d0a3b0a3964656661756c742e6170702e736572766963656163636f756e742e6964656e746974792e6c696e6b6572642e636c75737465722e6c6f63616c3205120308af20
+meshed_at_3306: frame 1 00000000860a83010a80010a0a0a050d0302010a10ea1918904e220c0a03706f6412057765622d3122190a0e736572766963656163636f756e74120764656661756c742a3d0a3b0a3964656661756c742e6170702e736572766963656163636f756e742e6964656e746974792e6c696e6b6572642e636c75737465722e6c6f63616c32070a00120308af20
+"#;
+
+// A case, the names of its lines, and what is written: names, and lines that stand for themselves.
+const DRAINED: &str = "a drain right after a drain: service slice get drain drain drain => one
+an endpoint that goes: service slice_of_both get drain slice_of_second drain => both, first_gone
+an endpoint that goes before the first drain: service slice_of_both get slice_of_second drain => second
+an endpoint that goes and comes between two drains: service slice get drain slice_gone slice drain => one
+an endpoint that comes back with a Pod: service slice get drain slice_gone pod slice_of_pod drain => one, meshed
+a Service that loses its endpoints and then goes: service slice get drain slice_gone drain service_gone => one, no_endpoints, no_service
+an address of two slices, the first of which goes: bare_pod bare_pod_2 service slice_of_pod slice_b_of_pod_2 get drain slice_gone => labelled, labelled_2
+a list in place of two slices: service slice slice_b get drain list_b_and_c => both, fifth_and_sixth, both_gone
+an address in place of another: service slice get drain slice_of_second drain => one, second, first_gone
+both families, of which some go: service slice_of_both slice_6 get drain slice_of_second slice_6_gone drain => both_and_6, first_and_6_gone
+all endpoints of both families go: service slice_of_both slice_6 get drain empty_list drain => both_and_6, no_endpoints
+an endpoint that isn't ready any more: service slice get drain not_ready drain => one, no_endpoints
+a Service port that takes another name: service slice get drain service_admin drain service drain => one, no_endpoints, one
+a Service that becomes an ExternalName: service slice get drain service_external drain => one, no_service
+a list without the Service: service slice get drain nulls drain => one, no_service
+a Service that comes and goes without endpoints: get drain service drain service_gone drain => no_service, no_endpoints, no_service
+a Pod that comes after its slice, and goes: service slice_of_pod get drain pod drain pod_gone drain => one, meshed, one
+a Pod that comes back with another account: service slice_of_pod pod get drain pod_gone pod_of_api drain => meshed, meshed_by_api
+a Pod that changes its account: service slice_of_pod pod get drain pod_of_api drain => meshed, meshed_by_api
+a Pod that is set again as it was: service slice_of_pod pod get drain pod drain => meshed
+an endpoint of which only a label changes: service slice_of_pod bare_pod get drain bare_pod_of_api drain => labelled, labelled_by_api
+an endpoint that gets its labels: service slice get drain bare_pod slice_of_pod drain => one, labelled
+a Pod that leaves the mesh: service slice_of_pod pod get drain bare_pod drain => meshed, labelled
+a Pod that goes over to another control plane: service slice_of_pod pod get drain pod_of_others drain => meshed, labelled
+a Pod of the host's network: service slice_of_pod get drain pod_on_host drain pod drain => one, meshed
+a target in another namespace: service slice_of_pod_of_db pod get drain pod_of_db drain => one, meshed_in_db
+an endpoint of which only the identity changes: service slice_of_pod pod pod_in_db get drain slice_of_pod_of_db drain => meshed, meshed_in_db_by_default
+a target that isn't a Pod: service slice_of_node pod get drain slice_of_pod drain => one, meshed
+a port that becomes opaque by the Pod: service slice_of_pod pod get drain pod_opaque drain => meshed, opaque
+a port that is opaque by default, and isn't by the Pod: service slice_of_pod_at_3306 pod get drain pod_opaque drain => opaque_at_3306, meshed_at_3306
+a list without the Pod: service slice_of_pod pod get drain no_pods drain => meshed, one
+a drain right after a drain, without endpoints: service get drain drain => no_endpoints
+a drain right after a drain, without the Service: get drain drain => no_service
+lines that change nothing between two drains: service slice get drain bookmark nothing server_list slice_modified drain => one
+two subscriptions, drained at times of their own: service slice get get_2 drain slice_of_second drain_2 drain => one, frame 2 00000000130a110a0f0a0a0a050d0402010a10903f18904e, second, first_gone
+what isn't drained comes at the end, by id: get get_2 get_5 drain_2 => frame 2 00000000021a00, no_service, frame 5 00000000021a00
+a cancel before the first drain: service slice get cancel => nothing
+a cancel after a drain: service slice get drain cancel slice_gone => one
+a cancel of one of two: service slice get get_2 drain cancel slice_gone => one, frame 2 00000000041a020801
+a drain before the subscription: drain get => refused 1 NoSuchId 1, no_service
+a drain and a cancel of an id that was cancelled: get cancel drain cancel => refused 3 NoSuchId 1, refused 4 NoSuchId 1
+ids that go down, and the greatest cancelled: get_5 get cancel_5 drain_5 => refused 2 IdOrder 5, refused 4 NoSuchId 5
+a cancelled id doesn't come back: get cancel get get_2 => refused 3 IdOrder 1, frame 2 00000000021a00
+a refused line between two drains: service slice get drain broken drain => one, refused 5 NotJson
+a refused list, whose third item has no name: service slice slice_b get drain list_without_name drain => both, refused 6 Missing items[2].metadata.name
+a refused list, in which a slice stands twice: service slice slice_b get drain list_of_b_twice drain => both, refused 6 RepeatedItem 1
+";
+
+// How many objects may be held and subscriptions be live, how many addresses and how many bytes a message may have, and a
+// case as above.
+const LIMITED: &[(u32, u32, u32, u32, &str)] = &[
+    (
+        9,
+        9,
+        1000,
+        19,
+        "a message of the greatest length: service slice get drain => one",
+    ),
+    (
+        9,
+        9,
+        1000,
+        18,
+        "a message that is longer by a byte: service slice get drain drain cancel => oversize 1 19, refused 5 NoSuchId 1, refused 6 NoSuchId 1",
+    ),
+    (
+        9,
+        9,
+        1000,
+        4,
+        "too long at the end: service slice get => oversize 1 19",
+    ),
+    (
+        9,
+        9,
+        1000,
+        18,
+        "too long at the end, others are drained: service slice get get_2_of_api get_3 => oversize 1 19, frame 2 00000000021a00, oversize 3 19",
+    ),
+    (
+        9,
+        9,
+        1000,
+        19,
+        "too long after a drain: service slice get drain list_b_and_c drain slice_gone => one, oversize 1 36",
+    ),
+    (
+        9,
+        9,
+        1000,
+        25,
+        "too long in the second message of a batch, and the first isn't sent: service slice get drain slice_b drain list_c drain => one, second, oversize 1 26",
+    ),
+    (
+        9,
+        9,
+        1000,
+        26,
+        "both messages of that batch just fit: service slice get drain slice_b drain list_c drain => one, second, fifth, both_gone",
+    ),
+    (
+        9,
+        9,
+        1,
+        33,
+        "the first message that is too long is told: service slice_of_both slice_6 get => oversize 1 34",
+    ),
+    (
+        9,
+        9,
+        1,
+        18,
+        "the first of several that are too long is told: service slice_of_both slice_6 get => oversize 1 19",
+    ),
+    (
+        9,
+        1,
+        1000,
+        18,
+        "an id that ended leaves room, and doesn't come back: service slice get get_2 drain get get_2 => refused 4 TooManySubs 1, oversize 1 19, refused 6 IdOrder 1, oversize 2 19",
+    ),
+    (
+        9,
+        1,
+        1000,
+        99,
+        "a cancel leaves room: get get_2 cancel get_2 => refused 2 TooManySubs 1, frame 2 00000000021a00",
+    ),
+    (
+        2,
+        9,
+        1000,
+        99,
+        "an object too many, and one in place of another: service slice pod slice_modified => refused 3 Full 2",
+    ),
+    (
+        2,
+        9,
+        1000,
+        99,
+        "an object too many, a Pod, between two drains: service slice_of_pod get drain pod drain slice_modified drain => one, refused 5 Full 2",
+    ),
+    (
+        9,
+        9,
+        1,
+        99,
+        "one address in each message: service slice_of_both get drain list_b_and_c drain => one, second, fifth, sixth, first_gone, second_gone",
+    ),
+];
+
+// The line of a name, here or among those of the other rows.
+fn line_of(word: &str) -> Option<&'static str> {
+    for row in NAMED.lines() {
+        if let Some((name, line)) = row.split_once(": ") {
+            if name == word {
+                return Some(line);
+            }
+        }
+    }
+    named(word)
+}
+
+// The lines of these names.
+fn input_of(alloc: Global, words: &str) -> Result<String, Fail> {
+    let mut text = String::new(alloc);
+    for word in words.split(' ') {
+        let Some(line) = line_of(word) else {
+            return Err(Fail::new("no line has this name"));
+        };
+        write!(text, "{line}\n")?;
+    }
+    Ok(text)
+}
+
+// What is written.
+fn output_of(alloc: Global, outputs: &str) -> Result<String, Fail> {
+    let mut text = String::new(alloc);
+    if outputs == "nothing" {
+        return Ok(text);
+    }
+    for output in outputs.split(", ") {
+        let line = line_of(output).unwrap_or(output);
+        write!(text, "{line}\n")?;
+    }
+    Ok(text)
+}
+
+// The lines of a row, and what is written.
+fn case_of(alloc: Global, row: &str) -> Result<(String, String), Fail> {
+    let Some((_, case)) = row.split_once(": ") else {
+        return Err(Fail::new("a row has no case"));
+    };
+    let Some((words, outputs)) = case.split_once(" => ") else {
+        return Err(Fail::new("a row has no output"));
+    };
+    Ok((input_of(alloc, words)?, output_of(alloc, outputs)?))
+}
+
+// How a run ends that writes this.
+fn status_of(output: &str) -> Status {
+    if output.contains("refused ") {
+        Status::SomeRefused
+    } else {
+        Status::Done
+    }
+}
+
+#[test]
+fn drained_lines(rt: HostRuntime) -> Result<(), Fail> {
+    let alloc = rt.alloc();
+    for row in DRAINED.lines() {
+        let (text, expected) = case_of(alloc, row)?;
+        let status = status_of(&expected);
+        let same = comes_to(alloc, &text, status, &expected)?;
+        assert!(rt; same, "at {row}");
+    }
+    Ok(())
+}
+
+#[test]
+fn drains_within_limits(rt: HostRuntime) -> Result<(), Fail> {
+    let alloc = rt.alloc();
+    for &(objects, subs, frame_addrs, message, row) in LIMITED {
+        assert!(rt; frame_addrs >= 1);
+        let limits = Limits {
+            objects,
+            subs,
+            frame_addrs,
+            message,
+            ..Limits::USUAL
+        };
+        let (text, expected) = case_of(alloc, row)?;
+        let (status, written) = replayed_text(alloc, &limits, &text)?;
+        assert_eq!(rt; written.as_str(), expected.as_str(), "at {row}");
+        assert_eq!(rt; status, status_of(&expected), "at {row}");
+    }
+    Ok(())
+}
+
+// A slice of so many endpoints, the first of which is 10.<net>.0.0, as a line.
+fn push_slice(text: &mut String, net: u32, count: u32) -> Result<(), Fail> {
+    text.push_str(
+        r#"{"type":"ADDED","object":{"apiVersion":"discovery.k8s.io/v1","kind":"EndpointSlice","metadata":{"name":"web-a","namespace":"app","labels":{"kubernetes.io/service-name":"web"}},"addressType":"IPv4","endpoints":["#,
+    )?;
+    for i in 0..count {
+        if i > 0 {
+            text.push_str(",")?;
+        }
+        let high = i / 250;
+        let low = i % 250;
+        write!(text, "{{\"addresses\":[\"10.{net}.{high}.{low}\"]}}")?;
+    }
+    text.push_str("],\"ports\":[{\"name\":\"http\",\"port\":8080}]}}\n")?;
+    Ok(())
+}
+
+// What goes round each address of a message that adds, and of one that removes.
+const ADDED: (&str, &str) = ("0a0f", "18904e");
+
+const REMOVED: (&str, &str) = ("", "");
+
+// A frame of the endpoints from one place to before another: its length and the message's head, and the addresses.
+fn push_frame(
+    text: &mut String,
+    head: &str,
+    (before, after): (&str, &str),
+    net: u32,
+    from: u32,
+    to: u32,
+) -> Result<(), Fail> {
+    write!(text, "frame 1 00{head}")?;
+    for i in from..to {
+        let high = i / 250;
+        let low = i % 250;
+        write!(
+            text,
+            "{before}0a0a0a050d{low:02x}{high:02x}{net:02x}0a10903f{after}"
+        )?;
+    }
+    text.push_str("\n")?;
+    Ok(())
+}
+
+// 2,500 endpoints, and 1,200 others in place of them: the new ones come first, 1,000 in a message, then the old ones go.
+#[test]
+fn many_in_place_of_many(rt: HostRuntime) -> Result<(), Fail> {
+    let alloc = rt.alloc();
+    let drain = "{\"control\":\"drain\",\"id\":1}\n";
+    let mut text = format!(in alloc; "{SERVICE}\n{GET}\n")?;
+    push_slice(&mut text, 0, 2500)?;
+    text.push_str(drain)?;
+    push_slice(&mut text, 1, 1200)?;
+    text.push_str(drain)?;
+    text.push_str(drain)?;
+    let mut expected = String::new(alloc);
+    push_frame(&mut expected, "0000426c0ae88401", ADDED, 0, 0, 1000)?;
+    push_frame(&mut expected, "0000426c0ae88401", ADDED, 0, 1000, 2000)?;
+    push_frame(&mut expected, "000021370ab442", ADDED, 0, 2000, 2500)?;
+    push_frame(&mut expected, "0000426c0ae88401", ADDED, 1, 0, 1000)?;
+    push_frame(&mut expected, "00000d4b0ac81a", ADDED, 1, 1000, 1200)?;
+    push_frame(&mut expected, "00002ee312e05d", REMOVED, 0, 0, 1000)?;
+    push_frame(&mut expected, "00002ee312e05d", REMOVED, 0, 1000, 2000)?;
+    push_frame(&mut expected, "0000177312f02e", REMOVED, 0, 2000, 2500)?;
+    let same = comes_to(alloc, &text, Status::Done, &expected)?;
+    assert!(rt; same);
+    Ok(())
+}

@@ -1,0 +1,125 @@
+-- What a hub shows of itself, and what its calls come to.
+use Rattle.std.specs.Prelude.{◌≡◌, ℕ, Bool, true, false, List, [], ◌∷◌, ◌++◌, Option, Some, None, Result, Ok, Err, is_some, length}
+use Rattle.std.specs.FinMap as map
+use Rattle.mesh_base.specs.declared.limits.Limits.{Limits}
+use Rattle.mesh_base.specs.declared.sub_id.SubId.{SubId}
+use Rattle.view_types.specs.Objects.{ObjectMap}
+use Rattle.view_types.specs.declared.config.Config.{Config}
+use Rattle.view_types.specs.declared.message.Message.{Message}
+use Rattle.view_types.specs.declared.query.Query.{Query}
+use Rattle.view_rules.specs.Batch.{messages_between}
+use Rattle.view_rules.specs.Views.{view_of}
+use Rattle.watch_events.specs.declared.event.Event.{Event}
+use Rattle.mesh_hub.specs.Drains.{frames_within, too_long, unless_too_long}
+use Rattle.mesh_hub.specs.Events.{event_refusal, objects_after}
+use Rattle.mesh_hub.specs.Ids.{at_id, ended, in_place, subscribe_refusal}
+use Rattle.mesh_hub.specs.declared.hub.Hub.{Hub}
+use Rattle.mesh_hub.specs.declared.hub.Subscription.{Subscription}
+use Rattle.mesh_hub.specs.declared.refusal.HubFault.{HubFault}
+use Rattle.mesh_hub.specs.declared.refusal.HubFault.TheVariants.{Memory, Full, TooManySubs, IdOrder, NoSuchId, Oversize}
+use Rattle.mesh_hub.specs.declared.refusal.NoSuchId.{NoSuchId as NotLive}
+
+-- The objects held, the live subscriptions in the order of their ids, each with the view that it was last shown, and
+-- the greatest accepted id. Once memory was wanting, a hub is spent.
+pub record HubState : Type 0 where
+  pub config : Config
+  pub limits : Limits
+  pub objects : ObjectMap
+  pub subs : List Subscription
+  pub last : Option ℕ
+  pub spent : Bool
+
+abbrev pub state_of : Hub → HubState
+state_of hub = record { config = hub.config; limits = hub.limits; objects = hub.store.objects; subs = hub.subs; last = hub.last; spent = hub.spent }
+
+-- nothing is held or asked for
+abbrev pub fresh : Config → Limits → HubState
+fresh config limits = record { config = config; limits = limits; objects = map.empty; subs = []; last = None; spent = false }
+
+-- ---- what a call comes to
+
+-- Memory was wanting: the hub is spent, and lets go of no subscription.
+pub record Spends (old new : HubState) : Type 0 where
+  pub spent : new.spent ≡ true
+  pub subs : new.subs ≡ old.subs
+  pub last : new.last ≡ old.last
+
+-- The call answers this and leads here. A spent hub can't.
+pub record Goes {T : Type 0} (old : HubState) (expected : Result T HubFault) (after : HubState) (result : Result T HubFault) (new : HubState) : Type 0 where
+  pub going : old.spent ≡ false
+  pub answer : result ≡ expected
+  pub state : new ≡ after
+
+abbrev pub Answers : {T : Type 0} → HubState → Result T HubFault → HubState → Result T HubFault → HubState → Type 0
+Answers old answer after (Ok value) new = Goes old answer after (Ok value) new
+Answers old answer after (Err Memory) new = Spends old new
+Answers old answer after (Err (Full held)) new = Goes old answer after (Err (Full held)) new
+Answers old answer after (Err (TooManySubs live)) new = Goes old answer after (Err (TooManySubs live)) new
+Answers old answer after (Err (IdOrder last)) new = Goes old answer after (Err (IdOrder last)) new
+Answers old answer after (Err (NoSuchId id)) new = Goes old answer after (Err (NoSuchId id)) new
+Answers old answer after (Err (Oversize bytes)) new = Goes old answer after (Err (Oversize bytes)) new
+
+-- what a call answers that is refused or not
+abbrev pub answer_of : Option HubFault → Result (Unit {0}) HubFault
+answer_of None = Ok tt
+answer_of (Some fault) = Err fault
+
+-- a refused call leads to nothing
+abbrev pub unless_refused : {S : Type 0} → Option HubFault → S → S → S
+unless_refused None before after = after
+unless_refused (Some fault) before after = before
+
+-- ---- the calls
+
+abbrev pub apply_refusal : HubState → Event → Option HubFault
+apply_refusal now event = event_refusal now.limits.objects now.objects event
+
+abbrev pub applied : HubState → Event → HubState
+applied now event = unless_refused (apply_refusal now event) now (record now { objects = objects_after now.objects event })
+
+abbrev pub new_refusal : HubState → ℕ → Option HubFault
+new_refusal now id = subscribe_refusal now.limits.subs now.last (length now.subs) id
+
+abbrev pub subscribed : HubState → SubId → Query → HubState
+subscribed now id query = unless_refused (new_refusal now id.0) now (record now { subs = now.subs ++ record { id = id; query = query; shown = None } ∷ []; last = Some id.0 })
+
+abbrev pub id_of : Subscription → ℕ
+id_of sub = sub.id.0
+
+-- the subscription under an id
+abbrev pub sub_at : ℕ → List Subscription → Option Subscription
+sub_at id subs = at_id id_of id subs
+
+abbrev pub is_live : ℕ → List Subscription → Bool
+is_live id subs = is_some (sub_at id subs)
+
+abbrev pub cancel_answer : Option Subscription → Result (Unit {0}) NotLive
+cancel_answer (Some sub) = Ok tt
+cancel_answer None = Err (record {})
+
+abbrev pub cancelled : HubState → ℕ → HubState
+cancelled now id = record now { subs = in_place id_of id ended now.subs }
+
+-- A cancellation takes no memory, and a spent hub does it too.
+pub record Cancels (id : ℕ) (old : HubState) (result : Result (Unit {0}) NotLive) (new : HubState) : Type 0 where
+  pub answer : result ≡ cancel_answer (sub_at id old.subs)
+  pub state : new ≡ cancelled old id
+
+-- the messages from the view that a subscriber was last shown to that of the objects held
+abbrev pub messages_for : HubState → Subscription → List Message
+messages_for now sub = messages_between now.limits sub.shown (view_of now.config now.objects sub.query)
+
+-- what a drain answers
+abbrev pub frames_for : HubState → ℕ → Option Subscription → Result (List (List ℕ)) HubFault
+frames_for now id None = Err (NoSuchId id)
+frames_for now id (Some sub) = frames_within now.limits.message (messages_for now sub)
+
+abbrev pub frames_at : HubState → ℕ → Result (List (List ℕ)) HubFault
+frames_at now id = frames_for now id (sub_at id now.subs)
+
+-- what stands in the place of a subscription once it was drained
+abbrev pub shown_now : HubState → Subscription → List Subscription
+shown_now now sub = unless_too_long (too_long now.limits.message (messages_for now sub)) (record sub { shown = view_of now.config now.objects sub.query })
+
+abbrev pub drained : HubState → ℕ → HubState
+drained now id = record now { subs = in_place id_of id (shown_now now) now.subs }

@@ -1,0 +1,16 @@
+-- What holds of all that is held: each object is as its reader gives it, and stands at its own key.
+use Rattle.std.specs.Prelude.{◌≡◌, List, Some}
+use Rattle.std.specs.FinMap.{get}
+use Rattle.mesh_base.specs.declared.key.ObjKey.{ObjKey}
+use Rattle.line_run.specs.Rows.{Row}
+use Rattle.view_types.specs.declared.object.Object.{Object}
+use Rattle.view_types.specs.Lawful.{IsLawful}
+use Rattle.view_types.specs.Objects.{AtKeys}
+use Rattle.mesh_hub.specs.History.{after}
+use Rattle.mesh_hub.specs.Program.{Program}
+
+abbrev pub HeldAreLawful : Program → Type 0
+HeldAreLawful program = (past : List Row) (key : ObjKey) (object : Object) → get (after program past).objects key ≡ Some object → IsLawful object
+
+abbrev pub HeldAtKeys : Program → Type 0
+HeldAtKeys program = (past : List Row) → AtKeys (after program past).objects

@@ -1,0 +1,22 @@
+-- How a refusal is written.
+use Rattle.std.specs.Prelude.{ℕ, List, [], ◌++◌, codes}
+use Rattle.std.specs.Fmt.{decimal}
+use Rattle.watch_events.specs.FaultText.{line_fault_text}
+use Rattle.mesh_hub.specs.declared.refusal.HubFault.{HubFault}
+use Rattle.mesh_hub.specs.declared.refusal.HubFault.TheVariants as hub
+use Rattle.mesh_hub.specs.declared.refusal.Refusal.{Refusal}
+use Rattle.mesh_hub.specs.declared.refusal.Refusal.TheVariants as refusals
+
+-- Out of memory has no text, and a message that is too long has a line of its own.
+abbrev pub hub_fault_text : HubFault → List ℕ
+hub_fault_text hub.Memory = []
+hub_fault_text (hub.Full held) = codes "Full " ++ decimal held
+hub_fault_text (hub.TooManySubs live) = codes "TooManySubs " ++ decimal live
+hub_fault_text (hub.IdOrder last) = codes "IdOrder " ++ decimal last
+hub_fault_text (hub.NoSuchId id) = codes "NoSuchId " ++ decimal id
+hub_fault_text (hub.Oversize bytes) = []
+
+abbrev pub refusal_text : Refusal → List ℕ
+refusal_text (refusals.Line fault) = line_fault_text fault
+refusal_text (refusals.Hub fault) = hub_fault_text fault
+refusal_text refusals.NotHere = codes "NotHere"

@@ -1,0 +1,50 @@
+-- What the steps of a drain come to: where the subscription stands, what it is due, and what becomes of it.
+use Rattle.std.specs.Prelude.{◌≡◌, ◌<◌, ℕ, suc, Bool, true, false, List, ◌++◌, Option, Some, None, Result, Ok, Err, nat_lt, length, take, drop, remove, slice_index_or, slice_set}
+use Rattle.view_types.specs.declared.message.Message.{Message}
+use Rattle.view_types.specs.declared.view.View.{View}
+use Rattle.view_rules.specs.Fold.{IsOrderlyIfShown}
+use Rattle.view_rules.specs.Views.{view_of}
+use Rattle.proxy_proto.specs.Messages.{canonical}
+use Rattle.proto_wire.specs.Frames.{frame_of}
+use Rattle.mesh_hub.specs.Drains.{frames_of, too_long}
+use Rattle.mesh_hub.specs.Hub.{HubState, id_of, messages_for, sub_at}
+use Rattle.mesh_hub.specs.Ids.{in_place}
+use Rattle.mesh_hub.specs.declared.hub.Subscription.{Subscription}
+use Rattle.mesh_hub.specs.declared.refusal.HubFault.{HubFault}
+use Rattle.mesh_hub.specs.declared.refusal.HubFault.TheVariants.{Oversize}
+
+-- The subscription under an id stands at a place, and others are put there in its place.
+pub record StandsAt (id : ℕ) (subs : List Subscription) (at : ℕ) : Type 0 where
+  pub sub : Subscription
+  pub found : sub_at id subs ≡ Some sub
+  pub within : at < length subs
+  pub read : (default : Subscription) → slice_index_or subs at default ≡ sub
+  pub giving : (f : Subscription → List Subscription) → in_place id_of id f subs ≡ take at subs ++ (f sub ++ drop (suc at) subs)
+
+-- the frame of a message, unless it is longer than may be
+abbrev pub frame_unless : Bool → List ℕ → Result (List ℕ) HubFault
+frame_unless false bytes = Ok (frame_of bytes)
+frame_unless true bytes = Err (Oversize (length bytes))
+
+abbrev pub frame_within : ℕ → Message → Result (List ℕ) HubFault
+frame_within limit message = frame_unless (nat_lt limit (length (canonical message))) (canonical message)
+
+-- the view that a subscriber is to see, and the frames of its messages, none of which is too long
+pub record IsDue (now : HubState) (sub : Subscription) (seen : Option View) (sent : List (List ℕ)) : Type 0 where
+  pub fits : too_long now.limits.message (messages_for now sub) ≡ None
+  pub frames : sent ≡ frames_of (messages_for now sub)
+  pub view : seen ≡ view_of now.config now.objects sub.query
+  pub orderly : IsOrderlyIfShown seen
+
+abbrev pub IsDueOrTooLong : HubState → Subscription → Result (Option View × List (List ℕ)) HubFault → Type 0
+IsDueOrTooLong now sub (Ok due) = IsDue now sub due.0 due.1
+IsDueOrTooLong now sub (Err (Oversize bytes)) = too_long now.limits.message (messages_for now sub) ≡ Some bytes
+IsDueOrTooLong now sub (Err _) = Unit {0}
+
+-- The view that the subscriber at a place was shown is noted.
+abbrev pub Shows : ℕ → Option View → HubState → HubState → Type 0
+Shows at view old new = (sub : Subscription) → slice_index_or old.subs at sub ≡ sub → new ≡ record old { subs = slice_set old.subs at (record sub { shown = view }) }
+
+-- The subscription at a place ends.
+abbrev pub Ends : ℕ → HubState → HubState → Type 0
+Ends at old new = new ≡ record old { subs = remove old.subs at }

@@ -1,6 +1,0 @@
-use Rattle.replay_core.proofs.Telling.{told_by_the_last}
-use Rattle.replay_core.specs.Program.{replay_of}
-use Rattle.replay_core.proofs.laws.held_is_told_by_the_last.Goals as goal
-
-pub returns : goal.returns
-returns c config limits = told_by_the_last (replay_of config limits) (c.lines_are_lawful.ensures.texts config)

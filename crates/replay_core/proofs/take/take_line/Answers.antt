@@ -1,0 +1,72 @@
+use Rattle.std.proofs.Common.{Ok, Some, None, refl}
+use Rattle.watch_events.specs.declared.line.Line.TheVariants as lines
+use Rattle.mesh_hub.specs.Program.{replay_of}
+use Rattle.mesh_hub.specs.declared.refusal.Refusal.TheVariants as refusals
+use Rattle.mesh_hub.proofs.Optional.{Becomes-same, Becomes-weaker}
+use Rattle.replay_core.specs.Take.{TakesByReplies, TakesFrom}
+use Rattle.replay_core.proofs.Lines.{IfOk-both, IfOk-weaker, blank_from, cancel_from, cancel_takes, drain_from, drain_takes, event_from, silent, stop_from, subscribe_from, takes_none, takes_refusal, takes_reply}
+use Rattle.replay_core.proofs.take.take_line.Goals as goal
+
+pub returns-in-Blank-clause-state : goal.returns-in-Blank-clause-state
+returns-in-Blank-clause-state g c = rw c.in-Blank.is (λ config limits.
+    Becomes-same (g.H.Machine.state c.args.hub.now) (TakesFrom (replay_of config limits) (Ok lines.Blank) None c.args.live.now c.args.live.now c.args.out.now.items c.args.out.now.items)
+    (λ held. blank_from config limits c.args.live.now c.args.out.now.items held))
+
+pub returns-in-Blank-clause-replies : goal.returns-in-Blank-clause-replies
+returns-in-Blank-clause-replies g c = let out = c.args.out.now.items in rw c.in-Blank.is (λ config limits.
+    let program = replay_of config limits in
+    Becomes-same (g.H.Machine.replies c.args.hub.now) (TakesByReplies program (Ok lines.Blank) None out out) (λ told. takes_none program (Ok lines.Blank) out told told (λ number left more. refl) refl))
+
+pub returns-in-Stop-clause-state : goal.returns-in-Stop-clause-state
+returns-in-Stop-clause-state g c = rw c.in-Stop.is (λ config limits.
+    Becomes-same (g.H.Machine.state c.args.hub.now) (TakesFrom (replay_of config limits) (Ok lines.Stop) (Some refusals.NotHere) c.args.live.now c.args.live.now c.args.out.now.items c.args.out.now.items)
+    (λ held. stop_from config limits c.args.live.now c.args.out.now.items held))
+
+pub returns-in-Stop-clause-replies : goal.returns-in-Stop-clause-replies
+returns-in-Stop-clause-replies g c = let out = c.args.out.now.items in rw c.in-Stop.is (λ config limits.
+    let program = replay_of config limits in
+    Becomes-same (g.H.Machine.replies c.args.hub.now) (TakesByReplies program (Ok lines.Stop) (Some refusals.NotHere) out out)
+    (λ told. takes_refusal program (Ok lines.Stop) out refusals.NotHere told (λ number left more. refl)))
+
+pub returns-in-Event-clause-state : goal.returns-in-Event-clause-state
+returns-in-Event-clause-state g c = rw c.in-Event.is (IfOk-weaker c.apply.result _ _ (λ refusal by config limits.
+    Becomes-weaker (g.H.Machine.state c.args.hub.now) (g.H.Machine.state c.apply.new.hub) _ _
+    (λ old new makes. event_from config limits c.in-Event.event refusal c.args.live.now c.args.out.now.items old new makes) by) c.apply.ensures.state)
+
+pub returns-in-Event-clause-replies : goal.returns-in-Event-clause-replies
+returns-in-Event-clause-replies g c = let out = c.args.out.now.items in rw c.in-Event.is (IfOk-weaker c.apply.result _ _ (λ refusal by config limits.
+    Becomes-weaker (g.H.Machine.replies c.args.hub.now) (g.H.Machine.replies c.apply.new.hub) _ _
+    (λ old new replied. takes_reply (replay_of config limits) (Ok (lines.Event c.in-Event.event)) out refusal out old new (λ number left more. refl) (silent refusal out old new replied)) by) c.apply.ensures.replies)
+
+pub returns-in-Subscribe-clause-state : goal.returns-in-Subscribe-clause-state
+returns-in-Subscribe-clause-state g c = rw c.in-Subscribe.is (IfOk-both c.subscribe.result _ _ _ (λ refusal by adds config limits.
+    Becomes-weaker (g.H.Machine.state c.args.hub.now) (g.H.Machine.state c.subscribe.new.hub) _ _
+    (λ old new makes. subscribe_from config limits c.in-Subscribe.id c.in-Subscribe.query refusal c.args.live.now c.subscribe.new.live c.args.out.now.items old new makes adds) by)
+    c.subscribe.ensures.state c.subscribe.ensures.live)
+
+pub returns-in-Subscribe-clause-replies : goal.returns-in-Subscribe-clause-replies
+returns-in-Subscribe-clause-replies g c = let out = c.args.out.now.items in rw c.in-Subscribe.is (IfOk-weaker c.subscribe.result _ _ (λ refusal by config limits.
+    Becomes-weaker (g.H.Machine.replies c.args.hub.now) (g.H.Machine.replies c.subscribe.new.hub) _ _
+    (λ old new replied. takes_reply (replay_of config limits) (Ok (lines.Subscribe c.in-Subscribe.id c.in-Subscribe.query)) out refusal out old new (λ number left more. refl) (silent refusal out old new replied)) by) c.subscribe.ensures.replies)
+
+pub returns-in-Cancel-clause-state : goal.returns-in-Cancel-clause-state
+returns-in-Cancel-clause-state g c = rw c.in-Cancel.is (λ config limits.
+    Becomes-weaker (g.H.Machine.state c.args.hub.now) (g.H.Machine.state c.cancel.new.hub) _ _
+    (λ old new makes. cancel_from config limits c.in-Cancel.id c.cancel.result c.args.live.now c.cancel.new.live c.args.out.now.items old new makes c.cancel.ensures.live) c.cancel.ensures.state)
+
+pub returns-in-Cancel-clause-replies : goal.returns-in-Cancel-clause-replies
+returns-in-Cancel-clause-replies g c = rw c.in-Cancel.is (λ config limits.
+    Becomes-weaker (g.H.Machine.replies c.args.hub.now) (g.H.Machine.replies c.cancel.new.hub) _ _
+    (λ old new unreplied. cancel_takes config limits c.in-Cancel.id c.cancel.result c.args.out.now.items old new unreplied) c.cancel.ensures.replies)
+
+pub returns-in_ok-outcome-in-Drain-clause-state : goal.returns-in_ok-outcome-in-Drain-clause-state
+returns-in_ok-outcome-in-Drain-clause-state g c = rw c.in-Drain.is (λ config limits.
+    Becomes-weaker (g.H.Machine.state c.args.hub.now) (g.H.Machine.state c.drain.new.hub) _ _
+    (λ old new drains. drain_from config limits c.in-Drain.id c.in_ok-outcome-in-Drain.outcome c.settle.result c.args.live.now c.settle.new.live c.args.out.now.items c.drain.new.out.items old new drains
+    c.settle.ensures.refusal c.settle.ensures.live) c.in_ok-outcome-in-Drain.ensures.state)
+
+pub returns-in_ok-outcome-in-Drain-clause-replies : goal.returns-in_ok-outcome-in-Drain-clause-replies
+returns-in_ok-outcome-in-Drain-clause-replies g c = rw c.in-Drain.is (λ config limits.
+    Becomes-weaker (g.H.Machine.replies c.args.hub.now) (g.H.Machine.replies c.drain.new.hub) _ _
+    (λ old new replied. drain_takes config limits c.in-Drain.id c.in_ok-outcome-in-Drain.outcome c.settle.result c.args.out.now.items c.drain.new.out.items old new replied c.settle.ensures.refusal)
+    c.in_ok-outcome-in-Drain.ensures.replies)

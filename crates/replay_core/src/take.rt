@@ -1,0 +1,158 @@
+ghost use Rattle.std.specs.Prelude.{◌≡◌, ◌∷◌, [], ◌++◌, IfOk, Ok};
+ghost use Rattle.std.specs.Option.{option_copied};
+ghost use Rattle.mesh_base.specs.declared.limits.Limits.{Limits};
+ghost use Rattle.view_types.specs.declared.config.Config.{Config as TheConfig};
+ghost use Rattle.watch_events.specs.Lawful.{IsLawfulEvent, IsLawfulLine};
+ghost use Rattle.watch_events.specs.Lines.{row_says, text_line};
+ghost use Rattle.mesh_hub.specs.Hub.{applied, apply_refusal, cancelled, new_refusal, sub_at, subscribed};
+ghost use Rattle.mesh_hub.specs.Ids.{ended, in_place, unknown_refusal};
+ghost use Rattle.mesh_hub.specs.Optional.{Becomes};
+ghost use Rattle.mesh_hub.specs.Program.{replay_of};
+ghost use Rattle.replay_core.specs.Take.{IsRefusalBy, IsUnread, Makes, Replied, TakesByReplies, TakesFrom, Unreplied, drain_refusal, live_drained, live_unless};
+
+use crate::drain::{Drained, drain};
+use crate::lives::take_out;
+use mesh_base::list::List;
+use mesh_base::memory::Memory;
+use mesh_base::steps::Steps;
+use mesh_base::sub_id::SubId;
+use mesh_hub::machine::Machine;
+use mesh_hub::refusal::{HubFault, Refusal};
+use std::alloc::Global;
+use view_types::config::Config;
+use view_types::query::Query;
+use watch_events::event::Event;
+use watch_events::line::{Line, LineFault};
+use watch_events::read::read_row;
+
+// The refusal that a fault is.
+fn refusal_by(fault: HubFault) -> Result<Option<Refusal>, Memory>
+    ensures { IfOk result (IsRefusalBy fault) }
+{
+    match fault {
+        HubFault::Memory => Err(Memory),
+        fault => Ok(Some(Refusal::Hub(fault))),
+    }
+}
+
+// Each of these answers why the line is refused, if it is.
+
+fn apply<H: Machine>(hub: &mut H, event: Event) -> Result<Option<Refusal>, Memory>
+    requires { IsLawfulEvent event }
+    ensures state { IfOk result (λ refusal. Becomes (H.state hub.old) (H.state hub.new) (λ old new. Makes (apply_refusal old event) (applied old event) refusal new)) }
+    ensures replies { IfOk result (λ refusal. Becomes (H.replies hub.old) (H.replies hub.new) (Replied refusal [] [])) }
+{
+    match hub.apply(event, &mut Steps::<()>::new()) {
+        Ok(()) => Ok(None),
+        Err(fault) => refusal_by(fault),
+    }
+}
+
+fn subscribe<H: Machine>(
+    hub: &mut H,
+    live: &mut List<u32>,
+    id: SubId,
+    query: Query,
+) -> Result<Option<Refusal>, Memory>
+    ensures state { IfOk result (λ refusal. Becomes (H.state hub.old) (H.state hub.new) (λ old new. Makes (new_refusal old id.0) (subscribed old id query) refusal new)) }
+    ensures replies { IfOk result (λ refusal. Becomes (H.replies hub.old) (H.replies hub.new) (Replied refusal [] [])) }
+    ensures live { IfOk result (λ refusal. live.new ≡ live_unless refusal live.old (live.old ++ id.0 ∷ [])) }
+{
+    match hub.subscribe(id, query, &mut Steps::<()>::new()) {
+        Ok(()) => {
+            live.add(id.0)?;
+            Ok(None)
+        }
+        Err(fault) => refusal_by(fault),
+    }
+}
+
+fn cancel<H: Machine>(
+    alloc: Global,
+    hub: &mut H,
+    live: &mut List<u32>,
+    id: SubId,
+) -> Option<Refusal>
+    ensures state { Becomes (H.state hub.old) (H.state hub.new) (λ old new. Makes (unknown_refusal id.0 (sub_at id.0 old.subs)) (cancelled old id.0) result new) }
+    ensures replies { Becomes (H.replies hub.old) (H.replies hub.new) (Unreplied result) }
+    ensures live { live.new ≡ live_unless result live.old (in_place (λ other. other) id.0 ended live.old) }
+{
+    match hub.cancel(id) {
+        Ok(()) => {
+            take_out(alloc, live, id.0);
+            None
+        }
+        Err(_) => Some(Refusal::Hub(HubFault::NoSuchId { id: id.0 })),
+    }
+}
+
+// Takes an id out of those that live where its drain has ended it.
+fn settle(alloc: Global, live: &mut List<u32>, id: SubId, outcome: Drained) -> Option<Refusal>
+    ensures refusal { result ≡ drain_refusal outcome }
+    ensures live { live.new ≡ live_drained id.0 outcome live.old }
+{
+    match outcome {
+        Drained::Sent => None,
+        Drained::Ended => {
+            take_out(alloc, live, id.0);
+            None
+        }
+        Drained::Undrained(fault) => Some(Refusal::Hub(fault)),
+    }
+}
+
+fn take_line<H: Machine>(
+    alloc: Global,
+    hub: &mut H,
+    live: &mut List<u32>,
+    line: Line,
+    out: &mut Vec<u8>,
+) -> Result<Option<Refusal>, Memory>
+    requires { IsLawfulLine line }
+    ensures state { IfOk result (λ refusal. (config : TheConfig) (limits : Limits) → Becomes (H.state hub.old) (H.state hub.new)
+        (TakesFrom (replay_of config limits) (Ok line) refusal live.old live.new out.old.items out.new.items)) }
+    ensures replies { IfOk result (λ refusal. (config : TheConfig) (limits : Limits) → Becomes (H.replies hub.old) (H.replies hub.new)
+        (TakesByReplies (replay_of config limits) (Ok line) refusal out.old.items out.new.items)) }
+{
+    match line {
+        Line::Blank => Ok(None),
+        Line::Event(event) => apply(hub, event),
+        Line::Subscribe { id, query } => subscribe(hub, live, id, query),
+        Line::Cancel { id } => Ok(cancel(alloc, hub, live, id)),
+        Line::Drain { id } => {
+            let outcome = drain(alloc, hub, id, out)?;
+            Ok(settle(alloc, live, id, outcome))
+        }
+        Line::Stop => Ok(Some(Refusal::NotHere)),
+    }
+}
+
+// The refusal of a line that doesn't read.
+fn unread(fault: LineFault) -> Result<Option<Refusal>, Memory>
+    ensures { IfOk result (IsUnread fault) }
+{
+    match fault {
+        LineFault::Memory => Err(Memory),
+        fault => Ok(Some(Refusal::Line(fault))),
+    }
+}
+
+/// Does what a row says, and answers why it is refused, if it is.
+pub(crate) fn take_row<H: Machine>(
+    alloc: Global,
+    config: &Config,
+    hub: &mut H,
+    live: &mut List<u32>,
+    row: Option<&[u8]>,
+    out: &mut Vec<u8>,
+) -> Result<Option<Refusal>, Memory>
+    ensures state { IfOk result (λ refusal. (limits : Limits) → Becomes (H.state hub.old) (H.state hub.new)
+        (TakesFrom (replay_of config.now limits) (row_says (text_line config.now) (option_copied row.entry)) refusal live.old live.new out.old.items out.new.items)) }
+    ensures replies { IfOk result (λ refusal. (limits : Limits) → Becomes (H.replies hub.old) (H.replies hub.new)
+        (TakesByReplies (replay_of config.now limits) (row_says (text_line config.now) (option_copied row.entry)) refusal out.old.items out.new.items)) }
+{
+    match read_row(alloc, row, config) {
+        Ok(line) => take_line(alloc, hub, live, line, out),
+        Err(fault) => unread(fault),
+    }
+}

@@ -1,8 +1,0 @@
-use Rattle.view_diff.proofs.Keys.{keyed_before, keyed_rows}
-use Rattle.view_diff.proofs.batch.batch.Goals as goal
-
-pub to_rows-requires-clause-old : goal.to_rows-requires-clause-old
-to_rows-requires-clause-old c = rw c.rows_before.ensures (keyed_before _ c.requires.old)
-
-pub to_rows-requires-clause-new : goal.to_rows-requires-clause-new
-to_rows-requires-clause-new c = rw c.as_slice-rows.ensures (keyed_rows c.args.new.now c.requires.new)

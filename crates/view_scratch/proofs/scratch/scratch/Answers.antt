@@ -1,0 +1,13 @@
+use Rattle.std.proofs.Common.{Some, sym, ap, subst, ◌∙◌}
+use Rattle.view_types.specs.declared.view.View.TheVariants.{Endpoints}
+use Rattle.view_rules.proofs.Orderly.{endpoints_are_orderly}
+use Rattle.view_rules.specs.Fold.{IsOrderly}
+use Rattle.view_rules.specs.Views.{view_of}
+use Rattle.view_scratch.proofs.scratch.scratch.Goals as goal
+
+pub returns-in_ok-view-in-Get-clause-value : goal.returns-in_ok-view-in-Get-clause-value
+returns-in_ok-view-in-Get-clause-value c =
+    ap (λ view. Some (Endpoints view)) c.in_ok-view-in-Get.ensures ∙ ap (view_of c.args.config.now c.args.store.now.objects) (sym c.in-Get.is)
+
+pub returns-in_ok-view-in-Get-clause-orderly : goal.returns-in_ok-view-in-Get-clause-orderly
+returns-in_ok-view-in-Get-clause-orderly c = subst IsOrderly (sym c.in_ok-view-in-Get.ensures) (endpoints_are_orderly c.args.config.now _ _ _ _)
