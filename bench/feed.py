@@ -11,17 +11,30 @@ def managed_fields(manager, stamp):
     }]
 
 
-def slice_line(number, service, kind="ADDED"):
-    """One EndpointSlice of one endpoint, about 1.2 KB."""
-    stamp = "2026-03-%02dT%02d:%02d:%02dZ" % (number % 28 + 1, number % 24, number % 60, number // 60 % 60)
-    name = "web-%d-%05x" % (service, number)
-    endpoints = [{
-        "addresses": ["10.%d.%d.%d" % (number // 62500 % 250, number // 250 % 250, number % 250 + place)],
+def stamp_of(number):
+    return "2026-03-%02dT%02d:%02d:%02dZ" % (number % 28 + 1, number % 24, number % 60, number // 60 % 60)
+
+
+def address_of(number):
+    return "10.%d.%d.%d" % (number // 62500 % 250, number // 250 % 250, number % 250)
+
+
+def endpoint(number):
+    """One endpoint, and the Pod that it targets by name."""
+    return {
+        "addresses": [address_of(number)],
         "conditions": {"ready": True, "serving": True, "terminating": False},
         "nodeName": "worker-%d" % (number % 97), "zone": "eu-central-1a",
-        "targetRef": {"kind": "Pod", "namespace": "app", "name": "web-%d-%d" % (number, place),
-                      "uid": "7d0f0d5e-0000-4000-8000-%012d" % (number * 2 + place)},
-    } for place in range(1)]
+        "targetRef": {"kind": "Pod", "namespace": "app", "name": "web-%d-0" % number,
+                      "uid": "7d0f0d5e-0000-4000-8000-%012d" % (number * 2)},
+    }
+
+
+def slice_line(number, service, kind="ADDED", endpoints=None):
+    """One EndpointSlice: of one endpoint, about 1.2 KB, unless its endpoints are given."""
+    stamp = stamp_of(number)
+    name = "web-%d-%05x" % (service, number)
+    endpoints = [endpoint(number)] if endpoints is None else endpoints
     return json.dumps({
         "type": kind,
         "object": {
@@ -43,6 +56,31 @@ def slice_line(number, service, kind="ADDED"):
     }, separators=(",", ":"))
 
 
+def pod_line(number):
+    """The Pod that an endpoint targets, in the mesh, about 0.9 KB."""
+    return json.dumps({
+        "type": "ADDED",
+        "object": {
+            "kind": "Pod", "apiVersion": "v1",
+            "metadata": {
+                "name": "web-%d-0" % number, "generateName": "web-", "namespace": "app",
+                "uid": "7d0f0d5e-0000-4000-8000-%012d" % (number * 2), "resourceVersion": str(300000 + number),
+                "creationTimestamp": stamp_of(number),
+                "labels": {"app": "web", "linkerd.io/control-plane-ns": "linkerd", "pod-template-hash": "5d4f8c7b6"},
+                "annotations": {"linkerd.io/proxy-version": "edge-26.3.1"},
+                "managedFields": managed_fields("kubelet", stamp_of(number)),
+            },
+            "spec": {
+                "serviceAccountName": "web", "nodeName": "worker-%d" % (number % 97),
+                "containers": [{"name": "web", "image": "registry.example.com/web:1",
+                                "ports": [{"name": "http", "containerPort": 8080, "protocol": "TCP"}]}],
+            },
+            "status": {"phase": "Running", "podIP": address_of(number), "podIPs": [{"ip": address_of(number)}],
+                       "conditions": [{"type": "Ready", "status": "True"}]},
+        },
+    }, separators=(",", ":"))
+
+
 def service_line(service):
     return json.dumps({
         "type": "ADDED",
@@ -59,3 +97,7 @@ def subscribe_line(number, service):
     return json.dumps({"control": "subscribe", "id": number,
                        "query": {"method": "Get", "path": "web-%d.app.svc.cluster.local:80" % service}},
                       separators=(",", ":"))
+
+
+def drain_line(number):
+    return json.dumps({"control": "drain", "id": number}, separators=(",", ":"))
