@@ -7,6 +7,8 @@
 #[cfg(test)]
 mod durations;
 #[cfg(test)]
+mod frames;
+#[cfg(test)]
 mod lines;
 #[cfg(test)]
 mod networks;

@@ -1,2 +1,4 @@
 pub mod Frames
+pub mod Given
+pub mod Unframing
 pub mod Wire

@@ -74,6 +74,15 @@ scan_in (suc n) total (b ∷ bytes) = scan_step (scan_in n total) (record_in (to
 abbrev pub scan_of : List ℕ → Scan
 scan_of bytes = scan_in (length bytes) (length bytes) bytes
 
+-- a value, or the fault where there is one
+abbrev pub unless_fault : {A : Type 0} → Option WireFault → A → Result A WireFault
+unless_fault None x = Ok x
+unless_fault (Some fault) x = Err fault
+
+-- the records of a message, or the fault of the first that can't be read
+abbrev pub records_of : List ℕ → Result (List Rec) WireFault
+records_of bytes = unless_fault (scan_of bytes).fault (scan_of bytes).records
+
 -- ---- the canonical spelling
 
 -- the shortest varint, of at most k bytes before the last

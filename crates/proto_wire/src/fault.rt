@@ -1,3 +1,9 @@
+ghost use Rattle.std.specs.Prelude.{◌≡◌};
+ghost use Rattle.proto_wire.specs.declared.fault.WireFault.TheVariants.{Memory};
+
+use mesh_base::memory;
+use std::alloc::{AllocError, AllocFailed};
+
 /// Why bytes can't be read or written. A place counts the bytes of the message before the record that fails.
 #[derive(Clone, Copy, Debug, PartialEq, Eq)]
 pub enum WireFault {
@@ -12,4 +18,28 @@ pub enum WireFault {
     Compressed,
     /// A frame's message is longer than is allowed.
     TooLong { len: u32 },
+}
+
+impl From<memory::Memory> for WireFault {
+    ghost from_gives = { λ _ e. e ≡ Memory };
+
+    fn from(_e: memory::Memory) -> WireFault {
+        WireFault::Memory
+    }
+}
+
+impl From<AllocError> for WireFault {
+    ghost from_gives = { λ _ e. e ≡ Memory };
+
+    fn from(_e: AllocError) -> WireFault {
+        WireFault::Memory
+    }
+}
+
+impl<T: Drop> From<AllocFailed<T>> for WireFault {
+    ghost from_gives = { λ _ e. e ≡ Memory };
+
+    fn from(_e: AllocFailed<T>) -> WireFault {
+        WireFault::Memory
+    }
 }

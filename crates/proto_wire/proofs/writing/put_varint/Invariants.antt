@@ -1,10 +1,9 @@
-use Rattle.std.proofs.Common.{◌++◌}
 use Rattle.proto_wire.specs.Wire.{varint}
 use Rattle.proto_wire.proofs.Varint.{IsLeft}
 use Rattle.proto_wire.proofs.writing.put_varint.Given as goal
 
 abbrev pub invariant-loop-left : goal.invariant-loop-left
-invariant-loop-left l = IsLeft (l.fn.out ++ varint l.number) l.out l.left
+invariant-loop-left l = IsLeft (varint l.number) l.bytes l.len l.left
 
 abbrev pub decreases-loop-left : goal.decreases-loop-left
 decreases-loop-left l = l.left
