@@ -42,7 +42,7 @@ impl ReportText {
         match self.report.status {
             Status::Done => Ok(()),
             Status::SomeRefused => Ok(()),
-            Status::Usage => f.write_str("usage: linkerd_cli replay\n"),
+            Status::Usage => f.write_str("usage: linkerd_cli replay|fold\n"),
             Status::Memory => f.write_str("linkerd_cli: out of memory\n"),
             Status::ReadFault => f.write_str("linkerd_cli: reading standard input failed\n"),
             Status::WriteFault => f.write_str("linkerd_cli: writing standard output failed\n"),

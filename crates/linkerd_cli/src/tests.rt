@@ -13,7 +13,7 @@ fn reports(rt: HostRuntime) -> Result<(), Fail> {
     for (status, expected) in [
         (Status::Done, ""),
         (Status::SomeRefused, ""),
-        (Status::Usage, "usage: linkerd_cli replay\n"),
+        (Status::Usage, "usage: linkerd_cli replay|fold\n"),
         (Status::Memory, "linkerd_cli: out of memory\n"),
         (
             Status::ReadFault,

@@ -4,9 +4,9 @@ use Rattle.std.proofs.lemmas.List.{set_split}
 use Rattle.view_types.specs.declared.view.View.{View}
 use Rattle.view_rules.specs.Views.{view_of}
 use Rattle.mesh_hub.specs.Drains.{frames_unless, unless_too_long}
-use Rattle.mesh_hub.specs.Hub.{Cancels, Goes, HubState, cancel_answer, drained, frames_at, frames_for, messages_for, shown_now, sub_at}
-use Rattle.mesh_hub.specs.Ids.{ended}
-use Rattle.mesh_hub.specs.Sending.{IsDue, Shows, StandsAt}
+use Rattle.mesh_hub.specs.Hub.{Cancels, Goes, HubState, cancel_answer, drained, frames_at, frames_for, id_of, messages_for, shown_now, sub_at}
+use Rattle.mesh_hub.specs.Ids.{StandsAt, ended}
+use Rattle.mesh_hub.specs.Sending.{IsDue, Shows}
 use Rattle.mesh_hub.specs.declared.hub.Subscription.{Subscription}
 use Rattle.mesh_hub.specs.declared.refusal.HubFault.TheVariants.{NoSuchId}
 use Rattle.mesh_hub.proofs.Placed.{found_there, gives_way, stays}
@@ -16,12 +16,12 @@ with_subs old subs = record old { subs = subs }
 
 -- ---- who was sent its messages goes on
 
-module _ (old new : HubState) (id at : ℕ) (stands : StandsAt id old.subs at) (sub : Subscription) (is : sub ≡ get_or old.subs at sub) (view : Option View) (frames : List (List ℕ)) (due : IsDue old sub view frames) where
+module _ (old new : HubState) (id at : ℕ) (stands : StandsAt id_of id old.subs at) (sub : Subscription) (is : sub ≡ get_or old.subs at sub) (view : Option View) (frames : List (List ℕ)) (due : IsDue old sub view frames) where
   its_frames : Ok frames ≡ frames_at old id
   its_frames =
       ap Ok due.frames
       ∙ sym (ap (λ found. frames_unless found (messages_for old sub)) due.fits)
-      ∙ sym (ap (frames_for old id) (found_there id old.subs at stands sub is))
+      ∙ sym (ap (frames_for old id) (found_there id_of id old.subs at stands sub is))
 
   -- it stays, and was shown the view
   its_place : shown_now old sub ≡ record sub { shown = view } ∷ []
@@ -36,7 +36,7 @@ module _ (old new : HubState) (id at : ℕ) (stands : StandsAt id old.subs at) (
     state = shows sub (sym is) ∙ ap (with_subs old)
         (set_split old.subs at (record sub { shown = view }) stands.within
         ∙ sym (ap (λ (put : List Subscription). take at old.subs ++ (put ++ drop (suc at) old.subs)) its_place)
-        ∙ sym (gives_way id old.subs at stands sub is (shown_now old)));
+        ∙ sym (gives_way id_of id old.subs at stands sub is (shown_now old)));
   }
 
 -- ---- an id that isn't live
@@ -45,11 +45,11 @@ pub not_drained : (old : HubState) (id : ℕ) → old.spent ≡ false → sub_at
 not_drained old id going none = record {
   going = going;
   answer = sym (ap (frames_for old id) none);
-  state = ap (with_subs old) (sym (stays id (shown_now old) old.subs none));
+  state = ap (with_subs old) (sym (stays id_of id (shown_now old) old.subs none));
 }
 
 pub not_cancelled : (old : HubState) (id : ℕ) → sub_at id old.subs ≡ None → Cancels id old (cancel_answer None) old
 not_cancelled old id none = record {
   answer = sym (ap cancel_answer none);
-  state = ap (with_subs old) (sym (stays id ended old.subs none));
+  state = ap (with_subs old) (sym (stays id_of id ended old.subs none));
 }

@@ -1,5 +1,5 @@
--- What is held is lawful and stands at its own key, since the row that told it says so.
-use Rattle.std.proofs.Common.{◌≡◌, Bool, true, false, cond, List, [], ◌∷◌, Option, Some, None, Ordering, refl, sym, ap, ◌∙◌, subst, ◌⊎◌, inl, inr}
+-- What is held is lawful and stands at its own key, and a live query is lawful, since the row that told it says so.
+use Rattle.std.proofs.Common.{◌≡◌, ℕ, Bool, true, false, cond, eqb, ◌&&◌, List, [], ◌∷◌, Option, Some, None, Ordering, refl, sym, ap, ◌∙◌, subst, ◌⊎◌, inl, inr}
 use Rattle.std.specs.Prelude.{Result, Ok, Err}
 use Rattle.std.specs.List.{AllByRecursion}
 use Rattle.std.specs.Ordering.{eq_by_cmp, is_eq}
@@ -17,10 +17,14 @@ use Rattle.watch_events.specs.declared.line.Line.{Line}
 use Rattle.watch_events.specs.declared.line.Line.TheVariants as lines
 use Rattle.watch_events.specs.declared.line.LineFault.{LineFault}
 use Rattle.mesh_hub.specs.declared.refusal.Refusal.{Refusal}
-use Rattle.mesh_hub.specs.History.{refusal_after}
-use Rattle.mesh_hub.specs.Lawful.{HeldAreLawful, HeldAtKeys}
+use Rattle.view_types.specs.declared.query.Query.{Query}
+use Rattle.watch_events.specs.Lawful.{IsLawfulQuery}
+use Rattle.mesh_hub.specs.History.{State, after, refusal_after}
+use Rattle.mesh_hub.specs.Lawful.{HeldAreLawful, HeldAtKeys, QueriesAreLawful}
+use Rattle.mesh_hub.specs.Live.{asked_by, live_at, meets_too_long}
 use Rattle.mesh_hub.specs.LookBack.{told_by, last_told, held_at}
 use Rattle.mesh_hub.specs.Program.{Program, reading}
+use Rattle.mesh_hub.proofs.Lives.{live_by_the_last}
 use Rattle.mesh_hub.proofs.Telling.{AreLawful, ReadsLawfully, row_lawful, told_by_the_last}
 
 equal : (r : Ordering) → is_eq r ≡ true → r ≡ Equal
@@ -64,11 +68,11 @@ told_right (Ok (lines.Drain id)) key object lawful is = absurd (cc is)
 told_right (Ok lines.Stop) key object lawful is = absurd (cc is)
 told_right (Err fault) key object lawful is = absurd (cc is)
 
-told_or_before : (refusal : Option Refusal) (told : Option (Option Object)) (before : Option Object) (object : Object) → last_told refusal told before ≡ Some object
-    → (told ≡ Some (Some object)) ⊎ (before ≡ Some object)
-told_or_before (Some refusal) told before object is = inr is
-told_or_before None None before object is = inr is
-told_or_before None (Some told) before object is = inl (ap Some is)
+told_or_before : {X : Type 0} (refusal : Option Refusal) (told : Option (Option X)) (before : Option X) (x : X) → last_told refusal told before ≡ Some x
+    → (told ≡ Some (Some x)) ⊎ (before ≡ Some x)
+told_or_before (Some refusal) told before x is = inr is
+told_or_before None None before x is = inr is
+told_or_before None (Some told) before x is = inl (ap Some is)
 
 right : (program : Program) → ReadsLawfully program → (past : List Row) (key : ObjKey) (object : Object) → held_at program past key ≡ Some object → IsRight key object
 right program reads [] key object is = absurd (cc is)
@@ -82,3 +86,33 @@ held_are_lawful program reads past key object is = (right program reads past key
 
 pub held_at_keys : (program : Program) → ReadsLawfully program → HeldAtKeys program
 held_at_keys program reads past key object is = (right program reads past key object (sym (told_by_the_last program reads past key) ∙ is)).1
+
+-- ---- queries
+
+-- what is told under one condition or another is told under neither or by the query itself
+asked_query : (b : Bool) (query found : Query) → cond b (Some (Some query)) None ≡ Some (Some found) → query ≡ found
+asked_query true query found is = cc is
+asked_query false query found is = absurd (cc is)
+
+none_asked : (b : Bool) (query : Query) → cond b (Some None) None ≡ Some (Some query) → ⊥
+none_asked true query is = cc is
+none_asked false query is = cc is
+
+asked_right : (program : Program) (now : State) (line : Result Line LineFault) (id : ℕ) (query : Query) → AreLawful line → asked_by program now line id ≡ Some (Some query) → IsLawfulQuery query
+asked_right program now (Ok (lines.Subscribe asked found)) id query lawful is = subst IsLawfulQuery (asked_query (eqb asked.0 id) found query is) lawful
+asked_right program now (Ok (lines.Cancel asked)) id query lawful is = absurd (none_asked (eqb asked.0 id) query is)
+asked_right program now (Ok (lines.Drain asked)) id query lawful is = absurd (none_asked (eqb asked.0 id && meets_too_long program now id) query is)
+asked_right program now (Ok (lines.Event event)) id query lawful is = absurd (cc is)
+asked_right program now (Ok lines.Blank) id query lawful is = absurd (cc is)
+asked_right program now (Ok lines.Stop) id query lawful is = absurd (cc is)
+asked_right program now (Err fault) id query lawful is = absurd (cc is)
+
+live_right : (program : Program) → ReadsLawfully program → (past : List Row) (id : ℕ) (query : Query) → live_at program past id ≡ Some query → IsLawfulQuery query
+live_right program reads [] id query is = absurd (cc is)
+live_right program reads (row ∷ past) id query is = elim (told_or_before (refusal_after program past row) (asked_by program (after program past) (reading program row) id) (live_at program past id) query is) [
+  | inl told ↦ asked_right program (after program past) (reading program row) id query (row_lawful program reads row) told
+  | inr before ↦ live_right program reads past id query before
+]
+
+pub queries_are_lawful : (program : Program) → ReadsLawfully program → QueriesAreLawful program
+queries_are_lawful program reads past id query is = live_right program reads past id query (sym (live_by_the_last program past id) ∙ is)

@@ -14,8 +14,8 @@ use Rattle.mesh_hub.specs.declared.refusal.HubFault.TheVariants.{IdOrder}
 use Rattle.mesh_hub.specs.declared.refusal.Refusal.{Refusal}
 use Rattle.mesh_hub.specs.declared.refusal.Refusal.TheVariants as refusals
 use Rattle.mesh_hub.specs.Drains.{unless_too_long}
-use Rattle.mesh_hub.specs.History.{Asked, State, after, after_line, asked_at, hub_refusal, id_of, refusal_after, refusal_of, told_now, too_long_for, unless_refused}
-use Rattle.mesh_hub.specs.Ids.{ended, in_place, room_refusal, subscribe_refusal}
+use Rattle.mesh_hub.specs.History.{Asked, State, after, after_line, asked_at, hub_refusal, id_of, refusal_after, refusal_of, told_now, too_long_for}
+use Rattle.mesh_hub.specs.Ids.{ended, in_place, room_refusal, subscribe_refusal, unless_refused}
 use Rattle.mesh_hub.specs.Live.{Ascend, IsLiveByTheLast, LastIsGreatest, LiveIdsAscend, accepted_ids, asked_by, greatest, id_accepted, max_with, meets_too_long, query_at}
 use Rattle.mesh_hub.specs.LookBack.{last_told}
 use Rattle.mesh_hub.specs.Program.{Program, reading}

@@ -14,11 +14,6 @@ Becomes-then (Some x) None c R Q T first second joins = absurd first
 Becomes-then (Some x) (Some y) None R Q T first second joins = absurd second
 Becomes-then (Some x) (Some y) (Some z) R Q T first second joins = joins x y z first second
 
-pub Becomes-weaker : {S : Type 0} (a b : Option S) (R Q : S → S → Type 0) → ((x y : S) → R x y → Q x y) → Becomes a b R → Becomes a b Q
-Becomes-weaker None b R Q weaker holds = tt
-Becomes-weaker (Some x) None R Q weaker holds = holds
-Becomes-weaker (Some x) (Some y) R Q weaker holds = weaker x y holds
-
 -- a value that was told at the start is told now
 pub Becomes-told : {S : Type 0} (a b : Option S) (x : S) (R : S → S → Type 0) → a ≡ Some x → Becomes a b R → (y : S) × (b ≡ Some y) × R x y
 Becomes-told {S} a b x R told holds = at_told b (subst (λ (o : Option S). Becomes o b R) told holds)

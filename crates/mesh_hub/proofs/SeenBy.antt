@@ -8,10 +8,10 @@ use Rattle.view_types.specs.declared.query.Query.{Query}
 use Rattle.watch_events.specs.declared.event.Event.{Event}
 use Rattle.watch_events.specs.declared.line.Line.TheVariants as lines
 use Rattle.mesh_hub.specs.Drains.{unless_too_long}
-use Rattle.mesh_hub.specs.History.{Asked, State, after_line, asked_at, hub_refusal, id_of, told_now, too_long_for, unless_refused}
+use Rattle.mesh_hub.specs.History.{Asked, State, after_line, asked_at, hub_refusal, id_of, told_now, too_long_for}
 use Rattle.mesh_hub.specs.Hub.{HubState, applied, apply_refusal, cancelled, drained, new_refusal, shown_now, sub_at, subscribed}
 use Rattle.mesh_hub.specs.Hub as hub
-use Rattle.mesh_hub.specs.Ids.{at_id, ended, in_place, subscribe_refusal, unknown_refusal}
+use Rattle.mesh_hub.specs.Ids.{at_id, ended, in_place, subscribe_refusal, unknown_refusal, unless_refused}
 use Rattle.mesh_hub.specs.Program.{Program}
 use Rattle.mesh_hub.specs.Seen.{seen, seen_sub}
 use Rattle.mesh_hub.specs.declared.hub.Subscription.{Subscription}
@@ -118,7 +118,7 @@ module _ (program : Program) (now : State) where
   pub applied_seen : (event : Event) → applied (seen program now) event ≡ seen program (unless_refused (hub_refusal program now (lines.Event event)) now (after_line program now (Ok (lines.Event event))))
   applied_seen event = by_refusal (hub_refusal program now (lines.Event event))
     where
-      by_refusal : (refusal : Option HubFault) → hub.unless_refused refusal (seen program now) (seen program (after_line program now (Ok (lines.Event event))))
+      by_refusal : (refusal : Option HubFault) → unless_refused refusal (seen program now) (seen program (after_line program now (Ok (lines.Event event))))
           ≡ seen program (unless_refused refusal now (after_line program now (Ok (lines.Event event))))
       by_refusal None = refl
       by_refusal (Some fault) = refl
@@ -131,11 +131,11 @@ module _ (program : Program) (now : State) where
       ≡ seen program (unless_refused (hub_refusal program now (lines.Subscribe id query)) now (after_line program now (Ok (lines.Subscribe id query))))
   subscribed_seen id query =
       let new : Asked = record { id = id; query = query; told = None } in
-      ap (λ (refusal : Option HubFault). hub.unless_refused refusal (seen program now) (with_subs (map (seen_sub program.config) now.subs ++ seen_sub program.config new ∷ []) (Some id.0))) (subscribe_refused id query)
+      ap (λ (refusal : Option HubFault). unless_refused refusal (seen program now) (with_subs (map (seen_sub program.config) now.subs ++ seen_sub program.config new ∷ []) (Some id.0))) (subscribe_refused id query)
       ∙ by_refusal (hub_refusal program now (lines.Subscribe id query))
     where
       by_refusal : (refusal : Option HubFault)
-          → hub.unless_refused refusal (seen program now) (with_subs (map (seen_sub program.config) now.subs ++ seen_sub program.config (record { id = id; query = query; told = None }) ∷ []) (Some id.0))
+          → unless_refused refusal (seen program now) (with_subs (map (seen_sub program.config) now.subs ++ seen_sub program.config (record { id = id; query = query; told = None }) ∷ []) (Some id.0))
           ≡ seen program (unless_refused refusal now (after_line program now (Ok (lines.Subscribe id query))))
       by_refusal None = ap (λ (subs : List Subscription). with_subs subs (Some id.0)) (sym (map-append (seen_sub program.config) now.subs (record { id = id; query = query; told = None } ∷ [])))
       by_refusal (Some fault) = refl

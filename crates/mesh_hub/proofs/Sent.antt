@@ -8,16 +8,15 @@ use Rattle.line_run.specs.Rows.{Row}
 use Rattle.view_types.specs.Objects.{ObjectMap}
 use Rattle.view_types.specs.declared.message.Message.{Message}
 use Rattle.view_types.specs.declared.view.View.{View}
-use Rattle.view_types.specs.declared.view.View.TheVariants.{Endpoints}
-use Rattle.view_rules.specs.Fold.{after as after_message, fold, folded_onto, seen}
+use Rattle.view_rules.specs.Fold.{fold, folded_onto, shown_after}
 use Rattle.view_rules.specs.Views.{view_before, view_of}
 use Rattle.view_diff.specs.Laws.{MessagesFold}
 use Rattle.watch_events.specs.declared.line.Line.{Line}
 use Rattle.watch_events.specs.declared.line.Line.TheVariants as lines
 use Rattle.watch_events.specs.declared.line.LineFault.{LineFault}
 use Rattle.mesh_hub.specs.declared.refusal.Refusal.{Refusal}
-use Rattle.mesh_hub.specs.History.{Asked, State, after, after_line, asked_at, id_of, messages_due, refusal_after, refusal_of, told_now, too_long_for, unless_refused}
-use Rattle.mesh_hub.specs.Ids.{ended, in_place}
+use Rattle.mesh_hub.specs.History.{Asked, State, after, after_line, asked_at, id_of, messages_due, refusal_after, refusal_of, told_now, too_long_for}
+use Rattle.mesh_hub.specs.Ids.{ended, in_place, unless_refused}
 use Rattle.mesh_hub.specs.Output.{line_text, lines_if_live, lines_unless, row_piece, sub_lines}
 use Rattle.mesh_hub.specs.Program.{Program, reading}
 use Rattle.mesh_hub.specs.Sent.{DrainWritesWhatIsSent, EndFoldsToView, EndWritesWhatIsSent, FoldsToLastShown, FoldsToView, SameObjectsSameView, frame_lines, sent_by, sent_if_live, sent_now, sent_to, sent_unless}
@@ -26,7 +25,7 @@ use Rattle.mesh_hub.proofs.Places.{ended_keeps, found_in_place, found_with, gone
 
 folded_more : (view : Option View) (xs ys : List Message) → folded_onto view (xs ++ ys) ≡ folded_onto (folded_onto view xs) ys
 folded_more view [] ys = refl
-folded_more view (m ∷ ms) ys = folded_more (Some (Endpoints (after_message (seen view) m))) ms ys
+folded_more view (m ∷ ms) ys = folded_more (Some (shown_after view m)) ms ys
 
 -- a live subscription whose messages are short is sent them
 sends : (program : Program) (now : State) (id : ℕ) (asked : Asked) → asked_at id now.subs ≡ Some asked → too_long_for program now.objects asked ≡ None → sent_now program now id ≡ messages_due program now.objects asked

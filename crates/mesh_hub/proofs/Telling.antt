@@ -17,7 +17,8 @@ use Rattle.watch_events.specs.declared.line.Line.{Line}
 use Rattle.watch_events.specs.declared.line.Line.TheVariants as lines
 use Rattle.watch_events.specs.declared.line.LineFault.{LineFault}
 use Rattle.mesh_hub.specs.declared.refusal.Refusal.{Refusal}
-use Rattle.mesh_hub.specs.History.{State, refusal_after, after_line, step, unless_refused, after}
+use Rattle.mesh_hub.specs.History.{State, refusal_after, after_line, step, after}
+use Rattle.mesh_hub.specs.Ids.{unless_refused}
 use Rattle.mesh_hub.specs.LookBack.{told_by, last_told, IsToldByTheLast, RefusedChangesNothing}
 use Rattle.mesh_hub.specs.Program.{Program, reading}
 

@@ -7,8 +7,8 @@ use Rattle.watch_events.specs.declared.line.Line.{Line}
 use Rattle.watch_events.specs.declared.line.Line.TheVariants as lines
 use Rattle.watch_events.specs.declared.line.LineFault.{LineFault}
 use Rattle.mesh_hub.specs.declared.refusal.Refusal.{Refusal}
-use Rattle.mesh_hub.specs.History.{Asked, State, after, after_line, asked_at, id_of, refusal_after, refusal_of, told_now, unless_refused}
-use Rattle.mesh_hub.specs.Ids.{ended, in_place}
+use Rattle.mesh_hub.specs.History.{Asked, State, after, after_line, asked_at, id_of, refusal_after, refusal_of, told_now}
+use Rattle.mesh_hub.specs.Ids.{ended, in_place, unless_refused}
 use Rattle.mesh_hub.specs.LookBack.{last_told}
 use Rattle.mesh_hub.specs.Program.{Program, reading}
 use Rattle.mesh_hub.specs.Told.{IsToldAtLastDrain, drain_in, last_drain}

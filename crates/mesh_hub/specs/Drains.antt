@@ -26,7 +26,7 @@ abbrev pub unless_too_long : {S : Type 0} → Option ℕ → S → List S
 unless_too_long None sub = sub ∷ []
 unless_too_long (Some bytes) sub = []
 
--- a result is this one, unless memory was wanting
+-- a result is this one, unless memory ran out
 abbrev pub IsOrMemory : {T : Type 0} → Result T HubFault → Result T HubFault → Type 0
 IsOrMemory expected (Ok value) = Ok value ≡ expected
 IsOrMemory expected (Err Memory) = Unit {0}

@@ -21,7 +21,7 @@ use Rattle.watch_events.specs.declared.line.Line.TheVariants as lines
 use Rattle.watch_events.specs.declared.line.LineFault.{LineFault}
 use Rattle.mesh_hub.specs.Drains.{too_long, unless_too_long}
 use Rattle.mesh_hub.specs.Events.{event_refusal, objects_after}
-use Rattle.mesh_hub.specs.Ids.{at_id, ended, in_place, subscribe_refusal, unknown_refusal}
+use Rattle.mesh_hub.specs.Ids.{at_id, ended, in_place, subscribe_refusal, unknown_refusal, unless_refused}
 use Rattle.mesh_hub.specs.Program.{Program, reading}
 use Rattle.mesh_hub.specs.declared.refusal.HubFault.{HubFault}
 use Rattle.mesh_hub.specs.declared.refusal.Refusal.{Refusal}
@@ -87,11 +87,6 @@ after_line program now (Ok (lines.Subscribe id query)) = record { objects = now.
 after_line program now (Ok (lines.Cancel id)) = record now { subs = in_place id_of id.0 ended now.subs }
 after_line program now (Ok (lines.Drain id)) = record now { subs = in_place id_of id.0 (told_now program now.objects) now.subs }
 after_line program now (Ok lines.Stop) = now
-
--- a refused line leads to nothing
-abbrev pub unless_refused : {A : Type 0} → Option A → State → State → State
-unless_refused None before after = after
-unless_refused (Some refusal) before after = before
 
 -- why a row is refused
 abbrev pub row_refusal : Program → State → Row → Option Refusal

@@ -12,7 +12,7 @@ use Rattle.view_rules.specs.Views.{view_of}
 use Rattle.watch_events.specs.declared.event.Event.{Event}
 use Rattle.mesh_hub.specs.Drains.{frames_within, too_long, unless_too_long}
 use Rattle.mesh_hub.specs.Events.{event_refusal, objects_after}
-use Rattle.mesh_hub.specs.Ids.{at_id, ended, in_place, subscribe_refusal}
+use Rattle.mesh_hub.specs.Ids.{at_id, ended, in_place, subscribe_refusal, unless_refused}
 use Rattle.mesh_hub.specs.declared.hub.Hub.{Hub}
 use Rattle.mesh_hub.specs.declared.hub.Subscription.{Subscription}
 use Rattle.mesh_hub.specs.declared.refusal.HubFault.{HubFault}
@@ -20,7 +20,7 @@ use Rattle.mesh_hub.specs.declared.refusal.HubFault.TheVariants.{Memory, Full, T
 use Rattle.mesh_hub.specs.declared.refusal.NoSuchId.{NoSuchId as NotLive}
 
 -- The objects held, the live subscriptions in the order of their ids, each with the view that it was last shown, and
--- the greatest accepted id. Once memory was wanting, a hub is spent.
+-- the greatest accepted id. Once it was out of memory, a hub is spent.
 pub record HubState : Type 0 where
   pub config : Config
   pub limits : Limits
@@ -38,7 +38,7 @@ fresh config limits = record { config = config; limits = limits; objects = map.e
 
 -- ---- what a call comes to
 
--- Memory was wanting: the hub is spent, and lets go of no subscription.
+-- It was out of memory: the hub is spent, and lets go of no subscription.
 pub record Spends (old new : HubState) : Type 0 where
   pub spent : new.spent ≡ true
   pub subs : new.subs ≡ old.subs
@@ -63,11 +63,6 @@ Answers old answer after (Err (Oversize bytes)) new = Goes old answer after (Err
 abbrev pub answer_of : Option HubFault → Result (Unit {0}) HubFault
 answer_of None = Ok tt
 answer_of (Some fault) = Err fault
-
--- a refused call leads to nothing
-abbrev pub unless_refused : {S : Type 0} → Option HubFault → S → S → S
-unless_refused None before after = after
-unless_refused (Some fault) before after = before
 
 -- ---- the calls
 

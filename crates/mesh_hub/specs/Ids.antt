@@ -1,5 +1,5 @@
 -- Which ids and subscriptions are refused, and what stands in the place of a subscription.
-use Rattle.std.specs.Prelude.{ℕ, List, [], ◌∷◌, ◌++◌, ◌==◌, nat_lt, if◌then◌else◌, Option, Some, None, find}
+use Rattle.std.specs.Prelude.{◌≡◌, ◌<◌, ℕ, suc, List, [], ◌∷◌, ◌++◌, ◌==◌, nat_lt, if◌then◌else◌, Option, Some, None, find, length, take, drop, slice_index_or}
 use Rattle.mesh_hub.specs.declared.refusal.HubFault.{HubFault}
 use Rattle.mesh_hub.specs.declared.refusal.HubFault.TheVariants.{TooManySubs, IdOrder, NoSuchId}
 
@@ -10,6 +10,11 @@ room_refusal limit live = if live == limit then Some (TooManySubs live) else Non
 abbrev pub subscribe_refusal : ℕ → Option ℕ → ℕ → ℕ → Option HubFault
 subscribe_refusal limit None live id = room_refusal limit live
 subscribe_refusal limit (Some last) live id = if nat_lt last id then room_refusal limit live else Some (IdOrder last)
+
+-- what is refused leads to nothing
+abbrev pub unless_refused : {A S : Type 0} → Option A → S → S → S
+unless_refused None before after = after
+unless_refused (Some refusal) before after = before
 
 -- an id under which nothing is live is refused
 abbrev pub unknown_refusal : {S : Type 0} → ℕ → Option S → Option HubFault
@@ -28,3 +33,11 @@ in_place id_of id f (sub ∷ subs) = if id_of sub == id then f sub ++ subs else 
 -- nothing stands in its place
 abbrev pub ended : {S : Type 0} → S → List S
 ended sub = []
+
+-- What is under an id stands at a place, and others are put there in its place.
+pub record StandsAt {S : Type 0} (id_of : S → ℕ) (id : ℕ) (subs : List S) (at : ℕ) : Type 0 where
+  pub sub : S
+  pub found : at_id id_of id subs ≡ Some sub
+  pub within : at < length subs
+  pub read : (default : S) → slice_index_or subs at default ≡ sub
+  pub giving : (f : S → List S) → in_place id_of id f subs ≡ take at subs ++ (f sub ++ drop (suc at) subs)

@@ -11,3 +11,9 @@ Becomes (Some old) (Some new) R = R old new
 -- a told list grows by these
 abbrev pub Grows : {A : Type 0} → Option (List A) → Option (List A) → List A → Type 0
 Grows old new added = Becomes old new (λ xs ys. ys ≡ xs ++ added)
+
+-- a relation that follows from the other holds with it
+pub Becomes-weaker : {S : Type 0} (a b : Option S) (R Q : S → S → Type 0) → ((x y : S) → R x y → Q x y) → Becomes a b R → Becomes a b Q
+Becomes-weaker None b R Q weaker holds = tt
+Becomes-weaker (Some x) None R Q weaker holds = holds
+Becomes-weaker (Some x) (Some y) R Q weaker holds = weaker x y holds

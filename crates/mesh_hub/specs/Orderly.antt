@@ -20,7 +20,7 @@ AreOrderly subs = AllByRecursion (λ (sub : Subscription). IsOrderlyIfShown sub.
 IsOrderly-prop : (view : EndpointView) → IsProp (IsOrderly view)
 IsOrderly-prop view = hlevel (IsStrictlySortedBy-prop pair_cmp, Coded-set (coded_list row.the_row.coded))
 
-IsOrderlyIfShown-prop : (shown : Option View) → IsProp (IsOrderlyIfShown shown)
+pub IsOrderlyIfShown-prop : (shown : Option View) → IsProp (IsOrderlyIfShown shown)
 IsOrderlyIfShown-prop (Some (Endpoints view)) = IsOrderly-prop view
 IsOrderlyIfShown-prop _ = Unit-prop
 

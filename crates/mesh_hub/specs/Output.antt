@@ -16,9 +16,12 @@ use Rattle.mesh_hub.specs.declared.refusal.Refusal.{Refusal}
 -- ---- what a subscription is sent
 
 -- each frame in a line of its own, or one line that tells how long a message is
+abbrev pub lines_by : (List ℕ → List ℕ) → ℕ → List Message → Option ℕ → List ℕ
+lines_by line id messages None = flat_map line (frames_of messages)
+lines_by line id messages (Some bytes) = oversize_line id bytes
+
 abbrev pub lines_unless : ℕ → List Message → Option ℕ → List ℕ
-lines_unless id messages None = flat_map (frame_line id) (frames_of messages)
-lines_unless id messages (Some bytes) = oversize_line id bytes
+lines_unless id = lines_by (frame_line id) id
 
 abbrev pub message_lines : ℕ → ℕ → List Message → List ℕ
 message_lines limit id messages = lines_unless id messages (too_long limit messages)

@@ -6,7 +6,7 @@ use Rattle.mesh_hub.specs.declared.refusal.HubFault.TheVariants.{Memory, Full, T
 use Rattle.mesh_hub.specs.declared.machine.Reply.{Reply}
 use Rattle.mesh_hub.specs.declared.machine.Reply.TheVariants as replies
 
--- the reply of a call that applies an event or subscribes, or nothing where memory was wanting
+-- the reply of a call that applies an event or subscribes, or nothing where memory ran out
 abbrev pub done_reply : Result (Unit {0}) HubFault → List Reply
 done_reply (Ok done) = replies.Done ∷ []
 done_reply (Err Memory) = []

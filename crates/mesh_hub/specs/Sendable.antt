@@ -1,18 +1,19 @@
 -- Each message that is sent can be read again, and says what was sent.
-use Rattle.std.specs.Prelude.{◌≡◌, ◌<◌, ◌^◌, ℕ, List, IsUtf8}
+use Rattle.std.specs.Prelude.{◌≡◌, ◌<◌, ◌^◌, ℕ, List, Ok, IsUtf8}
 use Rattle.std.specs.List.{AllByRecursion}
 use Rattle.line_run.specs.Rows.{Row}
 use Rattle.view_types.specs.declared.config.Config.{Config}
 use Rattle.view_types.specs.declared.message.Message.{Message}
+use Rattle.proxy_proto.specs.MessageReading.{message_of}
 use Rattle.proxy_proto.specs.Messages.{canonical}
-use Rattle.proxy_proto.specs.Reading.{records_of, message_in}
-use Rattle.proxy_proto.specs.Sendable.{IsSendable}
+use Rattle.proxy_proto.specs.Sendable.{IsSendable, method_of}
 use Rattle.mesh_hub.specs.History.{after}
 use Rattle.mesh_hub.specs.Program.{Program}
 use Rattle.mesh_hub.specs.Sent.{sent_now}
 
--- the strings of the configuration that identities have are in UTF-8
+-- the strings of the configuration that identities and full names have are in UTF-8
 pub record IsLawfulConfig (config : Config) : Type 0 where
+  pub cluster_domain : IsUtf8 config.cluster_domain
   pub control_ns : IsUtf8 config.control_ns
   pub trust_domain : IsUtf8 config.trust_domain
 
@@ -27,4 +28,4 @@ MessagesAreSendable program = IsLawfulConfig program.config → HasLimit program
 
 abbrev pub MessagesReadBack : Program → Type 0
 MessagesReadBack program = IsLawfulConfig program.config → HasLimit program → (past : List Row) (id : ℕ)
-    → AllByRecursion (λ (message : Message). message_in (records_of (canonical message)) ≡ message) (sent_now program (after program past) id)
+    → AllByRecursion (λ (message : Message). message_of (method_of message) (canonical message) ≡ Ok message) (sent_now program (after program past) id)

@@ -1,5 +1,5 @@
 -- What the steps of a drain come to: where the subscription stands, what it is due, and what becomes of it.
-use Rattle.std.specs.Prelude.{◌≡◌, ◌<◌, ℕ, suc, Bool, true, false, List, ◌++◌, Option, Some, None, Result, Ok, Err, nat_lt, length, take, drop, remove, slice_index_or, slice_set}
+use Rattle.std.specs.Prelude.{◌≡◌, ℕ, Bool, true, false, List, Option, Some, None, Result, Ok, Err, nat_lt, length, remove, slice_index_or, slice_set}
 use Rattle.view_types.specs.declared.message.Message.{Message}
 use Rattle.view_types.specs.declared.view.View.{View}
 use Rattle.view_rules.specs.Fold.{IsOrderlyIfShown}
@@ -7,19 +7,10 @@ use Rattle.view_rules.specs.Views.{view_of}
 use Rattle.proxy_proto.specs.Messages.{canonical}
 use Rattle.proto_wire.specs.Frames.{frame_of}
 use Rattle.mesh_hub.specs.Drains.{frames_of, too_long}
-use Rattle.mesh_hub.specs.Hub.{HubState, id_of, messages_for, sub_at}
-use Rattle.mesh_hub.specs.Ids.{in_place}
+use Rattle.mesh_hub.specs.Hub.{HubState, messages_for}
 use Rattle.mesh_hub.specs.declared.hub.Subscription.{Subscription}
 use Rattle.mesh_hub.specs.declared.refusal.HubFault.{HubFault}
 use Rattle.mesh_hub.specs.declared.refusal.HubFault.TheVariants.{Oversize}
-
--- The subscription under an id stands at a place, and others are put there in its place.
-pub record StandsAt (id : ℕ) (subs : List Subscription) (at : ℕ) : Type 0 where
-  pub sub : Subscription
-  pub found : sub_at id subs ≡ Some sub
-  pub within : at < length subs
-  pub read : (default : Subscription) → slice_index_or subs at default ≡ sub
-  pub giving : (f : Subscription → List Subscription) → in_place id_of id f subs ≡ take at subs ++ (f sub ++ drop (suc at) subs)
 
 -- the frame of a message, unless it is longer than may be
 abbrev pub frame_unless : Bool → List ℕ → Result (List ℕ) HubFault

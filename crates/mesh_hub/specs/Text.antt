@@ -5,13 +5,24 @@ use Rattle.hex.specs.Hex.{encode_lower}
 use Rattle.mesh_hub.specs.declared.refusal.Refusal.{Refusal}
 use Rattle.mesh_hub.specs.RefusalText.{refusal_text}
 
--- `refused <line> <fault>`
-abbrev pub refused_line : ℕ → Refusal → List ℕ
-refused_line number refusal = codes "refused " ++ (decimal number ++ (codes " " ++ (refusal_text refusal ++ codes "\n")))
+-- `refused <line> <fault>`, of a fault that is written so
+abbrev pub fault_line : ℕ → List ℕ → List ℕ
+fault_line number fault = codes "refused " ++ (decimal number ++ (codes " " ++ (fault ++ codes "\n")))
 
--- `frame <id> <hex>`
+abbrev pub refused_line : ℕ → Refusal → List ℕ
+refused_line number refusal = fault_line number (refusal_text refusal)
+
+-- `<word> <id> <hex>`
+abbrev pub hex_line : List ℕ → ℕ → List ℕ → List ℕ
+hex_line word id frame = word ++ (codes " " ++ (decimal id ++ (codes " " ++ (encode_lower frame ++ codes "\n"))))
+
+-- a frame that is sent
 abbrev pub frame_line : ℕ → List ℕ → List ℕ
-frame_line id frame = codes "frame " ++ (decimal id ++ (codes " " ++ (encode_lower frame ++ codes "\n")))
+frame_line id frame = hex_line (codes "frame") id frame
+
+-- a frame of a whole view
+abbrev pub view_line : ℕ → List ℕ → List ℕ
+view_line id frame = hex_line (codes "view") id frame
 
 -- `oversize <id> <bytes>`
 abbrev pub oversize_line : ℕ → ℕ → List ℕ

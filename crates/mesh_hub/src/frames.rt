@@ -26,7 +26,7 @@ fn frame_within(alloc: Global, limit: u32, message: &Message) -> Result<Bytes, H
 }
 
 /// The frames of messages, or the length of the first that is longer than may be.
-pub(crate) fn frames_within(
+pub fn frames_within(
     alloc: Global,
     limit: u32,
     messages: &[Message],

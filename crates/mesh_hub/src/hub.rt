@@ -36,7 +36,6 @@ pub struct Subscription {
 }
 
 /// The objects held and the live subscriptions.
-#[derive(Drop)]
 pub struct Hub {
     alloc: Global,
     config: Config,
@@ -46,17 +45,33 @@ pub struct Hub {
     subs: List<Subscription>,
     /// The greatest id that was accepted.
     last: Option<u32>,
-    /// Memory was wanting once.
+    /// Memory ran out once.
     spent: bool,
     ghost some_addresses: { 1 ≤ limits.frame_addrs },
     ghost room: { store.limit ≡ limits.objects },
     ghost orderly: { AreOrderly subs } by { AreOrderly-prop subs },
 }
 
+/// Written by hand, so that a crate that drops a hub needs no proof of what is in it.
+impl Drop for Hub {
+    fn drop(self) {
+        let Hub {
+            alloc: _,
+            config: _config,
+            limits: _,
+            store: _store,
+            subs: _subs,
+            last: _,
+            spent: _,
+        } = self;
+    }
+}
+
 impl Hub {
-    ghost use Rattle.mesh_hub.specs.Hub.{Answers, Cancels, answer_of, applied, apply_refusal, drained, frames_at, fresh, is_live, new_refusal, state_of, sub_at, subscribed};
+    ghost use Rattle.mesh_hub.specs.Hub.{Answers, Cancels, answer_of, applied, apply_refusal, drained, frames_at, fresh, id_of, is_live, new_refusal, state_of, sub_at, subscribed};
     ghost use Rattle.mesh_hub.specs.Replies.{MayApply, MayDrain, MaySubscribe};
-    ghost use Rattle.mesh_hub.specs.Sending.{Ends, IsDueOrTooLong, Shows, StandsAt};
+    ghost use Rattle.mesh_hub.specs.Ids.{StandsAt};
+    ghost use Rattle.mesh_hub.specs.Sending.{Ends, IsDueOrTooLong, Shows};
     ghost use Rattle.watch_events.specs.Lawful.{IsLawfulEvent};
     ghost use Rattle.watch_events.specs.declared.event.Event.TheVariants.{Delete, Relist, Set};
 
@@ -148,7 +163,7 @@ impl Hub {
 
     // Where the subscription of the id stands, if it is live.
     fn place_of(&self, id: u32) -> Option<usize>
-        ensures { MatchOption result (sub_at id self.now.subs ≡ None) (λ at. StandsAt id self.now.subs at) }
+        ensures { MatchOption result (sub_at id self.now.subs ≡ None) (StandsAt id_of id self.now.subs) }
     {
         first_of(self.subs.as_slice(), id)
     }
@@ -240,7 +255,7 @@ impl Hub {
     // Sends the subscriber of the id, who stands at the place, what it is due.
     fn send(&mut self, id: SubId, at: usize) -> Result<List<Bytes>, HubFault>
         requires going { self.old.spent ≡ false }
-        requires stands { StandsAt id.0 self.old.subs at }
+        requires stands { StandsAt id_of id.0 self.old.subs at }
         ensures answers { Answers (state_of self.old) (frames_at (state_of self.old) id.0) (drained (state_of self.old) id.0) result (state_of self.new) }
         ensures may { MayDrain id result }
     {
@@ -266,7 +281,12 @@ impl Hub {
         ensures { IsDueOrTooLong (state_of self.now) sub.now result }
     {
         let view = scratch(self.alloc, &self.store, &self.config, &sub.query)?;
-        let messages = messages_between(self.alloc, &sub.shown, &view, &self.limits)?;
+        let messages = messages_between(
+            self.alloc,
+            sub.shown.as_ref(),
+            view.as_ref(),
+            &self.limits,
+        )?;
         let frames = frames_within(self.alloc, self.limits.message, messages.as_slice())?;
         Ok((view, frames))
     }

@@ -6,7 +6,7 @@
 //! written for it, and `specs/Seen` which hub stands where the rows lead.
 #![tactic(auto)]
 
-mod frames;
+pub mod frames;
 pub mod hub;
 pub mod laws;
 pub mod machine;

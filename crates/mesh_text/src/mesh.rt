@@ -1,5 +1,6 @@
 ghost use Rattle.std.specs.Prelude.{◌≡◌, IfOk, None};
 ghost use Rattle.mesh_text.specs.Mesh.{identity_of, is_meshed, opaque_ranges, ranges_from};
+ghost use Rattle.mesh_text.specs.Targets.{full_name};
 
 use k8s_meta::meta::Meta;
 use k8s_meta::ports::{Ports, read_port_set};
@@ -36,6 +37,17 @@ pub fn identity_of(
     Ok(Text::from_string(text))
 }
 
+/// The full name of a Service, under which its profile stands.
+pub fn full_name(alloc: Global, config: &Config, ns: &Text, name: &Text) -> Result<Text, Memory>
+    ensures { IfOk result (λ full. full ≡ full_name name.now ns.now config.now.cluster_domain) }
+{
+    let name = name.as_str();
+    let ns = ns.as_str();
+    let domain = config.cluster_domain.as_str();
+    let text = format!(in alloc; "{name}.{ns}.svc.{domain}")?;
+    Ok(Text::from_string(text))
+}
+
 /// The ports of a Pod or Service at which no protocol is looked for.
 pub fn opaque_ports(alloc: Global, meta: &Meta) -> Result<Ports, Memory>
     ensures { IfOk result (λ ports. ports.ranges ≡ opaque_ranges meta.now) }
@@ -46,7 +58,8 @@ pub fn opaque_ports(alloc: Global, meta: &Meta) -> Result<Ports, Memory>
     }
 }
 
-fn usual_ports(alloc: Global) -> Result<Ports, Memory>
+/// The opaque ports where no annotation names any.
+pub fn usual_ports(alloc: Global) -> Result<Ports, Memory>
     ensures { IfOk result (λ ports. ports.ranges ≡ ranges_from None) }
 {
     let mut ranges = List::new(alloc);

@@ -33,7 +33,7 @@ abbrev pub IsFull : ObjectMap → ObjectMap → Bool → StoreFault → Type 0
 IsFull old new no_room Memory = Unit {0}
 IsFull old new no_room (Full held) = (no_room ≡ true) × (held ≡ len old) × (new ≡ old)
 
--- a refusal of the store: want of memory spends it, and `Full` leaves it as it was
+-- a refusal of the store: out of memory spends it, and `Full` leaves it as it was
 abbrev pub Refuses : Held → Held → Bool → StoreFault → Type 0
 Refuses old new no_room Memory = new.spent ≡ true
 Refuses old new no_room (Full held) = (no_room ≡ true) × (held ≡ len old.objects) × (new ≡ old)

@@ -6,7 +6,7 @@ use Rattle.mesh_base.specs.KeyOrder.{coded_key}
 use Rattle.view_types.specs.contracts.object.Object as object
 use Rattle.view_types.specs.Objects.{ObjectMap}
 
--- the objects by their keys, how many there may be, and whether memory was wanting
+-- the objects by their keys, how many there may be, and whether memory ran out
 pub record Held : Type 0 where
   pub objects : ObjectMap
   pub limit : ℕ

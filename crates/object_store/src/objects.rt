@@ -124,7 +124,7 @@ impl Objects {
     }
 
     /// Puts the items, which stand in the order of their keys, in the place of all objects of their kind, and gives
-    /// those in their order. For want of memory no object is left.
+    /// those in their order. If memory runs out, no object is left.
     pub fn replace(
         &mut self,
         alloc: Global,

@@ -16,13 +16,24 @@ use std::alloc::Global;
 use std::marker::Model;
 use view_types::object::Object;
 
-/// The objects that are held, at most `limit`. Once memory was wanting, nothing can be changed any more.
-#[derive(Drop)]
+/// The objects that are held, at most `limit`. Once memory ran out, nothing can be changed any more.
 pub struct Store {
     objects: Objects,
     limit: u32,
     spent: bool,
     alloc: Global,
+}
+
+/// Written by hand, as that of `Object`.
+impl Drop for Store {
+    fn drop(self) {
+        let Store {
+            objects: _objects,
+            limit: _,
+            spent: _,
+            alloc: _,
+        } = self;
+    }
 }
 
 impl Model for Store {

@@ -53,70 +53,97 @@ fn shown(alloc: Global, message: Message) -> Result<EndpointView, Memory>
     }
 }
 
-/// How many rows each Add has, how many addresses each Remove in an error's place, and 0 for a NoEndpoints.
+/// How many rows each Add has, how many addresses each Remove in an error's place, and 0 for another message.
 fn sizes(alloc: Global, messages: &List<Message>) -> Result<Vec<Result<usize, usize>>, Memory> {
     let mut sizes = Vec::new(alloc);
     for message in messages.as_slice() {
         sizes.push(match message {
             Message::Add(rows) => Ok(rows.len()),
             Message::Remove(pairs) => Err(pairs.len()),
-            Message::NoEndpoints(_) => Err(0),
+            Message::NoEndpoints(_) | Message::Profile(_) => Err(0),
         })?;
     }
     Ok(sizes)
 }
 
-fn take_all(alloc: Global, fold: &mut Fold, messages: List<Message>) -> Result<(), Memory> {
+pub fn take_all(alloc: Global, fold: &mut Fold, messages: List<Message>) -> Result<(), Memory> {
     for message in messages.into_vec() {
         fold.take(alloc, message)?;
     }
     Ok(())
 }
 
-fn shows(fold: &Fold, view: &Option<View>) -> bool {
+pub fn shows(fold: &Fold, view: &Option<View>) -> bool {
     match (fold.view(), view) {
         (Some(seen), Some(view)) => seen.is_same(view),
         _ => false,
     }
 }
 
-#[test]
-fn batches_bring_from_view_to_view(rt: HostRuntime) -> Result<(), Memory> {
-    let alloc = rt.alloc();
-    let limits = Limits::USUAL;
+/// How large the messages from one view to another are, and whether who saw the one sees the other after them.
+fn change(
+    alloc: Global,
+    old: &Option<View>,
+    new: &Option<View>,
+) -> Result<(Vec<Result<usize, usize>>, bool), Memory>
+    requires old { IsOrderlyIfShown old.now }
+    requires new { IsOrderlyIfShown new.now }
+{
     let mut fold = Fold::new();
+    let first = messages_between(alloc, None, old.as_ref(), &Limits::USUAL)?;
+    take_all(alloc, &mut fold, first)?;
+    let messages = messages_between(alloc, old.as_ref(), new.as_ref(), &Limits::USUAL)?;
+    let sizes = sizes(alloc, &messages)?;
+    take_all(alloc, &mut fold, messages)?;
+    Ok((sizes, shows(&fold, new)))
+}
 
-    let many = view(alloc, 0, 2_500, 10_000)?;
-    let first = messages_between(alloc, &None, &many, &limits)?;
-    let sizes_of_first = sizes(alloc, &first)?;
+#[test]
+fn a_first_batch_has_all(rt: HostRuntime) -> Result<(), Memory> {
+    let many = view(rt.alloc(), 0, 2_500, 10_000)?;
+    let (sizes, shown) = change(rt.alloc(), &None, &many)?;
     assert_eq!(rt;
-        sizes_of_first.as_slice(),
+        sizes.as_slice(),
         [Ok(1_000), Ok(1_000), Ok(500)].as_slice()
     );
-    take_all(alloc, &mut fold, first)?;
-    assert!(rt; shows(&fold, &many));
+    assert!(rt; shown);
+    Ok(())
+}
 
-    let others = view(alloc, 2_000, 1_200, 5_000)?;
-    let change = messages_between(alloc, &many, &others, &limits)?;
-    let sizes_of_change = sizes(alloc, &change)?;
-    assert_eq!(rt;
-        sizes_of_change.as_slice(),
-        [Ok(1_000), Ok(200), Err(1_000), Err(1_000)].as_slice()
-    );
-    take_all(alloc, &mut fold, change)?;
-    assert!(rt; shows(&fold, &others));
+#[test]
+fn a_batch_has_what_changed(rt: HostRuntime) -> Result<(), Memory> {
+    let many = view(rt.alloc(), 0, 2_500, 10_000)?;
+    let others = view(rt.alloc(), 2_000, 1_200, 5_000)?;
+    let (sizes, shown) = change(rt.alloc(), &many, &others)?;
+    let expected = [Ok(1_000), Ok(200), Err(1_000), Err(1_000)];
+    assert_eq!(rt; sizes.as_slice(), expected.as_slice());
+    assert!(rt; shown);
+    Ok(())
+}
 
-    let again = messages_between(alloc, &others, &others, &limits)?;
-    assert_eq!(rt; again.len(), 0);
+#[test]
+fn a_batch_from_a_view_to_itself_is_empty(rt: HostRuntime) -> Result<(), Memory> {
+    let some = view(rt.alloc(), 0, 20, 10_000)?;
+    let (sizes, shown) = change(rt.alloc(), &some, &some)?;
+    assert_eq!(rt; sizes.len(), 0);
+    assert!(rt; shown);
+    Ok(())
+}
 
-    let empty = seen_of(alloc, Message::NoEndpoints(false))?;
-    let last = messages_between(alloc, &others, &empty, &limits)?;
-    let sizes_of_last = sizes(alloc, &last)?;
-    assert_eq!(rt; sizes_of_last.as_slice(), [Err(0)].as_slice());
-    take_all(alloc, &mut fold, last)?;
-    assert!(rt; shows(&fold, &empty));
+#[test]
+fn an_emptied_view_is_told_at_once(rt: HostRuntime) -> Result<(), Memory> {
+    let some = view(rt.alloc(), 0, 20, 10_000)?;
+    let empty = seen_of(rt.alloc(), Message::NoEndpoints(false))?;
+    let (sizes, shown) = change(rt.alloc(), &some, &empty)?;
+    assert_eq!(rt; sizes.as_slice(), [Err(0)].as_slice());
+    assert!(rt; shown);
+    Ok(())
+}
 
-    let none = messages_between(alloc, &others, &None, &limits)?;
-    assert_eq!(rt; none.len(), 0);
+#[test]
+fn without_a_new_view_nothing_is_sent(rt: HostRuntime) -> Result<(), Memory> {
+    let some = view(rt.alloc(), 0, 20, 10_000)?;
+    let (sizes, _) = change(rt.alloc(), &some, &None)?;
+    assert_eq!(rt; sizes.len(), 0);
     Ok(())
 }

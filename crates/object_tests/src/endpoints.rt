@@ -129,7 +129,7 @@ fn object_in(alloc: Global, line: &str) -> Option<Object> {
 }
 
 /// What holds the objects of all lines, if each reads.
-fn store_of(alloc: Global, lines: &str) -> Option<Store> {
+pub fn store_of(alloc: Global, lines: &str) -> Option<Store> {
     let mut store = Store::new(alloc, 10);
     for line in lines.split('\n') {
         store.set(object_in(alloc, line)?).ok()?;
@@ -150,6 +150,16 @@ fn query_of(alloc: Global, port: u16) -> Result<Query, Memory> {
     })
 }
 
+/// Whether what is held shows these endpoints at the port.
+fn is_told(alloc: Global, store: &Store, port: u16, expected: &str) -> Result<bool, Memory> {
+    let config = Config::usual(alloc)?;
+    let query = query_of(alloc, port)?;
+    match &scratch(alloc, store, &config, &query)? {
+        Some(View::Endpoints(view)) => Ok(is_shown(alloc, view, expected)),
+        _ => Ok(false),
+    }
+}
+
 /// Whether a row is told as it says. One that doesn't split or read isn't.
 fn is_so(alloc: Global, row: &str) -> Result<bool, Memory> {
     let Some((given, expected)) = row.split_once("\n    => ") else {
@@ -161,11 +171,7 @@ fn is_so(alloc: Global, row: &str) -> Result<bool, Memory> {
     let (Ok(port), Some(store)) = (port.parse::<u16>(), store_of(alloc, lines)) else {
         return Ok(false);
     };
-    let config = Config::usual(alloc)?;
-    match scratch(alloc, &store, &config, &query_of(alloc, port)?)? {
-        Some(View::Endpoints(view)) => Ok(is_shown(alloc, &view, expected)),
-        _ => Ok(false),
-    }
+    is_told(alloc, &store, port, expected)
 }
 
 #[test]

@@ -14,6 +14,10 @@ mod endpoints;
 #[cfg(test)]
 mod messages;
 #[cfg(test)]
+mod profiles;
+#[cfg(test)]
+mod reading;
+#[cfg(test)]
 mod rows;
 #[cfg(test)]
 mod show;

@@ -5,7 +5,7 @@ ghost use Rattle.view_types.specs.Objects.{kind_of, IsListOf};
 use crate::told::is_shown;
 use k8s_meta::meta::Meta;
 use mesh_base::boxed::Boxed;
-use mesh_base::key::Kind;
+use mesh_base::key::{Kind, ObjKey};
 use mesh_base::labels::Labels;
 use mesh_base::list::List;
 use mesh_base::memory::Memory;
@@ -55,36 +55,78 @@ const LISTED: &str = r#"{old:[{meta:{ns:"default",name:"a",labels:{},notes:{},cr
         {meta:{ns:"default",name:"b",labels:{},notes:{},created:-},blocks:[]}],
         new:[{kind:NetworkAuthentication,ns:"default",name:"c"}]}"#;
 
-const GONE: &str = r#"{old:[{meta:{ns:"default",name:"c",labels:{},notes:{},created:-},blocks:[]}],
+const GONE: &str = r#"{old:[{meta:{ns:"default",name:"b",labels:{},notes:{},created:-},blocks:[]}],
         new:[]}"#;
 
 const NOTHING: &str = "{old:[],new:[]}";
 
-const KEY: &str = r#"{kind:NetworkAuthentication,ns:"default",name:"c"}"#;
+const KEY: &str = r#"{kind:NetworkAuthentication,ns:"default",name:"b"}"#;
+
+/// Whether setting an object of the name changes this.
+fn sets(alloc: Global, store: &mut Store, name: &str, expected: &str) -> Result<bool, Fail> {
+    let change = store.set(network(alloc, name)?)?;
+    Ok(is_shown(alloc, &change, expected))
+}
+
+/// Whether a list of one object changes this.
+fn relists(alloc: Global, store: &mut Store, name: &str, expected: &str) -> Result<bool, Fail> {
+    let change = store.relist(Kind::NetworkAuthentication, one_network(alloc, name)?)?;
+    Ok(is_shown(alloc, &change, expected))
+}
+
+/// Whether taking the object at a key out changes this.
+fn removes(alloc: Global, store: &mut Store, key: &ObjKey, expected: &str) -> Result<bool, Fail> {
+    let change = store.remove(key)?;
+    Ok(is_shown(alloc, &change, expected))
+}
+
+/// Whether there is no room for an object of the name.
+fn is_full(alloc: Global, store: &mut Store, name: &str) -> Result<bool, Fail> {
+    let full = store.set(network(alloc, name)?).err();
+    Ok(full == Some(StoreFault::Full { held: 2 }))
+}
+
+fn has(store: &Store, key: &ObjKey) -> bool {
+    let mut steps = Steps::<Store>::new();
+    store.get(key, &mut steps).is_some()
+}
+
+fn full_store(alloc: Global) -> Result<Store, Fail> {
+    let mut store = Store::new(alloc, 2);
+    store.set(network(alloc, "a")?)?;
+    store.set(network(alloc, "b")?)?;
+    Ok(store)
+}
 
 #[test]
-fn each_call_once(rt: HostRuntime) -> Result<(), Fail> {
+fn objects_are_set(rt: HostRuntime) -> Result<(), Fail> {
     let alloc = rt.alloc();
     let mut store = Store::new(alloc, 2);
-    let change = store.set(network(alloc, "a")?)?;
-    assert!(rt; is_shown(alloc, &change, FIRST));
-    let change = store.set(network(alloc, "a")?)?;
-    assert!(rt; is_shown(alloc, &change, SAME_KEY));
-    store.set(network(alloc, "b")?)?;
-    let full = store.set(network(alloc, "c")?).err();
-    assert_eq!(rt; full, Some(StoreFault::Full { held: 2 }));
-
-    let key = network(alloc, "c")?.key(alloc)?;
-    assert!(rt; is_shown(alloc, &key, KEY));
-    let change = store.relist(Kind::NetworkAuthentication, one_network(alloc, "c")?)?;
-    assert!(rt; is_shown(alloc, &change, LISTED));
+    assert!(rt; sets(alloc, &mut store, "a", FIRST)?);
+    assert!(rt; sets(alloc, &mut store, "a", SAME_KEY)?);
     assert_eq!(rt; (store.all().len(), store.len()), (1, 1));
-    let mut steps = Steps::<Store>::new();
-    assert!(rt; store.get(&key, &mut steps).is_some());
-    let change = store.remove(&key)?;
-    assert!(rt; is_shown(alloc, &change, GONE));
-    let change = store.remove(&key)?;
-    assert!(rt; is_shown(alloc, &change, NOTHING));
-    assert!(rt; store.get(&key, &mut steps).is_none());
+    Ok(())
+}
+
+#[test]
+fn a_full_store_is_relisted(rt: HostRuntime) -> Result<(), Fail> {
+    let alloc = rt.alloc();
+    let mut store = full_store(alloc)?;
+    assert!(rt; is_full(alloc, &mut store, "c")?);
+    assert!(rt; relists(alloc, &mut store, "c", LISTED)?);
+    assert_eq!(rt; (store.all().len(), store.len()), (1, 1));
+    Ok(())
+}
+
+#[test]
+fn objects_are_removed(rt: HostRuntime) -> Result<(), Fail> {
+    let alloc = rt.alloc();
+    let mut store = full_store(alloc)?;
+    let key = network(alloc, "b")?.key(alloc)?;
+    assert!(rt; is_shown(alloc, &key, KEY));
+    assert!(rt; has(&store, &key));
+    assert!(rt; removes(alloc, &mut store, &key, GONE)?);
+    assert!(rt; removes(alloc, &mut store, &key, NOTHING)?);
+    assert!(rt; !has(&store, &key));
     Ok(())
 }

@@ -7,13 +7,15 @@ use Rattle.net_cidr.specs.declared.ip.Ip.{Ip}
 use Rattle.net_cidr.specs.declared.ip.Ip.TheVariants.{V4, V6}
 use Rattle.view_types.specs.declared.endpoint.EndpointRow.{EndpointRow}
 use Rattle.view_types.specs.declared.message.Message.{Message}
-use Rattle.view_types.specs.declared.message.Message.TheVariants.{Add, Remove, NoEndpoints}
+use Rattle.view_types.specs.declared.message.Message.TheVariants.{Add, Remove, NoEndpoints, Profile}
 use Rattle.proto_wire.specs.declared.record.Rec.{Rec}
 use Rattle.proto_wire.specs.declared.record.WireValue.TheVariants.{Varint, Fixed64, Fixed32}
 use Rattle.proto_wire.specs.Wire.{varint_up_to, spelled, spelling}
 use Rattle.proto_wire.proofs.Lengths.{number-length, fixed64-length, fixed32-length, chunk-length}
 use Rattle.proto_wire.proofs.Spellings.{spelling-append}
-use Rattle.proxy_proto.specs.Messages.{chunk, number_field, fixed64_field, each_field, half_records, ip_records, address_records, pair_records, hint_field, row_records, message_records, canonical}
+use Rattle.proxy_proto.specs.FieldRecords.{chunk, number_field, fixed64_field, each_field}
+use Rattle.proxy_proto.specs.Endpoints.{half_records, ip_records, address_records, hint_field, row_records}
+use Rattle.proxy_proto.specs.Messages.{pair_records, message_records, canonical}
 use Rattle.proxy_proto.specs.Plain.{IsPlain, IsPlainMessage, count_in}
 
 -- joined records, by the lengths of the parts
@@ -116,6 +118,7 @@ plain_length (Remove pairs) plain =
     let most = chunk_most 2 (spelling (each_field 1 pair_records pairs)) [] (lit< tt) in
     omega arith
 plain_length (NoEndpoints exists) plain = none_most exists
+plain_length (Profile view) plain = absurd plain
 
 -- a message of at most a thousand plain rows or addresses fits a frame
 pub plain_fits : (message : Message) → IsPlainMessage message → count_in message ≤ 1000 → length (canonical message) < 2 ^ 32

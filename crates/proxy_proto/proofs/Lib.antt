@@ -1,3 +1,16 @@
+pub mod Checking
+pub mod Coming
+pub mod EndpointRound
 pub mod Found
+pub mod LabelMaps
 pub mod Lengths
+pub mod MapPassing
+pub mod MatchReading
+pub mod MatchRound
+pub mod MetKeys
+pub mod Passing
+pub mod ProfileRound
+pub mod RequestRound
+pub mod ResponseRound
 pub mod Round
+pub mod RouteRound

@@ -1,4 +1,16 @@
+pub mod EndpointReading
+pub mod Endpoints
+pub mod Faults
+pub mod FieldRecords
+pub mod Given
+pub mod LookUps
+pub mod MessageReading
 pub mod Messages
+pub mod MetKeys
+pub mod NestedFaults
 pub mod Plain
-pub mod Reading
+pub mod ProfileReading
+pub mod Profiles
+pub mod RequestReading
 pub mod Sendable
+pub mod Tables

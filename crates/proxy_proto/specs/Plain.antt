@@ -1,11 +1,11 @@
--- Messages whose rows have an address, a port and a weight alone.
+-- Messages of endpoints that have an address, a port and a weight alone.
 use Rattle.std.specs.Prelude.{◌≡◌, ℕ, ◌+◌, false, List, [], None, length}
 use Rattle.std.specs.List.{All}
 use Rattle.std.specs.FinMap.{entries}
 use Rattle.net_cidr.specs.declared.ip.Ip.{Ip}
 use Rattle.view_types.specs.declared.endpoint.EndpointRow.{EndpointRow}
 use Rattle.view_types.specs.declared.message.Message.{Message}
-use Rattle.view_types.specs.declared.message.Message.TheVariants.{Add, Remove, NoEndpoints}
+use Rattle.view_types.specs.declared.message.Message.TheVariants.{Add, Remove, Profile}
 
 pub record IsPlain (row : EndpointRow) : Type 0 where
   pub labels : entries row.labels ≡ []
@@ -15,18 +15,17 @@ pub record IsPlain (row : EndpointRow) : Type 0 where
 
 abbrev pub rows_in : Message → List EndpointRow
 rows_in (Add rows) = rows
-rows_in (Remove pairs) = []
-rows_in (NoEndpoints exists) = []
+rows_in _ = []
 
 -- the addresses that a message takes out
 abbrev pub pairs_in : Message → List (Ip × ℕ)
-pairs_in (Add rows) = []
 pairs_in (Remove pairs) = pairs
-pairs_in (NoEndpoints exists) = []
+pairs_in _ = []
 
 -- how many addresses a message has
 abbrev pub count_in : Message → ℕ
 count_in message = length (rows_in message) + length (pairs_in message)
 
 abbrev pub IsPlainMessage : Message → Type 0
+IsPlainMessage (Profile view) = ⊥
 IsPlainMessage message = All IsPlain (rows_in message)

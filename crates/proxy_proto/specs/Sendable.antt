@@ -1,14 +1,18 @@
 -- Which messages can be read again: numbers are of their types, strings are in UTF-8, an identity isn't the empty
--- string, and lengths fit 64 bits.
+-- string, a time is below 2 ^ 63 nanoseconds, and lengths fit 64 bits.
 use Rattle.std.specs.Prelude.{ℕ, ◌<◌, ◌≢◌, ◌^◌, List, [], Option, Some, None, IsUtf8, length}
 use Rattle.std.specs.List.{AllByRecursion}
 use Rattle.std.specs.FinMap.{entries}
 use Rattle.net_cidr.specs.Texts.{FitsIp}
 use Rattle.net_cidr.specs.declared.ip.Ip.{Ip}
+use Rattle.view_types.specs.Lawful.{IsLawfulOverride, IsLawfulProfileRoute}
 use Rattle.view_types.specs.declared.endpoint.EndpointRow.{EndpointRow}
 use Rattle.view_types.specs.declared.message.Message.{Message}
+use Rattle.view_types.specs.declared.message.Message.TheVariants.{Add, Remove, NoEndpoints, Profile}
+use Rattle.view_types.specs.declared.outbound.ProfileView.{ProfileView}
+use Rattle.view_types.specs.declared.query.Method.{Method}
+use Rattle.view_types.specs.declared.query.Method.TheVariants.{Get, GetProfile}
 use Rattle.proxy_proto.specs.Messages.{canonical}
-use Rattle.proxy_proto.specs.Plain.{pairs_in, rows_in}
 
 abbrev pub PortFits : Option ℕ → Type 0
 PortFits None = Unit {0}
@@ -33,7 +37,27 @@ pub record IsSendablePair (pair : Ip × ℕ) : Type 0 where
   pub ip : FitsIp pair.0
   pub port : pair.1 < 65536
 
+abbrev pub IsSendableEndpoint : Option EndpointRow → Type 0
+IsSendableEndpoint None = Unit {0}
+IsSendableEndpoint (Some row) = IsSendableRow row
+
+pub record IsSendableProfile (view : ProfileView) : Type 0 where
+  pub fqn : IsUtf8 view.fqn
+  pub routes : AllByRecursion IsLawfulProfileRoute view.routes
+  pub overrides : AllByRecursion IsLawfulOverride view.overrides
+  pub endpoint : IsSendableEndpoint view.endpoint
+
+abbrev pub AreSendableParts : Message → Type 0
+AreSendableParts (Add rows) = AllByRecursion IsSendableRow rows
+AreSendableParts (Remove pairs) = AllByRecursion IsSendablePair pairs
+AreSendableParts (NoEndpoints exists) = Unit {0}
+AreSendableParts (Profile view) = IsSendableProfile view
+
 pub record IsSendable (message : Message) : Type 0 where
-  pub rows : AllByRecursion IsSendableRow (rows_in message)
-  pub pairs : AllByRecursion IsSendablePair (pairs_in message)
+  pub parts : AreSendableParts message
   pub short : length (canonical message) < 2 ^ 64
+
+-- the method that a message answers
+abbrev pub method_of : Message → Method
+method_of (Profile view) = GetProfile
+method_of _ = Get

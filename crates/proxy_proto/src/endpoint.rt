@@ -1,7 +1,8 @@
 //! Endpoints as messages.
 ghost use Rattle.std.specs.Prelude.{◌≡◌, ◌++◌, OnOk};
 ghost use Rattle.proto_wire.specs.Wire.{spelling};
-ghost use Rattle.proxy_proto.specs.Messages.{ip_records, address_records, label_records, identity_records, optional_field, number_field, h2_field, hint_records, hint_field, row_records};
+ghost use Rattle.proxy_proto.specs.FieldRecords.{optional_field, number_field};
+ghost use Rattle.proxy_proto.specs.Endpoints.{ip_records, address_records, label_records, identity_records, h2_field, hint_records, hint_field, row_records};
 
 use crate::fields::{put_fixed64_field, put_number_field, put_text_field};
 use crate::part::{Part, write_each, write_in};
@@ -14,12 +15,12 @@ use std::alloc::Global;
 use view_types::endpoint::EndpointRow;
 
 /// What the high half of an IPv6 address counts.
-const HALF: u128 = 1 << 64;
+pub const HALF: u128 = 1 << 64;
 
 impl Part for Ip {
     ghost records = { ip_records };
 
-    #[tactic(auto, using(proto_wire::proofs::Spellings::spellings), unfolding(crate::specs::Messages::ip_records))]
+    #[tactic(auto, using(proto_wire::proofs::Spellings::spellings), unfolding(crate::specs::Endpoints::ip_records))]
     fn write(&self, alloc: Global, out: &mut List<u8>) -> Result<(), Memory> {
         match *self {
             Ip::V4(number) => put_fixed32(out, 1, number),
@@ -36,7 +37,7 @@ impl Part for Ip {
 impl Part for (Ip, u16) {
     ghost records = { λ pair. address_records pair.0 pair.1 };
 
-    #[tactic(auto, using(proto_wire::proofs::Spellings::spellings), unfolding(crate::specs::Messages::address_records))]
+    #[tactic(auto, using(proto_wire::proofs::Spellings::spellings), unfolding(crate::specs::Endpoints::address_records))]
     fn write(&self, alloc: Global, out: &mut List<u8>) -> Result<(), Memory> {
         write_in(alloc, out, 1, &self.0)?;
         put_number_field(out, 2, self.1 as u64)
@@ -46,7 +47,7 @@ impl Part for (Ip, u16) {
 impl Part for (Text, Text) {
     ghost records = { label_records };
 
-    #[tactic(auto, using(proto_wire::proofs::Spellings::spellings), unfolding(crate::specs::Messages::label_records))]
+    #[tactic(auto, using(proto_wire::proofs::Spellings::spellings), unfolding(crate::specs::Endpoints::label_records))]
     fn write(&self, _alloc: Global, out: &mut List<u8>) -> Result<(), Memory> {
         put_chunk(out, 1, self.0.as_bytes())?;
         put_chunk(out, 2, self.1.as_bytes())
@@ -63,7 +64,7 @@ pub struct Hint {
 impl Part for Hint {
     ghost records = { λ hint. hint_records hint.h2 hint.tunnel };
 
-    #[tactic(auto, using(proto_wire::proofs::Spellings::spellings), unfolding(crate::specs::Messages::hint_records))]
+    #[tactic(auto, using(proto_wire::proofs::Spellings::spellings), unfolding(crate::specs::Endpoints::hint_records))]
     fn write(&self, alloc: Global, out: &mut List<u8>) -> Result<(), Memory> {
         put_h2(out, self.h2)?;
         put_tunnel(alloc, out, self.tunnel)
@@ -93,7 +94,7 @@ fn put_tunnel(alloc: Global, out: &mut List<u8>, tunnel: Option<u16>) -> Result<
 }
 
 /// Writes a hint that says something, and nothing for another.
-#[tactic(auto, using(proto_wire::proofs::Spellings::spellings), unfolding(crate::specs::Messages::hint_field))]
+#[tactic(auto, using(proto_wire::proofs::Spellings::spellings), unfolding(crate::specs::Endpoints::hint_field))]
 fn put_hint(alloc: Global, out: &mut List<u8>, hint: Hint) -> Result<(), Memory>
     ensures { OnOk result (out.new ≡ out.old ++ spelling (hint_field hint.h2 hint.tunnel)) }
 {
@@ -103,7 +104,7 @@ fn put_hint(alloc: Global, out: &mut List<u8>, hint: Hint) -> Result<(), Memory>
     write_in(alloc, out, 6, &hint)
 }
 
-#[tactic(auto, using(proto_wire::proofs::Spellings::spellings), unfolding(crate::specs::Messages::identity_records))]
+#[tactic(auto, using(proto_wire::proofs::Spellings::spellings), unfolding(crate::specs::Endpoints::identity_records))]
 fn put_identity(alloc: Global, out: &mut List<u8>, identity: &Option<Text>) -> Result<(), Memory>
     ensures { OnOk result (out.new ≡ out.old ++ spelling (optional_field 5 identity_records identity.now)) }
 {
@@ -120,7 +121,7 @@ fn put_identity(alloc: Global, out: &mut List<u8>, identity: &Option<Text>) -> R
 impl Part for EndpointRow {
     ghost records = { row_records };
 
-    #[tactic(auto, using(proto_wire::proofs::Spellings::spellings), unfolding(crate::specs::Messages::row_records))]
+    #[tactic(auto, using(proto_wire::proofs::Spellings::spellings), unfolding(crate::specs::Endpoints::row_records))]
     fn write(&self, alloc: Global, out: &mut List<u8>) -> Result<(), Memory> {
         let address = (self.ip, self.port);
         let hint = Hint {

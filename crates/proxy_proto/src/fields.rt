@@ -1,7 +1,7 @@
 //! Fields whose zero is left out.
 ghost use Rattle.std.specs.Prelude.{◌≡◌, ◌++◌, OnOk};
 ghost use Rattle.proto_wire.specs.Wire.{spelling};
-ghost use Rattle.proxy_proto.specs.Messages.{number_field, fixed64_field, bool_field, text_field};
+ghost use Rattle.proxy_proto.specs.FieldRecords.{number_field, fixed64_field, bool_field, text_field};
 
 use mesh_base::list::List;
 use mesh_base::memory::Memory;

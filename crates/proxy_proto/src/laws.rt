@@ -1,18 +1,18 @@
-ghost use Rattle.std.specs.Prelude.{◌≡◌, ◌*◌, ◌+◌, ◌≤◌, length};
+ghost use Rattle.std.specs.Prelude.{◌≡◌, ◌*◌, ◌+◌, ◌≤◌, length, Ok};
 ghost use Rattle.view_types.specs.declared.message.Message.{Message};
+ghost use Rattle.proxy_proto.specs.MessageReading.{message_of};
 ghost use Rattle.proxy_proto.specs.Messages.{canonical};
 ghost use Rattle.proxy_proto.specs.Plain.{IsPlainMessage, count_in};
-ghost use Rattle.proxy_proto.specs.Reading.{records_of, message_in};
-ghost use Rattle.proxy_proto.specs.Sendable.{IsSendable};
+ghost use Rattle.proxy_proto.specs.Sendable.{IsSendable, method_of};
 
-/// What is written of a message that may be sent says that message.
+/// What is written of a message that may be sent is read back as that message.
 pub fn messages_read_back()
-    ensures { (message : Message) → IsSendable message → message_in (records_of (canonical message)) ≡ message }
+    ensures { (message : Message) → IsSendable message → message_of (method_of message) (canonical message) ≡ Ok message }
 {}
 
 /// No two messages that may be sent are written alike.
 pub fn spellings_differ()
-    ensures { (one other : Message) → IsSendable one → IsSendable other → canonical one ≡ canonical other → one ≡ other }
+    ensures { (one other : Message) → IsSendable one → IsSendable other → method_of one ≡ method_of other → canonical one ≡ canonical other → one ≡ other }
 {}
 
 /// A message whose rows have no labels, identity and hint takes at most 84 bytes an address and 11 more, far below the

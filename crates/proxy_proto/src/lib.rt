@@ -1,11 +1,31 @@
-//! The messages that proxies are sent, as Protocol Buffers: each has one canonical spelling.
+//! The messages that proxies are sent, and the requests that they send, as Protocol Buffers. Each message has one
+//! canonical spelling, and is read strictly: each list of bytes says one thing, or has one fault.
 //!
-//! Stands on view_types, whose messages it writes, and on proto_wire. The writers cite `specs/Messages`, which gives
-//! the records of each message.
+//! Stands on view_types, whose messages it writes and reads, on mesh_text for what requests hold, and on proto_wire. The
+//! writers cite `specs/Messages`, which gives the records of each message. The readers cite `specs/MessageReading` and
+//! `specs/RequestReading`: the first fault of `specs/Faults` over the fields of `specs/Tables`, and else what the
+//! records say.
 #![tactic(auto)]
 
+mod check;
+mod duration;
 mod endpoint;
+pub mod fault;
+mod field;
 mod fields;
+mod from_records;
 pub mod laws;
+mod look_up;
 mod part;
+mod profile;
+mod read_endpoint;
+mod read_profile;
+mod read_request_match;
+mod read_response_match;
+pub mod reading;
+pub mod request;
+mod request_match;
+mod response_match;
+mod seen_keys;
+pub mod table;
 pub mod writing;

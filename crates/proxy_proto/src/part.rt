@@ -1,7 +1,7 @@
 ghost use Rattle.std.specs.Prelude.{◌≡◌, ◌++◌, List, OnOk};
 ghost use Rattle.proto_wire.specs.declared.record.Rec.{Rec};
 ghost use Rattle.proto_wire.specs.Wire.{spelled, spelling};
-ghost use Rattle.proxy_proto.specs.Messages.{chunk, each_field};
+ghost use Rattle.proxy_proto.specs.FieldRecords.{chunk, each_field};
 
 use mesh_base::list::List;
 use mesh_base::memory::Memory;

@@ -33,6 +33,7 @@ impl Part for Message {
                 put_bool_field(&mut inside, 1, *exists)?;
                 put_chunk(out, 3, inside.as_slice())
             }
+            Message::Profile(view) => view.write(alloc, out),
         }
     }
 }

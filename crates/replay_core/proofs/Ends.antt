@@ -11,17 +11,17 @@ use Rattle.std.proofs.Math.Seq.{take-suc}
 use Rattle.line_run.specs.Rows.{Row}
 use Rattle.view_types.specs.Objects.{ObjectMap}
 use Rattle.mesh_hub.specs.Drains.{unless_too_long}
-use Rattle.mesh_hub.specs.History.{Asked, State, after, asked_at, id_of, told_now, too_long_for, unless_refused}
+use Rattle.mesh_hub.specs.History.{Asked, State, after, asked_at, id_of, told_now, too_long_for}
 use Rattle.mesh_hub.specs.Hub.{HubState, drained, sub_at}
-use Rattle.mesh_hub.specs.Ids.{in_place, unknown_refusal}
+use Rattle.mesh_hub.specs.Ids.{in_place, unknown_refusal, unless_refused}
 use Rattle.mesh_hub.specs.Live.{Ascend, LiveIdsAscend}
-use Rattle.mesh_hub.specs.Optional.{Becomes}
+use Rattle.mesh_hub.specs.Optional.{Becomes, Becomes-weaker}
 use Rattle.mesh_hub.specs.Output.{sub_lines, written_after}
 use Rattle.mesh_hub.specs.Program.{Program}
 use Rattle.mesh_hub.specs.Seen.{seen, seen_sub}
 use Rattle.mesh_hub.specs.declared.machine.Reply.{Reply}
 use Rattle.mesh_hub.specs.declared.refusal.Refusal.{Refusal}
-use Rattle.mesh_hub.proofs.Optional.{Becomes-then, Becomes-weaker}
+use Rattle.mesh_hub.proofs.Optional.{Becomes-then}
 use Rattle.mesh_hub.proofs.SeenBy.{drained_seen, found_behind, found_here, placed_behind, placed_here, sub_seen}
 use Rattle.replay_core.specs.Said.{Saying, refused_said, reply_text, said_from, saying_left, text_said}
 use Rattle.replay_core.specs.Stand.{Ended, EndedByState, Ending, EndingByReplies, EndingByState, FromNew, after_some}

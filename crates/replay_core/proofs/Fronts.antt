@@ -1,8 +1,7 @@
 -- What was said is a front of the output, and at the end all of it.
-use Rattle.std.proofs.Common.{◌≡◌, ℕ, ◌+◌, Bool, List, [], ◌∷◌, ◌++◌, reverse, take, drop, refl, sym, ap, ◌∙◌, subst, append_assoc, append-nil, inl, inr}
+use Rattle.std.proofs.Common.{◌≡◌, ℕ, ◌+◌, Bool, List, [], ◌∷◌, ◌++◌, reverse, take, drop, sym, ap, ◌∙◌, subst, append_assoc, append-nil, inl, inr}
 use Rattle.std.specs.Prelude.{Some, None, Ok, IfSome, flat_map}
 use Rattle.std.specs.declared.option.Option.{Option}
-use Rattle.std.proofs.KnownBytes.{Appends-nil}
 use Rattle.std.proofs.lemmas.Grind.{flat_map-append}
 use Rattle.std.proofs.lemmas.List.{take-append-drop}
 use Rattle.std.specs.Io.KnownBytes.{Appends}
@@ -13,12 +12,12 @@ use Rattle.view_types.specs.declared.config.Config.{Config}
 use Rattle.mesh_hub.specs.History.{Asked, after, after_end, nothing}
 use Rattle.mesh_hub.specs.Begins.{Begins}
 use Rattle.mesh_hub.specs.Hub.{HubState, fresh}
-use Rattle.mesh_hub.specs.Optional.{Becomes, Grows}
+use Rattle.mesh_hub.specs.Optional.{Becomes, Becomes-weaker, Grows}
 use Rattle.mesh_hub.specs.Output.{end_lines, output_after, output_of, piece_of, refused_after, sub_lines, written_after}
 use Rattle.mesh_hub.specs.Program.{Program, replay_of}
 use Rattle.mesh_hub.specs.Seen.{seen}
 use Rattle.mesh_hub.specs.declared.machine.Reply.{Reply}
-use Rattle.mesh_hub.proofs.Optional.{Becomes-then, Becomes-told, Becomes-weaker, IfSome-told, IfSome-weaker}
+use Rattle.mesh_hub.proofs.Optional.{Becomes-then, Becomes-told, IfSome-told, IfSome-weaker}
 use Rattle.replay_core.specs.Headline.{StandsAtEnd, WritesFront, WritesOutput, WritesSaid}
 use Rattle.replay_core.specs.Said.{refused_said, said, said_from, text_said}
 use Rattle.replay_core.specs.Stand.{Ended, EndedByState, Ending, EndingByReplies, EndingByState, FromNew, Stands, StandsByState}
@@ -27,10 +26,6 @@ use Rattle.replay_core.proofs.Rows.{row_next}
 IfSome-input : (left : Option (List ℕ)) (input : List ℕ) (P : List ℕ → Type 0) → IfSome left (λ bytes. bytes ≡ input) → P input → IfSome left P
 IfSome-input None input P is holds = tt
 IfSome-input (Some bytes) input P is holds = subst P (sym is) holds
-
-IfSome-all : {S : Type 0} (a : Option S) (P : S → Type 0) → ((x : S) → P x) → IfSome a P
-IfSome-all None P holds = tt
-IfSome-all (Some x) P holds = holds x
 
 -- the rows of a text, the first first
 reversed_from : (past rows : List Row) → reverse (past_from past rows) ≡ reverse past ++ rows
@@ -176,7 +171,3 @@ module _ (config : Config) (limits : Limits) (left held held_new : Option (List 
 pub begun : (config copy : Config) (limits : Limits) (before s0 : Option HubState) (u : Unit {0}) → copy ≡ config → Becomes before s0 (Begins (fresh copy limits) (Ok u))
     → Becomes before s0 (λ old new. new ≡ seen (replay_of config limits) nothing)
 begun config copy limits before s0 u same begins = Becomes-weaker before s0 _ _ (λ old new begins. begins.1 ∙ ap (λ (c : Config). fresh c limits) same) begins
-
--- nothing was written
-pub front_none : (config : Config) (limits : Limits) (state : Option HubState) (left held : Option (List ℕ)) → WritesFront config limits state left held held
-front_none config limits state left held = IfSome-all state _ (λ told. IfSome-all left _ (λ bytes. ([], output_of (replay_of config limits) bytes, Appends-nil held, refl)))

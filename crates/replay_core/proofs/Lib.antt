@@ -2,5 +2,4 @@ pub mod Calls
 pub mod Ends
 pub mod Fronts
 pub mod Lines
-pub mod Placed
 pub mod Rows

@@ -15,9 +15,9 @@ use Rattle.watch_events.specs.Given.{Fails}
 use Rattle.mesh_hub.specs.Optional.{Becomes}
 use Rattle.mesh_hub.proofs.Optional.{Becomes-same}
 use Rattle.mesh_hub.specs.Drains.{unless_too_long}
-use Rattle.mesh_hub.specs.History.{Asked, State, after_line, asked_at, hub_refusal, id_of, messages_due, told_now, too_long_for, unless_refused}
+use Rattle.mesh_hub.specs.History.{Asked, State, after_line, asked_at, hub_refusal, id_of, messages_due, told_now, too_long_for}
 use Rattle.mesh_hub.specs.Hub.{HubState, applied, apply_refusal, cancelled, new_refusal, sub_at, subscribed}
-use Rattle.mesh_hub.specs.Ids.{ended, in_place, unknown_refusal}
+use Rattle.mesh_hub.specs.Ids.{ended, in_place, unknown_refusal, unless_refused}
 use Rattle.mesh_hub.specs.Output.{drain_lines, lines_if_live, message_lines, row_piece}
 use Rattle.mesh_hub.specs.Program.{Program, replay_of}
 use Rattle.mesh_hub.specs.Seen.{seen, seen_sub}

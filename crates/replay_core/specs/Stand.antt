@@ -1,6 +1,6 @@
 -- Where a replay stands after some rows, while it writes its end, and after that: by what its machine holds, where that is
 -- told, and by its replies, where those are told.
-use Rattle.std.specs.Prelude.{◌≡◌, ℕ, ◌+◌, Bool, List, [], ◌++◌, Some, None, length, map, take, drop, flat_map, reverse}
+use Rattle.std.specs.Prelude.{◌≡◌, ℕ, ◌+◌, Bool, List, [], ◌++◌, length, map, take, drop, flat_map, reverse}
 use Rattle.std.proofs.Common.{append-nil, sym, ap, subst, ◌∙◌}
 use Rattle.std.specs.declared.option.Option.{Option}
 use Rattle.mesh_base.specs.declared.limits.Limits.{Limits}
@@ -8,7 +8,7 @@ use Rattle.line_run.specs.Rows.{Row}
 use Rattle.view_types.specs.declared.config.Config.{Config}
 use Rattle.mesh_hub.specs.History.{Asked, State, after, after_end, id_of, nothing, told_now}
 use Rattle.mesh_hub.specs.Hub.{HubState}
-use Rattle.mesh_hub.specs.Optional.{Becomes}
+use Rattle.mesh_hub.specs.Optional.{Becomes, Becomes-weaker}
 use Rattle.mesh_hub.specs.Output.{output_after, refused_after, sub_lines, written_after}
 use Rattle.mesh_hub.specs.Program.{Program}
 use Rattle.mesh_hub.specs.Seen.{seen}
@@ -108,16 +108,11 @@ ending_by_replies program past text refused before now stood = record {
   refuses = stood.refuses;
 }
 
-weaker : {S : Type 0} (a b : Option S) (R Q : S → S → Type 0) → ((x y : S) → R x y → Q x y) → Becomes a b R → Becomes a b Q
-weaker None b R Q each holds = tt
-weaker (Some x) None R Q each holds = holds
-weaker (Some x) (Some y) R Q each holds = each x y holds
-
 pub ending_none : (program : Program) (state state_now : Option HubState) (replies replies_now : Option (List Reply)) (live : List ℕ) (sent : ℕ) (past : List Row) (text : List ℕ) (refused : Bool)
     → Stands program state state_now replies replies_now live sent past text refused → Ending program state state_now replies replies_now live sent past text refused
 ending_none program state state_now replies replies_now live sent past text refused stood = record {
-  by_state = weaker state state_now (FromNew program (StandsByState program live past text refused)) (FromNew program (EndingByState program live sent past text refused))
+  by_state = Becomes-weaker state state_now (FromNew program (StandsByState program live past text refused)) (FromNew program (EndingByState program live sent past text refused))
       (λ start now by from_new. ending_by_state program live sent past text refused now stood.none_sent (by from_new)) stood.by_state;
-  by_replies = weaker replies replies_now (StandsByReplies program past text refused) (EndingByReplies program past text refused)
+  by_replies = Becomes-weaker replies replies_now (StandsByReplies program past text refused) (EndingByReplies program past text refused)
       (λ before now by. ending_by_replies program past text refused before now by) stood.by_replies;
 }

@@ -1,14 +1,13 @@
 -- What a step of a replay comes to, by what the machine holds and by its replies.
-use Rattle.std.specs.Prelude.{◌≡◌, ℕ, ◌<◌, List, [], ◌∷◌, ◌++◌, Option, Some, None, Result, is_some, length, option_map}
-use Rattle.std.specs.List.{remove}
+use Rattle.std.specs.Prelude.{◌≡◌, ℕ, List, [], ◌∷◌, ◌++◌, Option, Some, None, Result, is_some, option_map}
 use Rattle.mesh_base.specs.declared.sub_id.SubId.{SubId}
 use Rattle.watch_events.specs.declared.line.Line.{Line}
 use Rattle.watch_events.specs.declared.line.LineFault.{LineFault}
 use Rattle.watch_events.specs.declared.line.LineFault.TheVariants as line_faults
 use Rattle.mesh_hub.specs.Drains.{too_long}
-use Rattle.mesh_hub.specs.History.{State, after_line, refusal_of, unless_refused}
+use Rattle.mesh_hub.specs.History.{State, after_line, refusal_of}
 use Rattle.mesh_hub.specs.Hub.{HubState, drained, messages_for, sub_at}
-use Rattle.mesh_hub.specs.Ids.{ended, in_place}
+use Rattle.mesh_hub.specs.Ids.{ended, in_place, unless_refused}
 use Rattle.mesh_hub.specs.Output.{line_text, message_lines, row_piece}
 use Rattle.mesh_hub.specs.Program.{Program}
 use Rattle.mesh_hub.specs.Seen.{seen}
@@ -56,11 +55,6 @@ pub record Unreplied (refusal : Option Refusal) (old new : List Reply) : Type 0 
 abbrev pub live_unless : Option Refusal → List ℕ → List ℕ → List ℕ
 live_unless None live live_new = live_new
 live_unless (Some refusal) live live_new = live
-
--- an id stands here, and those before and behind it are left where it gives way to nothing
-pub record IsPlaceOf (id : ℕ) (ids : List ℕ) (at : ℕ) : Type 0 where
-  pub within : at < length ids
-  pub leaves : remove ids at ≡ in_place (λ other. other) id ended ids
 
 -- ---- a drain
 

@@ -2,11 +2,11 @@ ghost use Rattle.std.specs.Prelude.{IfOk};
 ghost use Rattle.mesh_hub.specs.Optional.{Becomes};
 ghost use Rattle.replay_core.specs.Take.{Drains, IsUndrained, Replied, drain_refusal};
 
-use crate::text::{push_frames, push_oversize};
 use mesh_base::memory::Memory;
 use mesh_base::sub_id::SubId;
 use mesh_hub::machine::Machine;
 use mesh_hub::refusal::HubFault;
+use mesh_hub::text::{push_frames, push_oversize};
 use std::alloc::Global;
 
 /// What came of a drain.
@@ -51,7 +51,7 @@ pub(crate) fn drain<H: Machine>(
 {
     match hub.drain(id) {
         Ok(frames) => {
-            push_frames(alloc, out, id.0, &frames)?;
+            push_frames(alloc, out, "frame", id.0, &frames)?;
             Ok(Drained::Sent)
         }
         Err(fault) => undrained(alloc, id, fault, out),

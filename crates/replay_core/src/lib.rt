@@ -10,4 +10,3 @@ mod lives;
 pub mod replay;
 mod replaying;
 mod take;
-mod text;

@@ -1,7 +1,6 @@
 ghost use Rattle.std.specs.Prelude.{◌≡◌, ◌==◌, MatchOption};
 ghost use Rattle.std.specs.List.{position_from};
-ghost use Rattle.mesh_hub.specs.Ids.{ended, in_place};
-ghost use Rattle.replay_core.specs.Take.{IsPlaceOf};
+ghost use Rattle.mesh_hub.specs.Ids.{StandsAt, ended, in_place};
 
 use mesh_base::list::List;
 use std::alloc::Global;
@@ -15,7 +14,7 @@ fn first_of(ids: &[u32], id: u32) -> Option<usize>
 
 // Where an id stands.
 fn place_of(ids: &[u32], id: u32) -> Option<usize>
-    ensures { MatchOption result (in_place (λ other. other) id ended ids.now ≡ ids.now) (IsPlaceOf id ids.now) }
+    ensures { MatchOption result (in_place (λ other. other) id ended ids.now ≡ ids.now) (StandsAt (λ other. other) id ids.now) }
 {
     first_of(ids, id)
 }

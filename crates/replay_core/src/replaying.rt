@@ -2,12 +2,12 @@ ghost use Rattle.std.specs.Prelude.{◌≡◌, ◌-◌, length};
 
 use crate::drain::drain;
 use crate::take::take_row;
-use crate::text::push_refused;
 use line_run::LineMachine;
 use mesh_base::limits::Limits;
 use mesh_base::list::List;
 use mesh_base::sub_id::SubId;
 use mesh_hub::machine::Machine;
+use mesh_hub::text::push_refused;
 use std::alloc::{AllocError, Global};
 use view_types::config::Config;
 

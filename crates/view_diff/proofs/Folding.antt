@@ -9,12 +9,13 @@ use Rattle.std.specs.Ordering.{ordering_reverse}
 use Rattle.std.specs.declared.cmp.Ordering.TheVariants.{Less, Equal, Greater}
 use Rattle.mesh_base.specs.Keyed.{keyed}
 use Rattle.view_rules.proofs.Pairs.{pairs_exact, pairs_total}
-use Rattle.view_rules.specs.Batch.{changed_rows, gone_pairs, has_pair, has_row, same_pair, same_row}
+use Rattle.view_rules.specs.Batch.{changed_rows, gone_pairs, has_pair, has_row, same_pair}
+use Rattle.view_rules.specs.Same.{same_row}
 use Rattle.view_rules.specs.Endpoints.{pair_cmp, pair_of}
 use Rattle.view_rules.specs.Fold.{RowMap, put_rows, row_map, take_out}
 use Rattle.view_types.specs.declared.endpoint.EndpointRow.{EndpointRow}
 use Rattle.view_rules.proofs.RowMaps.{Pair, IsRising, found, at_pair, first, second, less, found_own, found_there, not_there, only_one, put_none, put_same, put_there, taken, get_rising, either_none}
-use Rattle.view_diff.proofs.SameRow.{row_decides}
+use Rattle.view_rules.proofs.SameRow.{row_decides}
 
 -- ---- what is found
 

@@ -6,12 +6,13 @@ use Rattle.std.specs.declared.cmp.Ordering.TheVariants.{Less, Equal, Greater}
 use Rattle.mesh_base.specs.Keyed.{IsKeyed}
 use Rattle.net_cidr.specs.declared.ip.Ip.{Ip}
 use Rattle.view_rules.proofs.Pairs.{pairs_total}
-use Rattle.view_rules.specs.Batch.{changed_rows, gone_pairs, same_row}
+use Rattle.view_rules.specs.Batch.{changed_rows, gone_pairs}
+use Rattle.view_rules.specs.Same.{same_row}
 use Rattle.view_rules.specs.Endpoints.{pair_cmp, pair_of}
 use Rattle.view_types.specs.declared.endpoint.EndpointRow.{EndpointRow}
 use Rattle.view_diff.specs.Passing.{Passes}
 use Rattle.view_diff.proofs.OnePass.{rest_rising, lesser_lacking, lesser_missing, greater_lacking, greater_missing, equal_lacking, equal_missing, all_lacking, all_missing}
-use Rattle.view_diff.proofs.SameRow.{apart}
+use Rattle.view_rules.proofs.SameRow.{apart}
 
 below : (r s : EndpointRow) → pair_cmp (pair_of r) (pair_of s) ≡ Less → same_row r s ≡ false
 below r s lt = apart r s (λ e. cc)

@@ -6,9 +6,10 @@ use Rattle.view_types.specs.Objects.{ObjectMap}
 use Rattle.view_types.specs.declared.config.Config.{Config}
 use Rattle.view_types.specs.declared.endpoint.EndpointRow.{EndpointRow}
 use Rattle.view_types.specs.declared.endpoint.EndpointView.{EndpointView}
+use Rattle.view_types.specs.declared.outbound.ProfileView.{ProfileView}
 use Rattle.view_types.specs.declared.query.Query.{Query}
-use Rattle.view_types.specs.declared.view.View.TheVariants.{Endpoints}
-use Rattle.view_rules.specs.Batch.{IsOrderlyBefore, endpoint_batch, in_pieces, messages_between}
+use Rattle.view_types.specs.declared.view.View.TheVariants.{Endpoints, Profile}
+use Rattle.view_rules.specs.Batch.{IsOrderlyBefore, endpoint_batch, in_pieces, messages_between, profile_batch}
 use Rattle.view_rules.specs.Fold.{IsOrderly, folded_onto}
 use Rattle.view_rules.specs.Views.{view_before, view_of}
 
@@ -31,6 +32,10 @@ PairsAreCut = (size : ℕ) (pairs : List (Ip × ℕ)) → 1 ≤ size → IsCut s
 abbrev pub BatchFolds : Type 0
 BatchFolds = (old : Option EndpointView) (new : EndpointView) (limits : Limits) → 1 ≤ limits.frame_addrs → IsOrderlyBefore old → IsOrderly new
     → folded_onto (option_map Endpoints old) (endpoint_batch old new limits) ≡ Some (Endpoints new)
+
+-- so it is for profiles
+abbrev pub ProfileBatchFolds : Type 0
+ProfileBatchFolds = (old : Option ProfileView) (new : ProfileView) → folded_onto (option_map Profile old) (profile_batch old new) ≡ Some (Profile new)
 
 -- Whatever was held when a query's view was last shown, if it was, and whatever is held now, folding the messages of the
 -- query on top of the view then gives the view now.

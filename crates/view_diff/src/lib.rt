@@ -8,4 +8,5 @@ pub mod batch;
 mod cut;
 pub mod laws;
 mod merge;
+pub mod profile;
 pub mod views;

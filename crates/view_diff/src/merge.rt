@@ -1,7 +1,8 @@
 //! What a view shows that the one before it did not, by one pass over both.
 ghost use Rattle.std.specs.Prelude.{◌≡◌, ◌≢◌, ◌∷◌, ◌++◌, [], IfOk, OnOk, map, if◌then◌else◌};
 ghost use Rattle.mesh_base.specs.Keyed.{IsKeyed};
-ghost use Rattle.view_rules.specs.Batch.{changed_rows, gone_pairs, same_row};
+ghost use Rattle.view_rules.specs.Batch.{changed_rows, gone_pairs};
+ghost use Rattle.view_rules.specs.Same.{same_row};
 ghost use Rattle.view_rules.specs.Endpoints.{pair_cmp, pair_of};
 ghost use Rattle.view_diff.specs.Passing.{Passes};
 
@@ -9,9 +10,10 @@ use mesh_base::copied::Copied;
 use mesh_base::list::List;
 use mesh_base::memory::Memory;
 use mesh_base::same::Same;
-use net_cidr::ip::{Ip, compare_ips};
+use net_cidr::ip::Ip;
 use std::alloc::Global;
 use std::cmp::Ordering;
+use view_rules::order::compare_rows;
 use view_types::endpoint::EndpointRow;
 
 #[derive(Drop)]
@@ -62,7 +64,7 @@ fn pass<'a>(
 {
     let (was, olds_after) = first(olds);
     let (row, news_after) = first(news);
-    match compare(was, row) {
+    match compare_rows(was, row) {
         Ordering::Less => {
             found.gone.add((was.ip, was.port))?;
             Ok((olds_after, news))
@@ -83,15 +85,6 @@ fn first<'a>(rows: &'a [EndpointRow]) -> (&'a EndpointRow, &'a [EndpointRow])
     ensures { rows.now ≡ result.0.now ∷ result.1.now }
 {
     (&rows[0], &rows[1..])
-}
-
-fn compare(was: &EndpointRow, row: &EndpointRow) -> Ordering
-    ensures { result ≡ pair_cmp (pair_of was.now) (pair_of row.now) }
-{
-    match compare_ips(was.ip, row.ip) {
-        Ordering::Equal => was.port.cmp(&row.port),
-        other => other,
-    }
 }
 
 fn add_if_changed(

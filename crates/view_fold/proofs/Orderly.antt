@@ -1,5 +1,5 @@
 -- What is seen by folding is in order.
-use Rattle.std.proofs.Common.{◌≡◌, cond, List, [], ◌∷◌, map, Some, None, refl, sym, ap, subst, ◌∙◌}
+use Rattle.std.proofs.Common.{◌≡◌, cond, List, [], ◌∷◌, map, Option, Some, None, refl, sym, ap, subst, ◌∙◌}
 use lib.Dec.{T}
 use Rattle.std.specs.FinMap.{empty, get-empty, same_map, values}
 use Rattle.std.specs.FinMap.Entries.{below_all}
@@ -11,12 +11,12 @@ use Rattle.view_rules.proofs.Pairs.{pairs_exact, pairs_total}
 use Rattle.view_rules.proofs.RowMaps.{Pair, IsOwn, IsRising, either_none, first, less, own_put, own_rows, own_taken, rows_shown, second, taken, values_rise}
 use Rattle.view_rules.specs.Batch.{same_pair}
 use Rattle.view_rules.specs.Endpoints.{no_endpoints, pair_cmp, pair_of}
-use Rattle.view_rules.specs.Fold.{IsOrderly, RowMap, after, folded_onto, put_rows, row_map, take_out}
+use Rattle.view_rules.specs.Fold.{IsOrderly, IsOrderlyIfShown, RowMap, folded_onto, put_rows, row_map, seen, shown_after, take_out}
 use Rattle.view_types.specs.declared.endpoint.EndpointRow.{EndpointRow}
-use Rattle.view_types.specs.declared.endpoint.EndpointView.{EndpointView}
 use Rattle.view_types.specs.declared.message.Message.{Message}
-use Rattle.view_types.specs.declared.message.Message.TheVariants.{Add, Remove, NoEndpoints}
-use Rattle.view_types.specs.declared.view.View.TheVariants.{Endpoints}
+use Rattle.view_types.specs.declared.message.Message.TheVariants.{Add, Remove, NoEndpoints, Profile as WholeProfile}
+use Rattle.view_types.specs.declared.view.View.{View}
+use Rattle.view_types.specs.declared.view.View.TheVariants.{Endpoints, Profile, Server, Outbound}
 use Rattle.view_fold.specs.Laws.{FoldsAreOrderly}
 
 below : (x : EndpointRow) (xs : List EndpointRow) → T (below_all pair_cmp (pair_of x) (keyed pair_cmp pair_of (λ row. row) xs)) → AllByRecursion (λ k. pair_cmp (pair_of x) k ≡ Less) (map pair_of xs)
@@ -37,21 +37,31 @@ none_left ps rows none =
     ∙ ap values (same_map pairs_total pairs_exact (take_out ps empty) empty (λ q. taken ps empty q ∙ ap (cond (list_any (same_pair q) ps) None) (get-empty pair_cmp q) ∙ either_none (list_any (same_pair q) ps) ∙ sym (get-empty pair_cmp q)))
     ∙ rows_shown [] tt
 
-one_more : (view : EndpointView) (message : Message) → IsOrderly view → IsOrderly (after view message)
-one_more view (Add rows) is = record {
-  rise = map_rises (put_rows rows (row_map view.rows)) (own_put rows (row_map view.rows) (own_rows view.rows));
+nothing_is : IsOrderly no_endpoints
+nothing_is = record { rise = rise [] tt; absent = λ e. refl }
+
+seen_is : (shown : Option View) → IsOrderlyIfShown shown → IsOrderly (seen shown)
+seen_is None is = nothing_is
+seen_is (Some (Endpoints view)) is = is
+seen_is (Some (Profile view)) is = nothing_is
+seen_is (Some (Server view)) is = nothing_is
+seen_is (Some (Outbound view)) is = nothing_is
+
+pub one_more : (shown : Option View) (message : Message) → IsOrderlyIfShown shown → IsOrderlyIfShown (Some (shown_after shown message))
+one_more shown (Add rows) is = record {
+  rise = map_rises (put_rows rows (row_map (seen shown).rows)) (own_put rows (row_map (seen shown).rows) (own_rows (seen shown).rows));
   absent = λ e. cc;
 }
-one_more view (Remove ps) is = record {
-  rise = map_rises (take_out ps (row_map view.rows)) (own_taken ps (row_map view.rows) (own_rows view.rows));
-  absent = λ e. none_left ps view.rows (is.absent e);
+one_more shown (Remove ps) is = record {
+  rise = map_rises (take_out ps (row_map (seen shown).rows)) (own_taken ps (row_map (seen shown).rows) (own_rows (seen shown).rows));
+  absent = λ e. none_left ps (seen shown).rows ((seen_is shown is).absent e);
 }
-one_more view (NoEndpoints exists) is = record { rise = rise [] tt; absent = λ e. refl }
+one_more shown (NoEndpoints exists) is = record { rise = rise [] tt; absent = λ e. refl }
+one_more shown (WholeProfile view) is = tt
 
-from_orderly : (start : EndpointView) (messages : List Message) (view : EndpointView) → IsOrderly start → folded_onto (Some (Endpoints start)) messages ≡ Some (Endpoints view) → IsOrderly view
-from_orderly start [] view is e = let same : start ≡ view = cc e in subst IsOrderly same is
-from_orderly start (m ∷ ms) view is e = from_orderly (after start m) ms view (one_more start m is) e
+folded_is : (shown : Option View) (messages : List Message) → IsOrderlyIfShown shown → IsOrderlyIfShown (folded_onto shown messages)
+folded_is shown [] is = is
+folded_is shown (m ∷ ms) is = folded_is (Some (shown_after shown m)) ms (one_more shown m is)
 
 pub folds_are_orderly : FoldsAreOrderly
-folds_are_orderly [] view e = cc e
-folds_are_orderly (m ∷ ms) view e = from_orderly (after no_endpoints m) ms view (one_more no_endpoints m (record { rise = rise [] tt; absent = λ e. refl })) e
+folds_are_orderly messages view e = subst IsOrderlyIfShown e (folded_is None messages tt)

@@ -1,13 +1,15 @@
 ghost use Rattle.std.specs.Prelude.{◌≡◌, None, Some, OnOk, OnErr};
 ghost use Rattle.std.specs.Option.{option_copied};
-ghost use Rattle.view_rules.specs.Fold.{after, seen};
+ghost use Rattle.view_rules.specs.Endpoints.{no_endpoints};
+ghost use Rattle.view_rules.specs.Fold.{seen, shown_after, with_rows, without_pairs};
 ghost use Rattle.view_types.specs.declared.view.View.TheVariants.{Endpoints};
 
 use crate::rows::{put_rows, take_out};
 use mesh_base::list::List;
 use mesh_base::memory::Memory;
+use net_cidr::ip::Ip;
 use std::alloc::Global;
-use view_types::endpoint::EndpointView;
+use view_types::endpoint::{EndpointRow, EndpointView};
 use view_types::message::Message;
 use view_types::view::View;
 
@@ -25,19 +27,45 @@ impl Fold {
         Fold { view: None }
     }
 
-    /// Takes one more message. For want of memory what is seen stays as it is.
+    /// Takes one more message. Where memory runs out what is seen stays as it is.
     pub fn take(&mut self, alloc: Global, message: Message) -> Result<(), Memory>
-        ensures ok { OnOk result (self.new.view ≡ Some (Endpoints (after (seen self.old.view) message))) }
+        ensures ok { OnOk result (self.new.view ≡ Some (shown_after self.old.view message)) }
+        ensures err { OnErr result (self.new ≡ self.old) }
+    {
+        match message {
+            Message::Add(rows) => self.add(alloc, rows)?,
+            Message::Remove(pairs) => self.remove(alloc, pairs.as_slice())?,
+            Message::NoEndpoints(exists) => {
+                let rows = List::new(alloc);
+                self.view = Some(View::Endpoints(EndpointView { exists, rows }));
+            }
+            Message::Profile(view) => self.view = Some(View::Profile(view)),
+        }
+        Ok(())
+    }
+
+    fn add(&mut self, alloc: Global, rows: List<EndpointRow>) -> Result<(), Memory>
+        ensures ok { OnOk result (self.new.view ≡ Some (Endpoints (with_rows rows (seen self.old.view)))) }
         ensures err { OnErr result (self.new ≡ self.old) }
     {
         if let Some(View::Endpoints(view)) = &mut self.view {
-            return apply(alloc, view, message);
+            return add_rows(alloc, view, rows);
         }
-        let mut view = EndpointView {
-            exists: false,
-            rows: List::new(alloc),
-        };
-        apply(alloc, &mut view, message)?;
+        let mut view = no_endpoints(alloc);
+        add_rows(alloc, &mut view, rows)?;
+        self.view = Some(View::Endpoints(view));
+        Ok(())
+    }
+
+    fn remove(&mut self, alloc: Global, pairs: &[(Ip, u16)]) -> Result<(), Memory>
+        ensures ok { OnOk result (self.new.view ≡ Some (Endpoints (without_pairs pairs.now (seen self.old.view)))) }
+        ensures err { OnErr result (self.new ≡ self.old) }
+    {
+        if let Some(View::Endpoints(view)) = &mut self.view {
+            return take_out(alloc, &mut view.rows, pairs);
+        }
+        let mut view = no_endpoints(alloc);
+        take_out(alloc, &mut view.rows, pairs)?;
         self.view = Some(View::Endpoints(view));
         Ok(())
     }
@@ -50,20 +78,20 @@ impl Fold {
     }
 }
 
-fn apply(alloc: Global, view: &mut EndpointView, message: Message) -> Result<(), Memory>
-    ensures ok { OnOk result (view.new ≡ after view.old message) }
+fn no_endpoints(alloc: Global) -> EndpointView
+    ensures { result ≡ no_endpoints }
+{
+    EndpointView {
+        exists: false,
+        rows: List::new(alloc),
+    }
+}
+
+fn add_rows(alloc: Global, view: &mut EndpointView, rows: List<EndpointRow>) -> Result<(), Memory>
+    ensures ok { OnOk result (view.new ≡ with_rows rows view.old) }
     ensures err { OnErr result (view.new ≡ view.old) }
 {
-    match message {
-        Message::Add(rows) => {
-            put_rows(alloc, &mut view.rows, rows)?;
-            view.exists = true;
-        }
-        Message::Remove(pairs) => take_out(alloc, &mut view.rows, pairs.as_slice())?,
-        Message::NoEndpoints(exists) => {
-            view.rows = List::new(alloc);
-            view.exists = exists;
-        }
-    }
+    put_rows(alloc, &mut view.rows, rows)?;
+    view.exists = true;
     Ok(())
 }

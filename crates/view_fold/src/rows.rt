@@ -15,7 +15,7 @@ use std::collections::BTreeSet;
 use std::mem;
 use view_types::endpoint::EndpointRow;
 
-/// Puts rows in the places of those of their addresses and ports. For want of memory all stay as they are.
+/// Puts rows in the places of those of their addresses and ports. Where memory runs out all stay as they are.
 pub fn put_rows(
     alloc: Global,
     rows: &mut List<EndpointRow>,
@@ -46,7 +46,7 @@ fn add_to(rows: &mut Vec<EndpointRow>, added: Vec<EndpointRow>) -> Result<(), Me
     }
 }
 
-/// Takes the rows at these addresses and ports out. For want of memory all stay as they are.
+/// Takes the rows at these addresses and ports out. Where memory runs out all stay as they are.
 pub fn take_out(
     alloc: Global,
     rows: &mut List<EndpointRow>,

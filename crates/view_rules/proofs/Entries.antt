@@ -30,7 +30,7 @@ equal Greater e = cc
 -- ---- maps
 
 module _ {K V : Type 0} {R : K → K → Ordering} (o : IsTotalOrder R) where
-  below_at : (k : K) (es : List (K × V)) (e : K × V) → T (below_all R k es) → Among e es → R k e.0 ≡ Less
+  pub below_at : (k : K) (es : List (K × V)) (e : K × V) → T (below_all R k es) → Among e es → R k e.0 ≡ Less
   below_at k [] e h at = absurd at
   below_at k (f ∷ fs) e h at = elim at [
     | inl is ↦ subst (λ (e : K × V). R k e.0 ≡ Less) is (less _ (first _ _ h))
@@ -62,7 +62,11 @@ module _ {K V : Type 0} {R : K → K → Ordering} (o : IsTotalOrder R) where
       let entry = from_map (λ (e : K × V). e.1) (entries m) v at in
       (entry.0.0, get-entries m entry.0.0 ∙ found_entry (entries m) entry.0 (entries_sorted m) entry.1 ∙ ap Some entry.2)
 
+  -- what is held at a key is that of an entry
+  pub entry_at : (m : FinMap R V) (k : K) (v : V) → get m k ≡ Some v → (e : K × V) × Among e (entries m) × (e.1 ≡ v)
+  entry_at m k v is = entry_found k v (entries m) (sym (get-entries m k) ∙ is)
+
   pub stands : (m : FinMap R V) (k : K) (v : V) → get m k ≡ Some v → Among v (values m)
   stands m k v is =
-      let entry = entry_found k v (entries m) (sym (get-entries m k) ∙ is) in
+      let entry = entry_at m k v is in
       subst (λ v. Among v (values m)) entry.2 (among_map (λ (e : K × V). e.1) (entries m) entry.0 entry.1)

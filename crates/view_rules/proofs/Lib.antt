@@ -1,5 +1,7 @@
 pub mod Among
+pub mod ByAddress
 pub mod Entries
+mod FirstHeld
 pub mod FirstOfEach
 pub mod FirstRows
 mod Firsts
@@ -8,4 +10,9 @@ mod Least
 pub mod Orderly
 pub mod Pairs
 pub mod RowMaps
+pub mod SameProfile
+pub mod SameRequest
+pub mod SameResponse
+pub mod SameRow
 mod Slices
+mod Tests

@@ -23,7 +23,7 @@ use Rattle.view_rules.proofs.Among.{Among}
 use Rattle.view_rules.proofs.Entries.{first, found_entry, less, second}
 use Rattle.view_rules.proofs.Given.{slice_is}
 
-abbrev Fits : List (ObjKey × Object) → Type 0
+abbrev pub Fits : List (ObjKey × Object) → Type 0
 Fits es = AllByRecursion (λ (e : ObjKey × Object). key_of e.1 ≡ e.0) es
 
 abbrev names : List Slice → List (List ℕ)
@@ -63,7 +63,7 @@ names_rise ns name (e ∷ es) sorted fits =
       | None ↦ λ is. rest
     ] refl
 
-entries_fit : (held : ObjectMap) → AtKeys held → (es : List (ObjKey × Object)) → ((e : ObjKey × Object) → Among e es → Among e (entries held)) → Fits es
+pub entries_fit : (held : ObjectMap) → AtKeys held → (es : List (ObjKey × Object)) → ((e : ObjKey × Object) → Among e es → Among e (entries held)) → Fits es
 entries_fit held at_keys [] part = tt
 entries_fit held at_keys (e ∷ es) part =
     let found : get held e.0 ≡ Some e.1 = get-entries held e.0 ∙ found_entry keys_total (entries held) e (entries_sorted held) (part e (inl refl)) in

@@ -1,22 +1,20 @@
 -- The messages that bring a subscriber from an old view, or from none, to a new one.
-use Rattle.std.specs.Prelude.{◌&&◌, ◌||◌, ◌==◌, ℕ, zero, suc, Bool, true, false, not, List, [], ◌∷◌, ◌++◌, length, map, take, drop, Option, Some, None, if◌then◌else◌}
+use Rattle.std.specs.Prelude.{◌||◌, ◌==◌, ℕ, zero, suc, Bool, true, not, List, [], ◌∷◌, ◌++◌, length, map, take, drop, Option, Some, None, if◌then◌else◌}
 use Rattle.std.specs.Bool.{beq}
-use Rattle.std.specs.Cmp.Lexicographic.{pointwise, slice_cmp}
-use Rattle.std.specs.FinMap.{FinMap, entries}
 use Rattle.std.specs.List.{filter, list_any}
-use Rattle.std.specs.Ordering.{eq_by_cmp, nat_cmp}
-use Rattle.std.specs.Str.{bytes_eq}
+use Rattle.std.specs.Ordering.{eq_by_cmp}
 use Rattle.mesh_base.specs.declared.limits.Limits.{Limits}
-use Rattle.net_cidr.specs.Address.{ip_cmp}
 use Rattle.net_cidr.specs.declared.ip.Ip.{Ip}
 use Rattle.view_types.specs.declared.endpoint.EndpointRow.{EndpointRow}
 use Rattle.view_types.specs.declared.endpoint.EndpointView.{EndpointView}
 use Rattle.view_types.specs.declared.message.Message.{Message}
-use Rattle.view_types.specs.declared.message.Message.TheVariants.{Add, Remove, NoEndpoints}
+use Rattle.view_types.specs.declared.message.Message.TheVariants.{Add, Remove, NoEndpoints, Profile as WholeProfile}
+use Rattle.view_types.specs.declared.outbound.ProfileView.{ProfileView}
 use Rattle.view_types.specs.declared.view.View.{View}
-use Rattle.view_types.specs.declared.view.View.TheVariants.{Endpoints}
+use Rattle.view_types.specs.declared.view.View.TheVariants.{Endpoints, Profile}
 use Rattle.view_rules.specs.Endpoints.{pair_cmp, pair_of}
 use Rattle.view_rules.specs.Fold.{IsOrderly}
+use Rattle.view_rules.specs.Same.{same_option, same_profile, same_row}
 
 -- ---- pieces
 
@@ -30,29 +28,7 @@ pieces_up_to (suc n) size (x ∷ xs) = take size (x ∷ xs) ∷ pieces_up_to n s
 abbrev pub in_pieces : {X : Type 0} → ℕ → List X → List (List X)
 in_pieces size xs = pieces_up_to (length xs) size xs
 
--- ---- rows that are the same
-
-abbrev pub same_option : {X : Type 0} → (X → X → Bool) → Option X → Option X → Bool
-same_option same None None = true
-same_option same (Some x) (Some y) = same x y
-same_option same _ _ = false
-
-abbrev pub same_label : List ℕ × List ℕ → List ℕ × List ℕ → Bool
-same_label l m = bytes_eq l.0 m.0 && bytes_eq l.1 m.1
-
-abbrev pub same_labels : FinMap (slice_cmp nat_cmp) (List ℕ) → FinMap (slice_cmp nat_cmp) (List ℕ) → Bool
-same_labels ls ms = pointwise same_label (entries ls) (entries ms)
-
--- nothing differs
-unfoldable pub same_row : EndpointRow → EndpointRow → Bool
-same_row r s =
-    eq_by_cmp ip_cmp r.ip s.ip
-    && (r.port == s.port)
-    && (r.weight == s.weight)
-    && same_labels r.labels s.labels
-    && same_option bytes_eq r.identity s.identity
-    && same_option (λ p q. p == q) r.tunnel s.tunnel
-    && beq r.h2 s.h2
+-- ---- what a view shows that the one before it didn't
 
 abbrev pub same_pair : Ip × ℕ → Ip × ℕ → Bool
 same_pair = eq_by_cmp pair_cmp
@@ -62,8 +38,6 @@ has_row rows row = list_any (same_row row) rows
 
 abbrev pub has_pair : List EndpointRow → Ip × ℕ → Bool
 has_pair rows pair = list_any (λ row. same_pair pair (pair_of row)) rows
-
--- ---- what a view shows that the one before it didn't
 
 -- the rows that are new or have changed
 abbrev pub changed_rows : List EndpointRow → List EndpointRow → List EndpointRow
@@ -104,6 +78,10 @@ messages_to size old exists (r ∷ rs) = messages_to_rows size (rows_before old)
 abbrev pub endpoint_batch : Option EndpointView → EndpointView → Limits → List Message
 endpoint_batch old new limits = messages_to limits.frame_addrs old new.exists new.rows
 
+-- a profile is sent whole, unless it was shown before as it is
+abbrev pub profile_batch : Option ProfileView → ProfileView → List Message
+profile_batch old new = if same_option same_profile old (Some new) then [] else WholeProfile new ∷ []
+
 -- ---- views
 
 -- the endpoints that a view shows, if it shows any
@@ -111,9 +89,15 @@ abbrev pub endpoints_in : Option View → Option EndpointView
 endpoints_in (Some (Endpoints view)) = Some view
 endpoints_in _ = None
 
+-- the profile that a view shows, if it shows one
+abbrev pub profile_in : Option View → Option ProfileView
+profile_in (Some (Profile view)) = Some view
+profile_in _ = None
+
 -- from the old view of a query, or from none, to the new one; views of the other methods aren't sent yet
 abbrev pub batch : Option View → View → Limits → List Message
 batch old (Endpoints new) limits = endpoint_batch (endpoints_in old) new limits
+batch old (Profile new) limits = profile_batch (profile_in old) new
 batch old _ limits = []
 
 -- there may be no new view either

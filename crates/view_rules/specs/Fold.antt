@@ -6,9 +6,9 @@ use Rattle.net_cidr.specs.declared.ip.Ip.{Ip}
 use Rattle.view_types.specs.declared.endpoint.EndpointRow.{EndpointRow}
 use Rattle.view_types.specs.declared.endpoint.EndpointView.{EndpointView}
 use Rattle.view_types.specs.declared.message.Message.{Message}
-use Rattle.view_types.specs.declared.message.Message.TheVariants.{Add, Remove, NoEndpoints}
+use Rattle.view_types.specs.declared.message.Message.TheVariants.{Add, Remove, NoEndpoints, Profile as WholeProfile}
 use Rattle.view_types.specs.declared.view.View.{View}
-use Rattle.view_types.specs.declared.view.View.TheVariants.{Endpoints}
+use Rattle.view_types.specs.declared.view.View.TheVariants.{Endpoints, Profile}
 use Rattle.view_rules.specs.Endpoints.{no_endpoints, pair_cmp, pair_of}
 
 -- rows by their addresses and ports
@@ -29,20 +29,27 @@ take_out (p ∷ ps) m = take_out ps (remove m p)
 
 -- ---- messages
 
--- the view after one more message
-abbrev pub after : EndpointView → Message → EndpointView
-after view (Add rows) = record { exists = true; rows = values (put_rows rows (row_map view.rows)) }
-after view (Remove pairs) = record { exists = view.exists; rows = values (take_out pairs (row_map view.rows)) }
-after view (NoEndpoints exists) = record { exists = exists; rows = [] }
+abbrev pub with_rows : List EndpointRow → EndpointView → EndpointView
+with_rows rows view = record { exists = true; rows = values (put_rows rows (row_map view.rows)) }
+
+abbrev pub without_pairs : List (Ip × ℕ) → EndpointView → EndpointView
+without_pairs pairs view = record { exists = view.exists; rows = values (take_out pairs (row_map view.rows)) }
 
 -- the endpoints that are seen; before the first message there are none
 abbrev pub seen : Option View → EndpointView
 seen (Some (Endpoints view)) = view
 seen _ = no_endpoints
 
+-- the view after one more message
+abbrev pub shown_after : Option View → Message → View
+shown_after shown (Add rows) = Endpoints (with_rows rows (seen shown))
+shown_after shown (Remove pairs) = Endpoints (without_pairs pairs (seen shown))
+shown_after shown (NoEndpoints exists) = Endpoints (record { exists = exists; rows = [] })
+shown_after shown (WholeProfile view) = Profile view
+
 abbrev pub folded_onto : Option View → List Message → Option View
 folded_onto view [] = view
-folded_onto view (m ∷ ms) = folded_onto (Some (Endpoints (after (seen view) m))) ms
+folded_onto view (m ∷ ms) = folded_onto (Some (shown_after view m)) ms
 
 -- the view that the messages show; before the first there is none
 abbrev pub fold : List Message → Option View

@@ -1,11 +1,13 @@
--- The endpoints of a Service port, by the places that give them.
-use Rattle.std.specs.Prelude.{◌≡◌, ◌≢◌, ◌↔◌, ℕ, Bool, true, if◌then◌else◌, slice_get, IsTrue, List, Option, Some, None, All, Contains, find, map}
+-- The endpoints of a Service port, by the places that give them; whose an address is; and when two views are the same.
+use Rattle.std.specs.Prelude.{◌≡◌, ◌≢◌, ◌↔◌, ℕ, Bool, true, false, if◌then◌else◌, slice_get, IsTrue, List, Option, Some, None, All, Contains, find, map}
+use Rattle.std.specs.Bool.{Decides}
 use Rattle.std.specs.Cmp.Lexicographic.{slice_cmp}
 use Rattle.std.specs.FinMap.{get}
 use Rattle.std.specs.List.Sorted.{IsStrictlySortedBy}
 use Rattle.std.specs.Ordering.{eq_by_cmp, nat_cmp, ordering_then}
 use Rattle.std.specs.declared.cmp.Ordering.{Ordering}
 use Rattle.std.specs.declared.cmp.Ordering.TheVariants.{Greater}
+use Rattle.k8s_meta.specs.declared.meta.Meta.{Meta}
 use Rattle.mesh_base.specs.declared.key.Kind.TheVariants as kind
 use Rattle.mesh_base.specs.declared.key.ObjKey.{ObjKey}
 use Rattle.net_cidr.specs.declared.ip.Ip.{Ip}
@@ -13,13 +15,17 @@ use Rattle.view_types.specs.Objects.{AtKeys, ObjectMap}
 use Rattle.view_types.specs.declared.config.Config.{Config}
 use Rattle.view_types.specs.declared.endpoint.EndpointRow.{EndpointRow}
 use Rattle.view_types.specs.declared.object.Object.TheVariants as object
+use Rattle.view_types.specs.declared.outbound.ProfileView.{ProfileView}
+use Rattle.view_types.specs.declared.pod.Pod.{Pod}
 use Rattle.view_types.specs.declared.service.NamedPort.{NamedPort}
 use Rattle.view_types.specs.declared.service.Service.{Service}
 use Rattle.view_types.specs.declared.slice.Point.{Point}
 use Rattle.view_types.specs.declared.slice.Slice.{Slice}
-use Rattle.view_rules.specs.Endpoints.{RowFor, endpoints, first_rows, has_addresses, pair_cmp, pair_of, port_name, service_held, service_of, slices_held}
+use Rattle.view_rules.specs.Endpoints.{RowFor, endpoints, first_rows, has_addresses, pair_cmp, pair_of, port_name, service_held, service_key, service_of, slices_held}
 use Rattle.view_rules.specs.Fold.{IsOrderly}
-use Rattle.view_rules.specs.PodRows.{row_for}
+use Rattle.view_rules.specs.PodRows.{pod_key, row_for}
+use Rattle.view_rules.specs.Profiles.{has_ended, pod_at, service_at}
+use Rattle.view_rules.specs.Same.{same_profile, same_row}
 
 -- the name of the Service port of the number, where the Service has endpoints
 abbrev pub name_of_port : ℕ → Option Service → Option (List ℕ)
@@ -115,3 +121,46 @@ pub record IsOfTheLeast (config : Config) (held : ObjectMap) (ns name port_name 
 abbrev pub RowsAreOfTheLeast : Type 0
 RowsAreOfTheLeast = (config : Config) (held : ObjectMap) → AtKeys held → (ns name port_name : List ℕ) (number : ℕ) (row : EndpointRow)
     → name_of_port number (service_held held ns name) ≡ Some port_name → Contains (endpoints config held ns name number).rows row → IsOfTheLeast config held ns name port_name row
+
+-- ---- when two are the same
+
+abbrev pub SameRowDecides : Type 0
+SameRowDecides = (r s : EndpointRow) → Decides (same_row r s) (r ≡ s)
+
+abbrev pub SameProfileDecides : Type 0
+SameProfileDecides = (v w : ProfileView) → Decides (same_profile v w) (v ≡ w)
+
+-- ---- whose an address is
+
+-- the Service is held, isn't of the type ExternalName, and has the address as a cluster IP
+pub record IsServiceWith (held : ObjectMap) (ip : Ip) (s : Service) : Type 0 where
+  pub at_key : get held (service_key s.meta.ns s.meta.name) ≡ Some (object.Service s)
+  pub inside : s.external ≡ false
+  pub has : Contains s.addrs ip
+
+-- the Pod is held and hasn't ended, and the address is its own rather than the node's
+pub record IsPodWith (held : ObjectMap) (ip : Ip) (pod : Pod) : Type 0 where
+  pub at_key : get held (pod_key pod.meta.ns pod.meta.name) ≡ Some (object.Pod pod)
+  pub apart : pod.host_network ≡ false
+  pub running : has_ended pod ≡ false
+  pub has : Contains pod.addrs ip
+
+-- by namespace, and then by name
+abbrev pub name_cmp : Meta → Meta → Ordering
+name_cmp a b = ordering_then (slice_cmp nat_cmp a.ns b.ns) (slice_cmp nat_cmp a.name b.name)
+
+-- it is one of these, and none of them comes before it
+pub record IsLeastOf {X : Type 0} (meta : X → Meta) (Is : X → Type 0) (x : X) : Type 0 where
+  pub is : Is x
+  pub least : (other : X) → Is other → name_cmp (meta x) (meta other) ≢ Greater
+
+-- what is found is the least of these; where none is found there is none
+pub record FindsLeast {X : Type 0} (meta : X → Meta) (Is : X → Type 0) (found : Option X) : Type 0 where
+  pub some : (x : X) → found ≡ Some x → IsLeastOf meta Is x
+  pub none : found ≡ None → (x : X) → Is x → ⊥
+
+abbrev pub ServicesAreTheLeast : Type 0
+ServicesAreTheLeast = (held : ObjectMap) → AtKeys held → (ip : Ip) → FindsLeast (λ (s : Service). s.meta) (IsServiceWith held ip) (service_at held ip)
+
+abbrev pub PodsAreTheLeast : Type 0
+PodsAreTheLeast = (held : ObjectMap) → AtKeys held → (ip : Ip) → FindsLeast (λ (p : Pod). p.meta) (IsPodWith held ip) (pod_at held ip)

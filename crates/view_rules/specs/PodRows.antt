@@ -39,8 +39,12 @@ pod_held held (Some target) = pod_found (get held (pod_key target.0 target.1))
 abbrev pub bare_row : Ip → ℕ → EndpointRow
 bare_row ip port = record { ip = ip; port = port; weight = 10000; labels = empty; identity = None; tunnel = None; h2 = false }
 
+-- the port stands in one of the ranges
+abbrev pub is_within : List (ℕ × ℕ) → ℕ → Bool
+is_within ranges port = list_any (λ r. nat_le r.0 port && nat_le port r.1) ranges
+
 abbrev pub is_opaque : Pod → ℕ → Bool
-is_opaque pod port = list_any (λ r. nat_le r.0 port && nat_le port r.1) (opaque_ranges pod.meta)
+is_opaque pod port = is_within (opaque_ranges pod.meta) port
 
 -- the port at which proxies take tunnelled connections
 abbrev pub tunnel_port : ℕ

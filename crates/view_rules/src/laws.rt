@@ -1,4 +1,4 @@
-ghost use Rattle.view_rules.specs.Laws.{EndpointsAreOrderly, FirstRowsAreFirst, PairsAreGiven, RowsAreOfTheLeast, SlicesByName};
+ghost use Rattle.view_rules.specs.Laws.{EndpointsAreOrderly, FirstRowsAreFirst, PairsAreGiven, PodsAreTheLeast, RowsAreOfTheLeast, SameProfileDecides, SameRowDecides, ServicesAreTheLeast, SlicesByName};
 
 /// A pair of address and port stands in a view exactly where some place gives it.
 pub fn pairs_are_given()
@@ -24,4 +24,21 @@ pub fn endpoints_are_orderly()
 /// address and the port.
 pub fn rows_are_of_the_least()
     ensures { RowsAreOfTheLeast }
+{}
+
+/// An address leads to the Service, and to the Pod, that is the least by namespace and name of those held that have it; and
+/// to none exactly where none has it.
+pub fn addresses_lead_to_the_least()
+    ensures services { ServicesAreTheLeast }
+    ensures pods { PodsAreTheLeast }
+{}
+
+/// The test of two rows is true exactly where they are equal.
+pub fn same_row_decides()
+    ensures { SameRowDecides }
+{}
+
+/// The test of two profiles is true exactly where they are equal.
+pub fn same_profile_decides()
+    ensures { SameProfileDecides }
 {}

@@ -1,15 +1,15 @@
-ghost use Rattle.std.specs.Prelude.{◌≡◌, ◌&&◌, IfOk, nat_le, Some};
+ghost use Rattle.std.specs.Prelude.{◌≡◌, IfOk, Some};
 ghost use Rattle.std.specs.FinMap.{get};
-ghost use Rattle.std.specs.List.{list_any};
 ghost use Rattle.std.specs.Option.{option_copied};
-ghost use Rattle.view_rules.specs.PodRows.{as_pod, bare_row, is_opaque, labelled_row, labels_of, meshed_row, pod_found, pod_held, pod_key, row_of};
+ghost use Rattle.view_rules.specs.PodRows.{as_pod, bare_row, labelled_row, labels_of, meshed_row, pod_found, pod_held, pod_key, row_of};
 
+use crate::opaque::is_opaque;
 use mesh_base::key::{Kind, ObjKey};
 use mesh_base::labels::Labels;
 use mesh_base::memory::Memory;
 use mesh_base::steps::Steps;
 use mesh_base::text::Text;
-use mesh_text::mesh::{identity_of, is_meshed, opaque_ports};
+use mesh_text::mesh::{identity_of, is_meshed};
 use net_cidr::ip::Ip;
 use object_store::store::Store;
 use std::alloc::Global;
@@ -26,12 +26,12 @@ pub(crate) fn pod_held<'a>(
     ensures { IfOk result (λ pod. option_copied pod ≡ pod_held store.now.objects target.now) }
 {
     match target {
-        Some((ns, name)) => pod_at(store, ns, name),
+        Some((ns, name)) => pod_named(store, ns, name),
         None => Ok(None),
     }
 }
 
-fn pod_at<'a>(store: &'a Store, ns: &Text, name: &Text) -> Result<Option<&'a Pod>, Memory>
+fn pod_named<'a>(store: &'a Store, ns: &Text, name: &Text) -> Result<Option<&'a Pod>, Memory>
     ensures { IfOk result (λ pod. option_copied pod ≡ pod_found (get store.now.objects (pod_key ns.now name.now))) }
 {
     let key = ObjKey {
@@ -43,7 +43,7 @@ fn pod_at<'a>(store: &'a Store, ns: &Text, name: &Text) -> Result<Option<&'a Pod
     Ok(pod_found(store.get(&key, &mut steps)))
 }
 
-fn pod_found(found: Option<&Object>) -> Option<&Pod>
+pub(crate) fn pod_found(found: Option<&Object>) -> Option<&Pod>
     ensures { option_copied result ≡ pod_found (option_copied found.entry) }
 {
     match found {
@@ -123,7 +123,7 @@ fn meshed_row(
     ensures { IfOk result (λ meshed. meshed ≡ meshed_row config.now pod.now port row) }
 {
     let identity = identity_of(alloc, config, &pod.meta.ns, &pod.account)?;
-    let opaque = is_opaque(alloc, pod, port)?;
+    let opaque = is_opaque(alloc, &pod.meta, port)?;
     Ok(EndpointRow {
         ip: row.ip,
         port: row.port,
@@ -133,21 +133,6 @@ fn meshed_row(
         tunnel: Some(4143),
         h2: !opaque,
     })
-}
-
-fn is_opaque(alloc: Global, pod: &Pod, port: u16) -> Result<bool, Memory>
-    ensures { IfOk result (λ opaque. opaque ≡ is_opaque pod.now port) }
-{
-    let ports = opaque_ports(alloc, &pod.meta)?;
-    Ok(has_port(ports.ranges.as_slice(), port))
-}
-
-fn has_port(ranges: &[(u16, u16)], port: u16) -> bool
-    ensures { result ≡ list_any (λ r. nat_le r.0 port && nat_le port r.1) ranges.now }
-{
-    ranges
-        .iter()
-        .any(|range| range.0 <= port && port <= range.1)
 }
 
 /// An endpoint of which only the address and port are known.

@@ -3,6 +3,7 @@ ghost use Rattle.view_rules.specs.Fold.{IsOrderlyIfShown};
 ghost use Rattle.view_rules.specs.Views.{view_of};
 
 use crate::endpoints::endpoints;
+use crate::profile::profile;
 use mesh_base::memory::Memory;
 use object_store::store::Store;
 use std::alloc::Global;
@@ -10,7 +11,7 @@ use view_types::config::Config;
 use view_types::query::Query;
 use view_types::view::View;
 
-/// The view of a query, by what is held. Queries of the methods other than `Get` have none yet.
+/// The view of a query, by what is held. Queries of `WatchPort` and `Watch` have none yet.
 pub fn scratch(
     alloc: Global,
     store: &Store,
@@ -24,6 +25,10 @@ pub fn scratch(
         Query::Get { ns, name, port, .. } => {
             let view = endpoints(alloc, config, store, ns, name, *port)?;
             Ok(Some(View::Endpoints(view)))
+        }
+        Query::Profile { target, ctx } => {
+            let view = profile(alloc, config, store, target, &ctx.ns)?;
+            Ok(Some(View::Profile(view)))
         }
         _ => Ok(None),
     }

@@ -27,7 +27,7 @@ pub(crate) fn service_held<'a>(
     Ok(service_found(store.get(&key, &mut steps)))
 }
 
-fn service_found(found: Option<&Object>) -> Option<&Service>
+pub(crate) fn service_found(found: Option<&Object>) -> Option<&Service>
     ensures { option_copied result ≡ service_found (option_copied found.entry) }
 {
     match found {

@@ -1,6 +1,7 @@
 ghost use Rattle.std.specs.Prelude.{◌≡◌, IfOk};
 
 use crate::endpoint::EndpointRow;
+use crate::outbound::ProfileView;
 use mesh_base::copied::Copied;
 use mesh_base::list::List;
 use mesh_base::memory::Memory;
@@ -16,6 +17,8 @@ pub enum Message {
     Remove(List<(Ip, u16)>),
     /// There are no endpoints; whether the Service exists.
     NoEndpoints(bool),
+    /// The whole profile of a target.
+    Profile(ProfileView),
 }
 
 impl Copied for Message {
@@ -24,6 +27,7 @@ impl Copied for Message {
             Message::Add(list) => Ok(Message::Add(list.copy(alloc)?)),
             Message::Remove(list) => Ok(Message::Remove(list.copy(alloc)?)),
             Message::NoEndpoints(exists) => Ok(Message::NoEndpoints(*exists)),
+            Message::Profile(view) => Ok(Message::Profile(view.copy(alloc)?)),
         }
     }
 }

@@ -18,7 +18,6 @@ use std::alloc::Global;
 use std::cmp::Ordering;
 
 /// An object of the cluster. What it holds stands behind a pointer, so that a list of objects moves little.
-#[derive(Drop)]
 pub enum Object {
     Pod(Boxed<Pod>),
     Service(Boxed<Service>),
@@ -31,6 +30,25 @@ pub enum Object {
     NetworkAuthentication(Boxed<NetAuthn>),
     LinkerdRoute(Boxed<Route>),
     GatewayRoute(Boxed<Route>),
+}
+
+/// Written by hand, so that a crate that drops objects needs no proof of what is in them.
+impl Drop for Object {
+    fn drop(self) {
+        match self {
+            Object::Pod(_object) => {}
+            Object::Service(_object) => {}
+            Object::EndpointSlice(_object) => {}
+            Object::ServiceProfile(_object) => {}
+            Object::Server(_object) => {}
+            Object::ServerAuthorization(_object) => {}
+            Object::AuthorizationPolicy(_object) => {}
+            Object::MeshTLSAuthentication(_object) => {}
+            Object::NetworkAuthentication(_object) => {}
+            Object::LinkerdRoute(_object) => {}
+            Object::GatewayRoute(_object) => {}
+        }
+    }
 }
 
 impl Object {

@@ -30,7 +30,6 @@ pub struct Context {
 }
 
 /// What a subscription asks for.
-#[derive(Drop)]
 pub enum Query {
     Get {
         ns: Text,
@@ -50,6 +49,30 @@ pub enum Query {
     Traffic {
         target: Target,
     },
+}
+
+/// Written by hand, as that of `Object`.
+impl Drop for Query {
+    fn drop(self) {
+        match self {
+            Query::Get {
+                ns: _ns,
+                name: _name,
+                port: _,
+                ctx: _ctx,
+            } => {}
+            Query::Profile {
+                target: _target,
+                ctx: _ctx,
+            } => {}
+            Query::Port {
+                ns: _ns,
+                pod: _pod,
+                port: _,
+            } => {}
+            Query::Traffic { target: _target } => {}
+        }
+    }
 }
 
 impl Copied for Target {

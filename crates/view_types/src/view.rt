@@ -9,12 +9,23 @@ use mesh_base::same::Same;
 use std::alloc::Global;
 
 /// What a query shows of the objects held.
-#[derive(Drop)]
 pub enum View {
     Endpoints(EndpointView),
     Profile(ProfileView),
     Server(ServerView),
     Outbound(OutboundView),
+}
+
+/// Written by hand, as that of `Object`.
+impl Drop for View {
+    fn drop(self) {
+        match self {
+            View::Endpoints(_view) => {}
+            View::Profile(_view) => {}
+            View::Server(_view) => {}
+            View::Outbound(_view) => {}
+        }
+    }
 }
 
 impl Copied for View {

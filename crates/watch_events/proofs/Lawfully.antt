@@ -33,6 +33,7 @@ use Rattle.watch_events.specs.declared.line.Line.{Line}
 use Rattle.watch_events.specs.declared.line.Line.TheVariants as lines
 use Rattle.watch_events.specs.declared.line.LineFault.{LineFault}
 use Rattle.watch_events.proofs.Apart.{apart_unless_repeated}
+use Rattle.watch_events.proofs.Targets.{query_gives}
 
 -- ---- steps of a line
 
@@ -73,7 +74,7 @@ P = IsLawfulLine
 
 subscription_gives : (config : Config) (s : Spot) → Lawful (subscription_of config s)
 unfolding subscription_of
-subscription_gives config s = step P _ _ (λ id _. step P _ _ (λ q _. step P _ _ (λ method _. step P _ _ (λ query _. end P (lines.Subscribe (record { 0 = id }) query) tt))))
+subscription_gives config s = step P _ _ (λ id _. step P _ _ (λ q _. step P _ _ (λ method _. step P _ _ (λ query is. end P (lines.Subscribe (record { 0 = id }) query) (query_gives config method q query is)))))
 
 cancellation_gives : (s : Spot) → Lawful (cancellation_of s)
 unfolding cancellation_of

@@ -3,3 +3,4 @@ pub mod EachObject
 pub mod Groups
 pub mod KeyCmp
 pub mod Lawfully
+mod Targets

@@ -1,13 +1,18 @@
 -- What holds of each object and of each line that was read, and applying it requires.
-use Rattle.std.specs.Prelude.{◌≡◌, ℕ, List, Ok}
+use Rattle.std.specs.Prelude.{◌≡◌, ◌<◌, ℕ, List, Ok, IsUtf8}
 use Rattle.std.specs.List.{AllByRecursion}
 use Rattle.k8s_meta.specs.Given.{GivesOnly}
+use Rattle.net_cidr.specs.Texts.{FitsIp}
 use Rattle.mesh_base.specs.declared.key.Kind.{Kind}
 use Rattle.mesh_base.specs.declared.limits.Limits.{Limits}
 use Rattle.view_types.specs.Lawful.{IsLawful}
 use Rattle.view_types.specs.Objects.{IsListOf, kind_of}
 use Rattle.view_types.specs.declared.config.Config.{Config}
 use Rattle.view_types.specs.declared.object.Object.{Object}
+use Rattle.view_types.specs.declared.query.Query.{Query}
+use Rattle.view_types.specs.declared.query.Query.TheVariants as queries
+use Rattle.view_types.specs.declared.query.Target.{Target}
+use Rattle.view_types.specs.declared.query.Target.TheVariants as targets
 use Rattle.watch_events.specs.Lines.{line_of, text_line}
 use Rattle.watch_events.specs.Objects.{object_at}
 use Rattle.watch_events.specs.declared.event.Event.{Event}
@@ -29,8 +34,19 @@ IsLawfulEvent (Delete key) = Unit {0}
 IsLawfulEvent (Relist kind items) = IsListOf kind items × AllByRecursion IsLawful items
 IsLawfulEvent Bookmark = Unit {0}
 
+-- The names of a Service are in UTF-8, and an address and its port are within their types.
+abbrev pub IsLawfulTarget : Target → Type 0
+IsLawfulTarget (targets.Service ns name port) = IsUtf8 ns × IsUtf8 name
+IsLawfulTarget (targets.Address ip port) = FitsIp ip × (port < 65536)
+
+-- what of a query stands in messages
+abbrev pub IsLawfulQuery : Query → Type 0
+IsLawfulQuery (queries.Profile target ctx) = IsLawfulTarget target
+IsLawfulQuery _ = Unit {0}
+
 abbrev pub IsLawfulLine : Line → Type 0
 IsLawfulLine (lines.Event event) = IsLawfulEvent event
+IsLawfulLine (lines.Subscribe id query) = IsLawfulQuery query
 IsLawfulLine _ = Unit {0}
 
 -- each line that is read, whatever its length, and each under a limit

@@ -29,6 +29,10 @@ abbrev pub service_port : Target → Option ServicePort
 service_port (Service ns name port) = Some (record { ns = ns; name = name; port = port })
 service_port (Address ip port) = None
 
+-- any target
+unfoldable pub target_at : Config → Spot → Result Target ReadFault
+target_at config s = text s >>= λ t. valid s.at what.Choice (target_of config t)
+
 -- a target that is a port of a Service
 unfoldable pub service_port_at : Config → Spot → Result ServicePort ReadFault
 service_port_at config s = text s >>= λ t. valid s.at what.Choice (option_and_then service_port (target_of config t))
@@ -45,3 +49,10 @@ get_at config q = do
   target ← required (service_port_at config) (q · keys.Path)
   ctx ← default no_context context_at (q · keys.Token)
   Ok (queries.Get target.ns target.name target.port ctx)
+
+-- the profile of a target
+unfoldable pub profile_at : Config → Spot → Result Query ReadFault
+profile_at config q = do
+  target ← required (target_at config) (q · keys.Path)
+  ctx ← default no_context context_at (q · keys.Token)
+  Ok (queries.Profile target ctx)

@@ -12,7 +12,7 @@ ghost use Rattle.watch_events.specs.declared.line.LineFault.TheVariants.{BadQuer
 
 use crate::fault::query_fault;
 use crate::line::{Line, LineFault};
-use crate::query::{MethodWord, read_get};
+use crate::query::{MethodWord, read_get, read_profile};
 use k8s_meta::choice::Choice;
 use k8s_meta::key::Key;
 use k8s_meta::place::Place;
@@ -84,12 +84,14 @@ fn read_method<'a>(query: &'a Place<'a>) -> Result<Method, LineFault>
 fn read_query<'a>(config: &Config, method: Method, query: &'a Place<'a>) -> Result<Query, LineFault>
     ensures { Gives result (query_of config.now method (seen query.now)) }
 {
-    match method {
-        Method::Get => match read_get(config, query) {
-            Ok(query) => Ok(query),
-            Err(fault) => Err(query_fault(fault)),
-        },
-        _ => Err(LineFault::NotBuilt),
+    let read = match method {
+        Method::Get => read_get(config, query),
+        Method::GetProfile => read_profile(config, query),
+        _ => return Err(LineFault::NotBuilt),
+    };
+    match read {
+        Ok(query) => Ok(query),
+        Err(fault) => Err(query_fault(fault)),
     }
 }
 

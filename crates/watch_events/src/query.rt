@@ -1,15 +1,20 @@
-ghost use Rattle.std.specs.Prelude.{◌≡◌, Ok};
-ghost use Rattle.k8s_meta.specs.Spots.{Reads, seen};
-ghost use Rattle.watch_events.specs.Queries.{context_at, get_at, method_of, no_context, service_port, service_port_at};
+ghost use Rattle.std.specs.Prelude.{◌≡◌, IfOk, Ok, option_and_then};
+ghost use Rattle.k8s_meta.specs.Spots.{Reads, ◌·◌, seen};
+ghost use Rattle.k8s_meta.specs.Words.{default};
+ghost use Rattle.k8s_meta.specs.declared.key.Key.TheVariants as keys;
+ghost use Rattle.mesh_text.specs.Targets.{target_of};
+ghost use Rattle.watch_events.specs.Queries.{context_at, get_at, method_of, no_context, profile_at, service_port, service_port_at, target_at};
 
 use k8s_meta::choice::Word;
 use k8s_meta::fault::{ReadFault, What};
 use k8s_meta::key::Key;
 use k8s_meta::place::Place;
 use k8s_meta::reader::Reader;
+use mesh_base::memory::Memory;
 use mesh_base::text::Text;
 use mesh_text::target_text::{TargetFault, read_target};
 use mesh_text::token::read_context;
+use std::alloc::Global;
 use view_types::config::Config;
 use view_types::query::{Context, Method, Query, Target};
 
@@ -45,12 +50,41 @@ pub struct ServicePort {
     pub port: u16,
 }
 
-fn service_port(target: Target) -> Option<ServicePort>
-    ensures { result ≡ service_port target }
+/// What a string leads to, if it is a target.
+fn target_of(alloc: Global, config: &Config, text: &str) -> Result<Option<Target>, Memory>
+    ensures { IfOk result (λ target. target ≡ target_of config.now text.now) }
+{
+    match read_target(alloc, text.as_bytes(), config) {
+        Ok(target) => Ok(Some(target)),
+        Err(TargetFault::Bad) => Ok(None),
+        Err(TargetFault::Memory) => Err(Memory),
+    }
+}
+
+fn service_port(target: Option<Target>) -> Option<ServicePort>
+    ensures { result ≡ option_and_then service_port target }
 {
     match target {
-        Target::Service { ns, name, port } => Some(ServicePort { ns, name, port }),
-        Target::Address { .. } => None,
+        Some(Target::Service { ns, name, port }) => Some(ServicePort { ns, name, port }),
+        _ => None,
+    }
+}
+
+/// Any target.
+#[derive(Clone, Copy)]
+struct AnyTarget<'c> {
+    config: &'c Config,
+}
+
+impl Reader for AnyTarget<'_> {
+    type Made = Target;
+
+    ghost reading = { λ reader. target_at reader.config.now };
+
+    #[tactic(auto, unfolding(k8s_meta::specs::Spots::then, crate::specs::Queries::target_at))]
+    fn read<'a>(&self, place: &'a Place<'a>) -> Result<Target, ReadFault> {
+        let text = place.text()?;
+        place.valid(What::Choice, target_of(place.alloc(), self.config, text)?)
     }
 }
 
@@ -68,11 +102,8 @@ impl Reader for ServiceTarget<'_> {
     #[tactic(auto, unfolding(k8s_meta::specs::Spots::then, crate::specs::Queries::service_port_at))]
     fn read<'a>(&self, place: &'a Place<'a>) -> Result<ServicePort, ReadFault> {
         let text = place.text()?;
-        match read_target(place.alloc(), text.as_bytes(), self.config) {
-            Ok(target) => place.valid(What::Choice, service_port(target)),
-            Err(TargetFault::Bad) => Err(place.bad_value(What::Choice)),
-            Err(TargetFault::Memory) => Err(ReadFault::Memory),
-        }
+        let target = target_of(place.alloc(), self.config, text)?;
+        place.valid(What::Choice, service_port(target))
     }
 }
 
@@ -92,17 +123,34 @@ impl Reader for ContextToken {
     }
 }
 
+/// What a query's client says of itself, if it does.
+fn read_client<'a>(query: &'a Place<'a>) -> Result<Context, ReadFault>
+    ensures { Reads result (default no_context context_at ((seen query.now) · keys.Token)) }
+{
+    let none = Context {
+        ns: None,
+        node: None,
+    };
+    query.default(Key::Token, &ContextToken, none)
+}
+
+/// The profile of a target, as a query asks for it.
+#[tactic(auto, unfolding(k8s_meta::specs::Spots::then, crate::specs::Queries::profile_at))]
+pub fn read_profile<'a>(config: &Config, query: &'a Place<'a>) -> Result<Query, ReadFault>
+    ensures { Reads result (profile_at config.now (seen query.now)) }
+{
+    let target = query.required(Key::Path, &AnyTarget { config })?;
+    let ctx = read_client(query)?;
+    Ok(Query::Profile { target, ctx })
+}
+
 /// The endpoints of a port of a Service, as a query asks for them.
 #[tactic(auto, unfolding(k8s_meta::specs::Spots::then, crate::specs::Queries::get_at))]
 pub fn read_get<'a>(config: &Config, query: &'a Place<'a>) -> Result<Query, ReadFault>
     ensures { Reads result (get_at config.now (seen query.now)) }
 {
     let target = query.required(Key::Path, &ServiceTarget { config })?;
-    let none = Context {
-        ns: None,
-        node: None,
-    };
-    let ctx = query.default(Key::Token, &ContextToken, none)?;
+    let ctx = read_client(query)?;
     Ok(Query::Get {
         ns: target.ns,
         name: target.name,

@@ -1,17 +1,21 @@
+mod cases;
 mod drains;
+mod folds;
 mod lines;
 mod pods;
+mod profiles;
 mod rows;
 mod script;
 
 ghost use Rattle.std.specs.Prelude.{◌<◌, ◌≤◌, length};
 ghost use Rattle.line_run.specs.Run.{IsAnswered, IsTooLong};
-ghost use Rattle.linkerd_cli.specs.Command.{IsReplay};
+ghost use Rattle.linkerd_cli.specs.Command.{IsCommand};
 
 use super::{Outcome, top};
+use crate::top::tests::cases::holds_within;
 use crate::top::tests::lines::{GET, NO_ENDPOINTS, NO_SERVICE, SERVICE, SLICE, named};
 use crate::top::tests::pods::PODS;
-use crate::top::tests::rows::{ACCEPTED, LIMITED, REFUSED};
+use crate::top::tests::rows::{ACCEPTED, LIMITED, NAMED, REFUSED};
 use line_run::Status;
 use mesh_base::limits::Limits;
 use mesh_base::list::List;
@@ -46,15 +50,19 @@ fn sink_of(alloc: Global, fails: &[u64]) -> Result<MemSink, Fail> {
     })
 }
 
-fn words_of(alloc: Global, words: &[&str]) -> Result<Vec<Text>, Fail> {
-    let mut texts = Vec::new(alloc);
-    for word in words {
-        texts.push(Text::from_str(alloc, word)?)?;
+// Words that are written with a blank between them; none where nothing is written.
+fn words_of(alloc: Global, line: &str) -> Result<Vec<Text>, Fail> {
+    let mut words = Vec::new(alloc);
+    if line.is_empty() {
+        return Ok(words);
     }
-    Ok(texts)
+    for word in line.split(' ') {
+        words.push(Text::from_str(alloc, word)?)?;
+    }
+    Ok(words)
 }
 
-// What bytes in memory come to: no read and no write fails, so they are read to their end unless there is no memory.
+// What words make of bytes in memory: no read and no write fails, so they are read to their end unless there is no memory.
 fn replayed(
     alloc: Global,
     words: &[Text],
@@ -63,8 +71,8 @@ fn replayed(
     out: &mut SureSink,
 ) -> Status
     requires { 1 ≤ limits.now.frame_addrs }
-    ensures complete { IsReplay words.now → length bytes.now < limits.now.input → IsAnswered result }
-    ensures too_long { IsReplay words.now → limits.now.input ≤ length bytes.now → IsTooLong result }
+    ensures complete { IsCommand words.now → length bytes.now < limits.now.input → IsAnswered result }
+    ensures too_long { IsCommand words.now → limits.now.input ≤ length bytes.now → IsTooLong result }
 {
     let Ok(mut hub) = hub_of(alloc) else {
         return Status::Memory;
@@ -82,11 +90,16 @@ fn replayed(
     status
 }
 
-// What the text of an input comes to.
-fn replayed_text(alloc: Global, limits: &Limits, text: &str) -> Result<(Status, String), Fail>
+// What a command, written as one line, makes of the text of an input.
+fn run_of(
+    alloc: Global,
+    limits: &Limits,
+    command: &str,
+    text: &str,
+) -> Result<(Status, String), Fail>
     requires { 1 ≤ limits.now.frame_addrs }
 {
-    let words = words_of(alloc, &["replay"])?;
+    let words = words_of(alloc, command)?;
     let mut out = SureSink {
         bytes: Vec::new(alloc),
     };
@@ -97,7 +110,7 @@ fn replayed_text(alloc: Global, limits: &Limits, text: &str) -> Result<(Status, 
 
 // Whether the text of an input comes to this.
 fn comes_to(alloc: Global, text: &str, status: Status, expected: &str) -> Result<bool, Fail> {
-    let (ended, written) = replayed_text(alloc, &Limits::USUAL, text)?;
+    let (ended, written) = run_of(alloc, &Limits::USUAL, "replay", text)?;
     Ok(ended == status && written.as_str() == expected)
 }
 
@@ -187,103 +200,104 @@ fn refused_lines(rt: HostRuntime) -> Result<(), Fail> {
 fn writes_within(alloc: Global, limits: &Limits, text: &str, expected: &str) -> Result<bool, Fail>
     requires { 1 ≤ limits.now.frame_addrs }
 {
-    let (_, written) = replayed_text(alloc, limits, text)?;
+    let (_, written) = run_of(alloc, limits, "replay", text)?;
     Ok(written.as_str() == expected)
 }
 
 #[test]
 fn small_limits(rt: HostRuntime) -> Result<(), Fail> {
     let alloc = rt.alloc();
-    for &(objects, subs, line, text, expected) in LIMITED {
-        let limits = Limits {
-            objects,
-            subs,
-            line,
-            ..Limits::USUAL
-        };
-        let same = writes_within(alloc, &limits, text, expected)?;
-        assert!(rt; same, "at {text}");
+    for row in LIMITED.lines() {
+        assert!(rt; holds_within(alloc, NAMED, row)?, "at {row}");
     }
     Ok(())
+}
+
+// A Service's line that is filled with spaces up to a length, before a subscription whose line has no line feed.
+fn padded(alloc: Global, length: usize) -> Result<String, Fail> {
+    let mut text = String::from_str(alloc, SERVICE)?;
+    for _ in SERVICE.len()..length {
+        text.push(' ')?;
+    }
+    text.push('\n')?;
+    text.push_str(GET)?;
+    Ok(text)
+}
+
+const MEBIBYTE: u64 = 1_048_576;
+
+fn padded_comes_to(alloc: Global, length: usize, expected: &str) -> Result<bool, Fail> {
+    let limits = Limits {
+        line: MEBIBYTE,
+        ..Limits::USUAL
+    };
+    let text = padded(alloc, length)?;
+    writes_within(alloc, &limits, &text, expected)
 }
 
 // A line of the greatest length is read, and one that is longer by a byte isn't. A last line needs no line feed.
 #[test]
 fn long_lines(rt: HostRuntime) -> Result<(), Fail> {
     let alloc = rt.alloc();
-    let limits = Limits {
-        line: 1_048_576,
-        ..Limits::USUAL
-    };
-    let mut text = String::from_str(alloc, SERVICE)?;
-    for _ in SERVICE.len()..1_048_576 {
-        text.push(' ')?;
-    }
-    let long = format!(in alloc; "{text}\n{GET}")?;
-    let same = writes_within(alloc, &limits, &long, NO_ENDPOINTS)?;
-    assert!(rt; same);
-    let longer = format!(in alloc; "{text} \n{GET}")?;
+    assert!(rt; padded_comes_to(alloc, 1_048_576, NO_ENDPOINTS)?);
     let expected = format!(in alloc; "refused 1 TooLong\n{NO_SERVICE}")?;
-    let same = writes_within(alloc, &limits, &longer, &expected)?;
-    assert!(rt; same);
+    assert!(rt; padded_comes_to(alloc, 1_048_577, &expected)?);
     Ok(())
+}
+
+// How a replay of three lines ends where these reads and writes fail and the input has this limit, and how many bytes are
+// written.
+fn failing(
+    alloc: Global,
+    reads: &[u64],
+    writes: &[u64],
+    limits: &Limits,
+) -> Result<(Status, usize), Fail>
+    requires { 1 ≤ limits.now.frame_addrs }
+{
+    let words = words_of(alloc, "replay")?;
+    let text = format!(in alloc; "{SERVICE}\n{SLICE}\n{GET}\n")?;
+    let mut input = source_of(alloc, &text, reads)?;
+    let mut out = sink_of(alloc, writes)?;
+    let mut hub = hub_of(alloc)?;
+    let Outcome::Ended(status) = top(
+        alloc,
+        &words,
+        limits,
+        &mut hub,
+        &mut input,
+        &mut out,
+        &mut SurePatterns,
+    );
+    Ok((status, out.bytes.len()))
 }
 
 #[test]
 fn faults_and_limits(rt: HostRuntime) -> Result<(), Fail> {
     let alloc = rt.alloc();
-    let text = format!(in alloc; "{SERVICE}\n{SLICE}\n{GET}\n")?;
     let short = Limits {
         input: 10,
         ..Limits::USUAL
     };
-    let words = words_of(alloc, &["replay"])?;
-    let cases: [(&[u64], &[u64], Limits, Status); 4] = [
-        (&[2], &[], Limits::USUAL, Status::ReadFault),
-        (&[], &[1], Limits::USUAL, Status::WriteFault),
-        (&[], &[], short, Status::InputTooLong),
-        (&[], &[], Limits::USUAL, Status::Done),
-    ];
-    for (reads, writes, limits, expected) in cases {
-        let mut input = source_of(alloc, &text, reads)?;
-        let mut out = sink_of(alloc, writes)?;
-        let mut hub = hub_of(alloc)?;
-        let outcome = top(
-            alloc,
-            &words,
-            &limits,
-            &mut hub,
-            &mut input,
-            &mut out,
-            &mut SurePatterns,
-        );
-        assert_eq!(rt; outcome, Outcome::Ended(expected));
-        let written = out.bytes.len();
-        assert_eq!(rt; written == 0, expected != Status::Done);
-    }
+    let read = failing(alloc, &[2], &[], &Limits::USUAL)?;
+    assert_eq!(rt; read, (Status::ReadFault, 0));
+    let write = failing(alloc, &[], &[1], &Limits::USUAL)?;
+    assert_eq!(rt; write, (Status::WriteFault, 0));
+    let long = failing(alloc, &[], &[], &short)?;
+    assert_eq!(rt; long, (Status::InputTooLong, 0));
+    let (status, written) = failing(alloc, &[], &[], &Limits::USUAL)?;
+    assert_eq!(rt; status, Status::Done);
+    assert!(rt; written > 0);
     Ok(())
 }
 
 #[test]
 fn words_that_are_no_command(rt: HostRuntime) -> Result<(), Fail> {
     let alloc = rt.alloc();
-    let cases: [&[&str]; 4] = [&[], &["replya"], &["replay", "replay"], &[""]];
-    for words in cases {
-        let words = words_of(alloc, words)?;
-        let mut input = source_of(alloc, GET, &[])?;
-        let mut out = sink_of(alloc, &[])?;
-        let mut hub = hub_of(alloc)?;
-        let outcome = top(
-            alloc,
-            &words,
-            &Limits::USUAL,
-            &mut hub,
-            &mut input,
-            &mut out,
-            &mut SurePatterns,
-        );
-        assert_eq!(rt; outcome, Outcome::Ended(Status::Usage));
-        assert_eq!(rt; out.bytes.len(), 0);
+    for words in ["", "replya", "replay replay", " ", "replay "] {
+        let (status, written) = run_of(alloc, &Limits::USUAL, words, GET)?;
+        assert_eq!(rt; status, Status::Usage, "at {words}");
+        assert!(rt; written.is_empty(), "at {words}");
     }
     Ok(())
 }

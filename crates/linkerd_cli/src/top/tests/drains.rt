@@ -1,5 +1,6 @@
-use super::{comes_to, replayed_text};
-use crate::top::tests::lines::{GET, SERVICE, named};
+use super::comes_to;
+use crate::top::tests::cases::{holds, holds_within};
+use crate::top::tests::lines::{GET, SERVICE};
 use line_run::Status;
 use mesh_base::limits::Limits;
 use std::alloc::Global;
@@ -106,7 +107,7 @@ a drain right after a drain, without the Service: get drain drain => no_service
 lines that change nothing between two drains: service slice get drain bookmark nothing server_list slice_modified drain => one
 two subscriptions, drained at times of their own: service slice get get_2 drain slice_of_second drain_2 drain => one, frame 2 00000000130a110a0f0a0a0a050d0402010a10903f18904e, second, first_gone
 what isn't drained comes at the end, by id: get get_2 get_5 drain_2 => frame 2 00000000021a00, no_service, frame 5 00000000021a00
-a cancel before the first drain: service slice get cancel => nothing
+a cancel before the first drain: service slice get cancel => nothing_written
 a cancel after a drain: service slice get drain cancel slice_gone => one
 a cancel of one of two: service slice get get_2 drain cancel slice_gone => one, frame 2 00000000041a020801
 a drain before the subscription: drain get => refused 1 NoSuchId 1, no_service
@@ -118,174 +119,28 @@ a refused list, whose third item has no name: service slice slice_b get drain li
 a refused list, in which a slice stands twice: service slice slice_b get drain list_of_b_twice drain => both, refused 6 RepeatedItem 1
 ";
 
-// How many objects may be held and subscriptions be live, how many addresses and how many bytes a message may have, and a
-// case as above.
-const LIMITED: &[(u32, u32, u32, u32, &str)] = &[
-    (
-        9,
-        9,
-        1000,
-        19,
-        "a message of the greatest length: service slice get drain => one",
-    ),
-    (
-        9,
-        9,
-        1000,
-        18,
-        "a message that is longer by a byte: service slice get drain drain cancel => oversize 1 19, refused 5 NoSuchId 1, refused 6 NoSuchId 1",
-    ),
-    (
-        9,
-        9,
-        1000,
-        4,
-        "too long at the end: service slice get => oversize 1 19",
-    ),
-    (
-        9,
-        9,
-        1000,
-        18,
-        "too long at the end, others are drained: service slice get get_2_of_api get_3 => oversize 1 19, frame 2 00000000021a00, oversize 3 19",
-    ),
-    (
-        9,
-        9,
-        1000,
-        19,
-        "too long after a drain: service slice get drain list_b_and_c drain slice_gone => one, oversize 1 36",
-    ),
-    (
-        9,
-        9,
-        1000,
-        25,
-        "too long in the second message of a batch, and the first isn't sent: service slice get drain slice_b drain list_c drain => one, second, oversize 1 26",
-    ),
-    (
-        9,
-        9,
-        1000,
-        26,
-        "both messages of that batch just fit: service slice get drain slice_b drain list_c drain => one, second, fifth, both_gone",
-    ),
-    (
-        9,
-        9,
-        1,
-        33,
-        "the first message that is too long is told: service slice_of_both slice_6 get => oversize 1 34",
-    ),
-    (
-        9,
-        9,
-        1,
-        18,
-        "the first of several that are too long is told: service slice_of_both slice_6 get => oversize 1 19",
-    ),
-    (
-        9,
-        1,
-        1000,
-        18,
-        "an id that ended leaves room, and doesn't come back: service slice get get_2 drain get get_2 => refused 4 TooManySubs 1, oversize 1 19, refused 6 IdOrder 1, oversize 2 19",
-    ),
-    (
-        9,
-        1,
-        1000,
-        99,
-        "a cancel leaves room: get get_2 cancel get_2 => refused 2 TooManySubs 1, frame 2 00000000021a00",
-    ),
-    (
-        2,
-        9,
-        1000,
-        99,
-        "an object too many, and one in place of another: service slice pod slice_modified => refused 3 Full 2",
-    ),
-    (
-        2,
-        9,
-        1000,
-        99,
-        "an object too many, a Pod, between two drains: service slice_of_pod get drain pod drain slice_modified drain => one, refused 5 Full 2",
-    ),
-    (
-        9,
-        9,
-        1,
-        99,
-        "one address in each message: service slice_of_both get drain list_b_and_c drain => one, second, fifth, sixth, first_gone, second_gone",
-    ),
-];
-
-// The line of a name, here or among those of the other rows.
-fn line_of(word: &str) -> Option<&'static str> {
-    for row in NAMED.lines() {
-        if let Some((name, line)) = row.split_once(": ") {
-            if name == word {
-                return Some(line);
-            }
-        }
-    }
-    named(word)
-}
-
-// The lines of these names.
-fn input_of(alloc: Global, words: &str) -> Result<String, Fail> {
-    let mut text = String::new(alloc);
-    for word in words.split(' ') {
-        let Some(line) = line_of(word) else {
-            return Err(Fail::new("no line has this name"));
-        };
-        write!(text, "{line}\n")?;
-    }
-    Ok(text)
-}
-
-// What is written.
-fn output_of(alloc: Global, outputs: &str) -> Result<String, Fail> {
-    let mut text = String::new(alloc);
-    if outputs == "nothing" {
-        return Ok(text);
-    }
-    for output in outputs.split(", ") {
-        let line = line_of(output).unwrap_or(output);
-        write!(text, "{line}\n")?;
-    }
-    Ok(text)
-}
-
-// The lines of a row, and what is written.
-fn case_of(alloc: Global, row: &str) -> Result<(String, String), Fail> {
-    let Some((_, case)) = row.split_once(": ") else {
-        return Err(Fail::new("a row has no case"));
-    };
-    let Some((words, outputs)) = case.split_once(" => ") else {
-        return Err(Fail::new("a row has no output"));
-    };
-    Ok((input_of(alloc, words)?, output_of(alloc, outputs)?))
-}
-
-// How a run ends that writes this.
-fn status_of(output: &str) -> Status {
-    if output.contains("refused ") {
-        Status::SomeRefused
-    } else {
-        Status::Done
-    }
-}
+// Limits, and a case as above.
+const LIMITED: &str = "message=19 | a message of the greatest length: service slice get drain => one
+message=18 | a message that is longer by a byte: service slice get drain drain cancel => oversize 1 19, refused 5 NoSuchId 1, refused 6 NoSuchId 1
+message=4 | too long at the end: service slice get => oversize 1 19
+message=18 | too long at the end, others are drained: service slice get get_2_of_api get_3 => oversize 1 19, frame 2 00000000021a00, oversize 3 19
+message=19 | too long after a drain: service slice get drain list_b_and_c drain slice_gone => one, oversize 1 36
+message=25 | too long in the second message of a batch, and the first isn't sent: service slice get drain slice_b drain list_c drain => one, second, oversize 1 26
+message=26 | both messages of that batch just fit: service slice get drain slice_b drain list_c drain => one, second, fifth, both_gone
+addrs=1 message=33 | the first message that is too long is told: service slice_of_both slice_6 get => oversize 1 34
+addrs=1 message=18 | the first of several that are too long is told: service slice_of_both slice_6 get => oversize 1 19
+subs=1 message=18 | an id that ended leaves room, and doesn't come back: service slice get get_2 drain get get_2 => refused 4 TooManySubs 1, oversize 1 19, refused 6 IdOrder 1, oversize 2 19
+subs=1 | a cancel leaves room: get get_2 cancel get_2 => refused 2 TooManySubs 1, frame 2 00000000021a00
+objects=2 | an object too many, and one in place of another: service slice pod slice_modified => refused 3 Full 2
+objects=2 | an object too many, a Pod, between two drains: service slice_of_pod get drain pod drain slice_modified drain => one, refused 5 Full 2
+addrs=1 | one address in each message: service slice_of_both get drain list_b_and_c drain => one, second, fifth, sixth, first_gone, second_gone
+";
 
 #[test]
 fn drained_lines(rt: HostRuntime) -> Result<(), Fail> {
     let alloc = rt.alloc();
     for row in DRAINED.lines() {
-        let (text, expected) = case_of(alloc, row)?;
-        let status = status_of(&expected);
-        let same = comes_to(alloc, &text, status, &expected)?;
-        assert!(rt; same, "at {row}");
+        assert!(rt; holds(alloc, &Limits::USUAL, NAMED, row)?, "at {row}");
     }
     Ok(())
 }
@@ -293,19 +148,8 @@ fn drained_lines(rt: HostRuntime) -> Result<(), Fail> {
 #[test]
 fn drains_within_limits(rt: HostRuntime) -> Result<(), Fail> {
     let alloc = rt.alloc();
-    for &(objects, subs, frame_addrs, message, row) in LIMITED {
-        assert!(rt; frame_addrs >= 1);
-        let limits = Limits {
-            objects,
-            subs,
-            frame_addrs,
-            message,
-            ..Limits::USUAL
-        };
-        let (text, expected) = case_of(alloc, row)?;
-        let (status, written) = replayed_text(alloc, &limits, &text)?;
-        assert_eq!(rt; written.as_str(), expected.as_str(), "at {row}");
-        assert_eq!(rt; status, status_of(&expected), "at {row}");
+    for row in LIMITED.lines() {
+        assert!(rt; holds_within(alloc, NAMED, row)?, "at {row}");
     }
     Ok(())
 }
@@ -354,10 +198,8 @@ fn push_frame(
     Ok(())
 }
 
-// 2,500 endpoints, and 1,200 others in place of them: the new ones come first, 1,000 in a message, then the old ones go.
-#[test]
-fn many_in_place_of_many(rt: HostRuntime) -> Result<(), Fail> {
-    let alloc = rt.alloc();
+// 2,500 endpoints, and 1,200 others in place of them, with a drain after each, and one more.
+fn many_lines(alloc: Global) -> Result<String, Fail> {
     let drain = "{\"control\":\"drain\",\"id\":1}\n";
     let mut text = format!(in alloc; "{SERVICE}\n{GET}\n")?;
     push_slice(&mut text, 0, 2500)?;
@@ -365,16 +207,35 @@ fn many_in_place_of_many(rt: HostRuntime) -> Result<(), Fail> {
     push_slice(&mut text, 1, 1200)?;
     text.push_str(drain)?;
     text.push_str(drain)?;
-    let mut expected = String::new(alloc);
-    push_frame(&mut expected, "0000426c0ae88401", ADDED, 0, 0, 1000)?;
-    push_frame(&mut expected, "0000426c0ae88401", ADDED, 0, 1000, 2000)?;
-    push_frame(&mut expected, "000021370ab442", ADDED, 0, 2000, 2500)?;
-    push_frame(&mut expected, "0000426c0ae88401", ADDED, 1, 0, 1000)?;
-    push_frame(&mut expected, "00000d4b0ac81a", ADDED, 1, 1000, 1200)?;
-    push_frame(&mut expected, "00002ee312e05d", REMOVED, 0, 0, 1000)?;
-    push_frame(&mut expected, "00002ee312e05d", REMOVED, 0, 1000, 2000)?;
-    push_frame(&mut expected, "0000177312f02e", REMOVED, 0, 2000, 2500)?;
-    let same = comes_to(alloc, &text, Status::Done, &expected)?;
-    assert!(rt; same);
+    Ok(text)
+}
+
+// Of each frame its length and the message's head, whether it adds, and the endpoints from where to where. The new ones come
+// first, 1,000 in a message, then the old ones go.
+const FRAMES: [(&str, bool, u32, u32, u32); 8] = [
+    ("0000426c0ae88401", true, 0, 0, 1000),
+    ("0000426c0ae88401", true, 0, 1000, 2000),
+    ("000021370ab442", true, 0, 2000, 2500),
+    ("0000426c0ae88401", true, 1, 0, 1000),
+    ("00000d4b0ac81a", true, 1, 1000, 1200),
+    ("00002ee312e05d", false, 0, 0, 1000),
+    ("00002ee312e05d", false, 0, 1000, 2000),
+    ("0000177312f02e", false, 0, 2000, 2500),
+];
+
+fn many_frames(alloc: Global) -> Result<String, Fail> {
+    let mut frames = String::new(alloc);
+    for (head, adds, net, from, to) in FRAMES {
+        let round = if adds { ADDED } else { REMOVED };
+        push_frame(&mut frames, head, round, net, from, to)?;
+    }
+    Ok(frames)
+}
+
+#[test]
+fn many_in_place_of_many(rt: HostRuntime) -> Result<(), Fail> {
+    let text = many_lines(rt.alloc())?;
+    let frames = many_frames(rt.alloc())?;
+    assert!(rt; comes_to(rt.alloc(), &text, Status::Done, &frames)?);
     Ok(())
 }

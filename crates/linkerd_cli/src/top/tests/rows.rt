@@ -103,7 +103,8 @@ null => NoForm
 {"control":"subscribe","id":1,"query":{"path":7}} => BadQuery query.method
 {"control":"subscribe","id":1,"query":{"method":"get","path":7}} => BadQuery query.method
 {"control":"subscribe","id":1,"query":{"method":7}} => BadQuery query.method
-{"control":"subscribe","id":1,"query":{"method":"GetProfile","path":7}} => NotBuilt
+{"control":"subscribe","id":1,"query":{"method":"GetProfile","path":7}} => BadQuery query.path
+{"control":"subscribe","id":1,"query":{"method":"GetProfile"}} => BadQuery query.path
 {"control":"subscribe","id":1,"query":{"method":"WatchPort"}} => NotBuilt
 {"control":"subscribe","id":1,"query":{"method":"Watch"}} => NotBuilt
 {"control":"subscribe","id":1,"query":{"method":"Get","token":7}} => BadQuery query.path
@@ -113,109 +114,36 @@ null => NoForm
 {"control":"subscribe","id":1,"query":{"method":"Get","path":"web.app.svc.cluster.local","token":7}} => BadQuery query.token
 "#;
 
-/// How many objects may be held and subscriptions be live, how long a line may be, an input, and what is written.
-pub const LIMITED: &[(u32, u32, u64, &str, &str)] = &[
-    (
-        2,
-        10,
-        1048576,
-        r#"{"type":"ADDED","object":{"apiVersion":"v1","kind":"Service","metadata":{"name":"web","namespace":"app"},"spec":{"ports":[{"name":"http","port":80}]}}}
-{"type":"ADDED","object":{"apiVersion":"discovery.k8s.io/v1","kind":"EndpointSlice","metadata":{"name":"web-a","namespace":"app","labels":{"kubernetes.io/service-name":"web"}},"addressType":"IPv4","endpoints":[{"addresses":["10.1.2.3"]}],"ports":[{"name":"http","port":8080}]}}
-{"type":"ADDED","object":{"apiVersion":"v1","kind":"Service","metadata":{"name":"b","namespace":"app"},"spec":{"ports":[{"name":"http","port":80}]}}}
-{"type":"MODIFIED","object":{"apiVersion":"v1","kind":"Service","metadata":{"name":"web","namespace":"app"},"spec":{"ports":[{"name":"http","port":80}]}}}
-"#,
-        "refused 3 Full 2\n",
-    ),
-    (
-        2,
-        10,
-        1048576,
-        r#"{"type":"ADDED","object":{"apiVersion":"v1","kind":"Service","metadata":{"name":"web","namespace":"app"},"spec":{"ports":[{"name":"http","port":80}]}}}
-{"type":"ADDED","object":{"apiVersion":"discovery.k8s.io/v1","kind":"EndpointSlice","metadata":{"name":"web-a","namespace":"app","labels":{"kubernetes.io/service-name":"web"}},"addressType":"IPv4","endpoints":[{"addresses":["10.1.2.3"]}],"ports":[{"name":"http","port":8080}]}}
-{"kind":"ServiceList","apiVersion":"v1","items":[{"metadata":{"name":"a"}},{"metadata":{"name":"b"}}]}
-{"control":"subscribe","id":1,"query":{"method":"Get","path":"web.app.svc.cluster.local:80"}}
-"#,
-        "refused 3 Full 2\nframe 1 00000000130a110a0f0a0a0a050d0302010a10903f18904e\n",
-    ),
-    (
-        2,
-        10,
-        1048576,
-        r#"{"type":"ADDED","object":{"apiVersion":"v1","kind":"Service","metadata":{"name":"web","namespace":"app"},"spec":{"ports":[{"name":"http","port":80}]}}}
-{"type":"ADDED","object":{"apiVersion":"discovery.k8s.io/v1","kind":"EndpointSlice","metadata":{"name":"web-a","namespace":"app","labels":{"kubernetes.io/service-name":"web"}},"addressType":"IPv4","endpoints":[{"addresses":["10.1.2.3"]}],"ports":[{"name":"http","port":8080}]}}
-{"kind":"ServiceList","apiVersion":"v1"}
-{"type":"ADDED","object":{"apiVersion":"v1","kind":"Service","metadata":{"name":"b","namespace":"app"},"spec":{"ports":[{"name":"http","port":80}]}}}
-"#,
-        "",
-    ),
-    (
-        2,
-        10,
-        1048576,
-        r#"{"type":"ADDED","object":{"apiVersion":"v1","kind":"Service","metadata":{"name":"web","namespace":"app"},"spec":{"ports":[{"name":"http","port":80}]}}}
-{"type":"ADDED","object":{"apiVersion":"discovery.k8s.io/v1","kind":"EndpointSlice","metadata":{"name":"web-a","namespace":"app","labels":{"kubernetes.io/service-name":"web"}},"addressType":"IPv4","endpoints":[{"addresses":["10.1.2.3"]}],"ports":[{"name":"http","port":8080}]}}
-{"kind":"ServiceList","apiVersion":"v1","items":[{"metadata":{"name":"b"}}]}
-{"control":"subscribe","id":1,"query":{"method":"Get","path":"web.app.svc.cluster.local:80"}}
-"#,
-        "frame 1 00000000021a00\n",
-    ),
-    (
-        9,
-        1,
-        1048576,
-        r#"{"control":"subscribe","id":1,"query":{"method":"Get","path":"web.app.svc.cluster.local:80"}}
-{"control":"subscribe","id":2,"query":{"method":"Get","path":"web.app.svc.cluster.local:80"}}
-"#,
-        "refused 2 TooManySubs 1\nframe 1 00000000021a00\n",
-    ),
-    (
-        9,
-        9,
-        1048576,
-        r#"{"control":"subscribe","id":5,"query":{"method":"Get","path":"web.app.svc.cluster.local:80"}}
-{"control":"subscribe","id":1,"query":{"method":"Get","path":"web.app.svc.cluster.local:80"}}
-"#,
-        "refused 2 IdOrder 5\nframe 5 00000000021a00\n",
-    ),
-    (
-        9,
-        9,
-        1048576,
-        r#"{"control":"subscribe","id":5,"query":{"method":"Get","path":"web.app.svc.cluster.local:80"}}
-{"control":"subscribe","id":5,"query":{"method":"Get","path":"web.app.svc.cluster.local:80"}}
-"#,
-        "refused 2 IdOrder 5\nframe 5 00000000021a00\n",
-    ),
-    (
-        9,
-        1,
-        1048576,
-        r#"{"control":"subscribe","id":5,"query":{"method":"Get","path":"web.app.svc.cluster.local:80"}}
-{"control":"subscribe","id":1,"query":{"method":"Get","path":"web.app.svc.cluster.local:80"}}
-"#,
-        "refused 2 IdOrder 5\nframe 5 00000000021a00\n",
-    ),
-    (
-        9,
-        9,
-        8,
-        r#"         
-{        
-       
-{}
- 
-"#,
-        "refused 1 TooLong\nrefused 2 TooLong\nrefused 4 NoForm\n",
-    ),
-    (
-        9,
-        9,
-        1048576,
-        r#"{"type":"ADDED","object":{"apiVersion":"v1","kind":"Service","metadata":{"name":"web","namespace":"app"},"spec":{"ports":[{"name":"http","port":80}]}}}
-{"type":"ADDED","object":{"apiVersion":"discovery.k8s.io/v1","kind":"EndpointSlice","metadata":{"name":"web-b","namespace":"app","labels":{"kubernetes.io/service-name":"web"}},"addressType":"IPv4","endpoints":[{"addresses":["10.1.2.4"]}],"ports":[{"name":"http","port":8080}]}}
-{"control":"subscribe","id":1,"query":{"method":"Get","path":"web.app.svc.cluster.local:80"}}
-{"kind":"EndpointSliceList","apiVersion":"discovery.k8s.io/v1","items":[{"metadata":{"name":"web-b"},"addressType":"IPv4"},{"metadata":{"name":"web-c"},"addressType":"IPv4"},{"metadata":{},"addressType":"IPv4"}]}
-"#,
-        "refused 4 Missing items[2].metadata.name\nframe 1 00000000130a110a0f0a0a0a050d0402010a10903f18904e\n",
-    ),
-];
+/// Lines, each after its name.
+pub const NAMED: &str =
+    r#"service_b: {"type":"ADDED","object":{"apiVersion":"v1","kind":"Service","metadata":{"name":"b","namespace":"app"},"spec":{"ports":[{"name":"http","port":80}]}}}
+service_again: {"type":"MODIFIED","object":{"apiVersion":"v1","kind":"Service","metadata":{"name":"web","namespace":"app"},"spec":{"ports":[{"name":"http","port":80}]}}}
+services_a_and_b: {"kind":"ServiceList","apiVersion":"v1","items":[{"metadata":{"name":"a"}},{"metadata":{"name":"b"}}]}
+services_b: {"kind":"ServiceList","apiVersion":"v1","items":[{"metadata":{"name":"b"}}]}
+no_services: {"kind":"ServiceList","apiVersion":"v1"}
+get_2: {"control":"subscribe","id":2,"query":{"method":"Get","path":"web.app.svc.cluster.local:80"}}
+get_5: {"control":"subscribe","id":5,"query":{"method":"Get","path":"web.app.svc.cluster.local:80"}}
+slices_without_a_name: {"kind":"EndpointSliceList","apiVersion":"discovery.k8s.io/v1","items":[{"metadata":{"name":"web-b"},"addressType":"IPv4"},{"metadata":{"name":"web-c"},"addressType":"IPv4"},{"metadata":{},"addressType":"IPv4"}]}
+nine_blanks:          
+nine_bytes: {        
+seven_blanks:        
+no_form: {}
+blank:  
+to_5: frame 5 00000000021a00
+one: frame 1 00000000130a110a0f0a0a0a050d0302010a10903f18904e
+no_service: frame 1 00000000021a00
+"#;
+
+/// Limits, a case, the names of its lines, and what is written.
+pub const LIMITED: &str =
+    "objects=2 | an object too many, and one in place of another: service slice service_b service_again => refused 3 Full 2
+objects=2 | a list of too many: service slice services_a_and_b get => refused 3 Full 2, one
+objects=2 | an empty list leaves room: service slice no_services service_b => nothing_written
+objects=2 | a list in place of others: service slice services_b get => no_service
+subs=1 | a subscription too many: get get_2 => refused 2 TooManySubs 1, no_service
+subs=9 | an id below the last: get_5 get => refused 2 IdOrder 5, to_5
+subs=9 | an id twice: get_5 get_5 => refused 2 IdOrder 5, to_5
+subs=1 | the order of ids comes before the number of subscriptions: get_5 get => refused 2 IdOrder 5, to_5
+line=8 | blanks and more that are too long: nine_blanks nine_bytes seven_blanks no_form blank => refused 1 TooLong, refused 2 TooLong, refused 4 NoForm
+subs=9 | a refused list leaves what is held: service slice get slices_without_a_name => refused 4 Missing items[2].metadata.name, one
+";

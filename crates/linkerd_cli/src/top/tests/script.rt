@@ -29,11 +29,9 @@ fn script_of(alloc: Global) -> Result<ScriptMachine, Fail> {
     })
 }
 
-#[test]
-fn the_replies_of_a_script(rt: HostRuntime) -> Result<(), Fail> {
-    let alloc = rt.alloc();
-    let text = format!(in alloc; "{SERVICE}\n{SLICE}\n{GET}\n")?;
-    let words = words_of(alloc, &["replay"])?;
+// What the script makes of three lines.
+fn scripted(alloc: Global, text: &str) -> Result<(Status, Vec<u8>), Fail> {
+    let words = words_of(alloc, "replay")?;
     let mut script = script_of(alloc)?;
     let mut input = SureSource {
         bytes: text.as_bytes(),
@@ -41,7 +39,7 @@ fn the_replies_of_a_script(rt: HostRuntime) -> Result<(), Fail> {
     let mut out = SureSink {
         bytes: Vec::new(alloc),
     };
-    let outcome = top(
+    let Outcome::Ended(status) = top(
         alloc,
         &words,
         &Limits::USUAL,
@@ -50,10 +48,15 @@ fn the_replies_of_a_script(rt: HostRuntime) -> Result<(), Fail> {
         &mut out,
         &mut SurePatterns,
     );
-    assert_eq!(rt; outcome, Outcome::Ended(Status::Done));
-    assert_eq!(rt;
-        out.bytes.as_slice(),
-        "frame 1 00000000041a020801\n".as_bytes()
-    );
+    Ok((status, out.bytes))
+}
+
+#[test]
+fn the_replies_of_a_script(rt: HostRuntime) -> Result<(), Fail> {
+    let alloc = rt.alloc();
+    let text = format!(in alloc; "{SERVICE}\n{SLICE}\n{GET}\n")?;
+    let (status, written) = scripted(alloc, &text)?;
+    assert_eq!(rt; status, Status::Done);
+    assert!(rt; written.as_slice() == "frame 1 00000000041a020801\n".as_bytes());
     Ok(())
 }

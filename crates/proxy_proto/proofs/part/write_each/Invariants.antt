@@ -1,6 +1,6 @@
 use Rattle.std.proofs.Common.{◌≡◌, ◌++◌, take}
 use Rattle.proto_wire.specs.Wire.{spelling}
-use Rattle.proxy_proto.specs.Messages.{each_field}
+use Rattle.proxy_proto.specs.FieldRecords.{each_field}
 use Rattle.proxy_proto.proofs.part.write_each.Given as goal
 
 abbrev pub invariant-loop-part : goal.invariant-loop-part

@@ -2,7 +2,8 @@ use Rattle.std.proofs.Common.{Ok, Some, None, refl}
 use Rattle.watch_events.specs.declared.line.Line.TheVariants as lines
 use Rattle.mesh_hub.specs.Program.{replay_of}
 use Rattle.mesh_hub.specs.declared.refusal.Refusal.TheVariants as refusals
-use Rattle.mesh_hub.proofs.Optional.{Becomes-same, Becomes-weaker}
+use Rattle.mesh_hub.specs.Optional.{Becomes-weaker}
+use Rattle.mesh_hub.proofs.Optional.{Becomes-same}
 use Rattle.replay_core.specs.Take.{TakesByReplies, TakesFrom}
 use Rattle.replay_core.proofs.Lines.{IfOk-both, IfOk-weaker, blank_from, cancel_from, cancel_takes, drain_from, drain_takes, event_from, silent, stop_from, subscribe_from, takes_none, takes_refusal, takes_reply}
 use Rattle.replay_core.proofs.take.take_line.Goals as goal

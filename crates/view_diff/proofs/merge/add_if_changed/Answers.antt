@@ -1,7 +1,7 @@
 use Rattle.std.proofs.Common.{◌≡◌, sym, append-nil}
 use Rattle.std.proofs.lemmas.Bool.Decides.{same_from_decides}
-use Rattle.view_rules.specs.Batch.{same_row}
-use Rattle.view_diff.proofs.SameRow.{row_decides}
+use Rattle.view_rules.specs.Same.{same_row}
+use Rattle.view_rules.proofs.SameRow.{row_decides}
 use Rattle.view_diff.proofs.merge.add_if_changed.Goals as goal
 
 pub returns-then-is_same : goal.returns-then-is_same

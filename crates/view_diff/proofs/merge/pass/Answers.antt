@@ -6,16 +6,16 @@ pub returns-in_ok-add-in-Less : goal.returns-in_ok-add-in-Less
 returns-in_ok-add-in-Less c =
     rw (c.first.ensures, c.first-2.ensures, c.in_ok-add-in-Less.ensures.ok)
     (pass_old c.first.result.0.now c.first-2.result.0.now c.first.result.1.now c.first-2.result.1.now (rw c.first.ensures at c.requires.old) (rw c.first-2.ensures at c.requires.new)
-    c.args.found.now.changed c.args.found.now.gone (sym c.compare.ensures ∙ c.in-Less.is))
+    c.args.found.now.changed c.args.found.now.gone (sym c.compare_rows.ensures ∙ c.in-Less.is))
 
 pub returns-in_ok-add_if_changed-in-Equal : goal.returns-in_ok-add_if_changed-in-Equal
 returns-in_ok-add_if_changed-in-Equal c =
     rw (c.first.ensures, c.first-2.ensures, c.in_ok-add_if_changed-in-Equal.ensures)
     (pass_both c.first.result.0.now c.first-2.result.0.now c.first.result.1.now c.first-2.result.1.now (rw c.first.ensures at c.requires.old) (rw c.first-2.ensures at c.requires.new)
-    c.args.found.now.changed c.args.found.now.gone (sym c.compare.ensures ∙ c.in-Equal.is))
+    c.args.found.now.changed c.args.found.now.gone (sym c.compare_rows.ensures ∙ c.in-Equal.is))
 
 pub returns-in_ok-add-in-Greater : goal.returns-in_ok-add-in-Greater
 returns-in_ok-add-in-Greater c =
     rw (c.first.ensures, c.first-2.ensures, c.in_ok-add-in-Greater.ensures.ok, c.in_ok-copy-in-Greater.ensures)
     (pass_new c.first.result.0.now c.first-2.result.0.now c.first.result.1.now c.first-2.result.1.now (rw c.first.ensures at c.requires.old) (rw c.first-2.ensures at c.requires.new)
-    c.args.found.now.changed c.args.found.now.gone (sym c.compare.ensures ∙ c.in-Greater.is))
+    c.args.found.now.changed c.args.found.now.gone (sym c.compare_rows.ensures ∙ c.in-Greater.is))

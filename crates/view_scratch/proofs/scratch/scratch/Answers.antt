@@ -1,5 +1,5 @@
 use Rattle.std.proofs.Common.{Some, sym, ap, subst, ◌∙◌}
-use Rattle.view_types.specs.declared.view.View.TheVariants.{Endpoints}
+use Rattle.view_types.specs.declared.view.View.TheVariants.{Endpoints, Profile}
 use Rattle.view_rules.proofs.Orderly.{endpoints_are_orderly}
 use Rattle.view_rules.specs.Fold.{IsOrderly}
 use Rattle.view_rules.specs.Views.{view_of}
@@ -11,3 +11,7 @@ returns-in_ok-view-in-Get-clause-value c =
 
 pub returns-in_ok-view-in-Get-clause-orderly : goal.returns-in_ok-view-in-Get-clause-orderly
 returns-in_ok-view-in-Get-clause-orderly c = subst IsOrderly (sym c.in_ok-view-in-Get.ensures) (endpoints_are_orderly c.args.config.now _ _ _ _)
+
+pub returns-in_ok-view-in-Profile-clause-value : goal.returns-in_ok-view-in-Profile-clause-value
+returns-in_ok-view-in-Profile-clause-value c =
+    ap (λ view. Some (Profile view)) c.in_ok-view-in-Profile.ensures ∙ ap (view_of c.args.config.now c.args.store.now.objects) (sym c.in-Profile.is)

@@ -1,0 +1,21 @@
+-- Numbers of lines: decimal digits without leading zeros, of any length.
+use Rattle.std.specs.Prelude.{ℕ, Bool, List, ◌&&◌, ◌==◌, nat_lt, not}
+use Rattle.std.specs.List.{take_while}
+use Rattle.std.specs.Char.{digit_value}
+use Rattle.std.specs.Str.Parse.{digits_value}
+use Rattle.mesh_base.specs.Numeral.{is_numeral, leads_with_zero}
+
+unfoldable pub is_digit : ℕ → Bool
+is_digit byte = nat_lt (digit_value byte) 10
+
+-- digits, one or more, and no zero before another
+unfoldable pub is_number : List ℕ → Bool
+is_number text = is_numeral 10 text && not (leads_with_zero text)
+
+-- this number, written so
+unfoldable pub is_number_of : ℕ → List ℕ → Bool
+is_number_of n text = is_number text && digits_value 10 text == n
+
+-- the longest run of digits at the front is a number
+unfoldable pub begins_with_number : List ℕ → Bool
+begins_with_number text = is_number (take_while is_digit text)

@@ -1,0 +1,58 @@
+ghost use Rattle.std.specs.Prelude.{◌≡◌, ◌≢◌, ◌≤◌, ◌<◌, ℕ, List, length, Some, IsTrue};
+ghost use Rattle.mesh_outside.specs.Causes.{Rose, Unrisen};
+ghost use Rattle.line_run.specs.Run.{OnEnd, OnStop, TookLimit, IsAnswered, IsTooLong};
+ghost use Rattle.proxy_proto.specs.MessageReading.{is_of_destinations};
+ghost use Rattle.output_fold.specs.Headline.{WritesFolded, WritesFoldedFront};
+
+use crate::folding::Folding;
+use line_run::{Status, run_lines};
+use mesh_base::limits::Limits;
+use mesh_base::sub_id::SubId;
+use mesh_outside::{Sink, Source};
+use std::alloc::Global;
+use view_fold::folding::Fold;
+use view_types::query::Method;
+
+/// Reads the lines that `replay` wrote, and writes the frames that bring a subscriber who has no view to the one that
+/// the frames of the id show; or the first line that doesn't read, and then no view. Lines behind that one are read and
+/// passed over.
+pub fn fold_file<S: Source, K: Sink>(
+    alloc: Global,
+    method: Method,
+    id: SubId,
+    limits: &Limits,
+    input: &mut S,
+    out: &mut K,
+) -> Status
+    requires of_destinations { IsTrue (is_of_destinations method) }
+    requires some_addresses { 1 ≤ limits.now.frame_addrs }
+
+    // Read to the end: what was written is the defined text, and a line didn't read or none.
+    ensures output { OnEnd result (WritesFolded method id.0 limits.now (S.left input.old) (K.held out.old) (K.held out.new)) }
+
+    // Else it is a front of the defined text.
+    ensures front { OnStop result (WritesFoldedFront method id.0 limits.now (S.left input.old) (K.held out.old) (K.held out.new)) }
+
+    // When each status comes.
+    ensures read { result ≡ Status.ReadFault → Rose (S.faults input.old) (S.faults input.new) }
+    ensures write { result ≡ Status.WriteFault → Rose (K.faults out.old) (K.faults out.new) }
+    ensures long { result ≡ Status.InputTooLong → TookLimit limits.now.input (S.left input.old) }
+    ensures complete { Unrisen (S.faults input.old) (S.faults input.new) → Unrisen (K.faults out.old) (K.faults out.new)
+        → (bytes : List ℕ) → S.left input.old ≡ Some bytes → length bytes < limits.now.input → IsAnswered result }
+    ensures too_long { Unrisen (S.faults input.old) (S.faults input.new) → Unrisen (K.faults out.old) (K.faults out.new)
+        → (bytes : List ℕ) → S.left input.old ≡ Some bytes → limits.now.input ≤ length bytes → IsTooLong result }
+    ensures usage { result ≢ Status.Usage }
+
+    ensures read_later { S.faults input.old ≤ S.faults input.new }
+    ensures write_later { K.faults out.old ≤ K.faults out.new }
+{
+    let mut machine = Folding {
+        alloc,
+        method,
+        id,
+        limits: *limits,
+        fold: Fold::new(),
+        failed: false,
+    };
+    run_lines(alloc, *limits, &mut machine, input, out)
+}

@@ -1,0 +1,53 @@
+ghost use Rattle.std.specs.Prelude.{◌≡◌, IsTrue};
+ghost use Rattle.output_fold.specs.Given.{Gives, GivesAs, IsAs};
+ghost use Rattle.output_fold.specs.Lines.{bytes_of, frame_message, message_in};
+ghost use Rattle.proxy_proto.specs.MessageReading.{is_of_destinations};
+
+use crate::fault::FoldFault;
+use hex::FromHexError;
+use proxy_proto::reading::read_message;
+use std::alloc::Global;
+use view_types::message::Message;
+use view_types::query::Method;
+
+// The bytes that hex stands for.
+fn bytes_of(alloc: Global, hex: &[u8]) -> Result<Vec<u8>, FoldFault>
+    ensures { GivesAs (λ bytes. bytes.items) result (bytes_of hex.now) }
+{
+    match hex::decode(alloc, hex) {
+        Ok(bytes) => Ok(bytes),
+        Err(FromHexError::OutOfMemory) => Err(FoldFault::Memory),
+        Err(_) => Err(FoldFault::NotLine),
+    }
+}
+
+#[tactic(auto, using(crate::proofs::Frames::is_one, crate::proofs::Frames::not_one))]
+// The message of bytes that are one frame.
+fn message_in(bytes: &[u8]) -> Result<&[u8], FoldFault>
+    ensures { IsAs (λ message. message.now) result (message_in bytes.now) }
+{
+    if bytes.is_empty() {
+        return Err(FoldFault::NotLine);
+    }
+    if bytes[0] != 0 {
+        return Err(FoldFault::Compressed);
+    }
+    let [_, a, b, c, d, message @ ..] = bytes else {
+        return Err(FoldFault::NotLine);
+    };
+    let len = u32::from_be_bytes([*a, *b, *c, *d]);
+    if message.len() != len as usize {
+        return Err(FoldFault::NotLine);
+    }
+    Ok(message)
+}
+
+/// The message of the frame that hex stands for.
+pub(crate) fn read_frame(alloc: Global, method: Method, hex: &[u8]) -> Result<Message, FoldFault>
+    requires { IsTrue (is_of_destinations method) }
+    ensures { Gives result (frame_message method hex.now) }
+{
+    let bytes = bytes_of(alloc, hex)?;
+    let message = message_in(&bytes)?;
+    Ok(read_message(alloc, method, message)?)
+}

@@ -1,0 +1,59 @@
+ghost use Rattle.std.specs.Prelude.{◌≡◌, ◌==◌, Some};
+ghost use Rattle.std.specs.List.{list_all};
+ghost use Rattle.output_fold.specs.Numbers.{begins_with_number, is_digit, is_number, is_number_of};
+
+use mesh_base::numeral::read_plain;
+
+#[tactic(auto, unfolding(crate::specs::Numbers::is_digit))]
+fn is_digit(byte: u8) -> bool
+    ensures { result ≡ is_digit byte }
+{
+    byte.is_ascii_digit()
+}
+
+fn are_digits(text: &[u8]) -> bool
+    ensures { result ≡ list_all is_digit text.now }
+{
+    text.iter().all(|byte| is_digit(*byte))
+}
+
+/// The text is decimal digits, one or more, and no zero stands before another.
+#[tactic(auto, unfolding(crate::specs::Numbers::is_digit, crate::specs::Numbers::is_number, mesh_base::specs::Numeral::is_numeral, mesh_base::specs::Numeral::leads_with_zero))]
+pub(crate) fn is_number(text: &[u8]) -> bool
+    ensures { result ≡ is_number text.now }
+{
+    if text.is_empty() {
+        return false;
+    }
+    if text.len() > 1 && text[0] == b'0' {
+        false
+    } else {
+        are_digits(text)
+    }
+}
+
+/// The text is the number, written so.
+#[tactic(auto, using(crate::proofs::Numbers::other_number, crate::proofs::Numbers::same_number))]
+pub(crate) fn is_number_of(text: &[u8], n: u32) -> bool
+    ensures { result ≡ is_number_of n text.now }
+{
+    match read_plain(text, u64::from(u32::MAX)) {
+        Some(found) => found == u64::from(n),
+        None => false,
+    }
+}
+
+/// The text begins with a number: the longest run of digits at its front is one.
+#[tactic(auto, using(crate::proofs::Numbers::begins_none, crate::proofs::Numbers::begins_zero, crate::proofs::Numbers::begins_other))]
+pub(crate) fn begins_with_number(text: &[u8]) -> bool
+    ensures { result ≡ begins_with_number text.now }
+{
+    if text.is_empty() {
+        return false;
+    }
+    if text.len() > 1 && text[0] == b'0' {
+        !is_digit(text[1])
+    } else {
+        is_digit(text[0])
+    }
+}

@@ -1,0 +1,30 @@
+-- Fields as the records that they are written as. Numbers 0, false and empty strings are left out. A message is
+-- written where it is present.
+use Rattle.std.specs.Prelude.{ℕ, Bool, List, [], ◌∷◌, map, Option, Some, None, ◌==◌, if◌then◌else◌}
+use Rattle.proto_wire.specs.declared.record.Rec.{Rec}
+use Rattle.proto_wire.specs.declared.record.WireValue.TheVariants.{Varint, Fixed64, Chunk}
+use Rattle.proto_wire.specs.Wire.{spelling}
+
+-- a text, or a message by its spelling
+abbrev pub chunk : ℕ → List ℕ → Rec
+chunk n bytes = record { number = n; value = Chunk bytes }
+
+abbrev pub number_field : ℕ → ℕ → List Rec
+number_field n x = if x == 0 then [] else record { number = n; value = Varint x } ∷ []
+
+abbrev pub fixed64_field : ℕ → ℕ → List Rec
+fixed64_field n x = if x == 0 then [] else record { number = n; value = Fixed64 x } ∷ []
+
+abbrev pub bool_field : ℕ → Bool → List Rec
+bool_field n b = if b then record { number = n; value = Varint 1 } ∷ [] else []
+
+abbrev pub text_field : ℕ → List ℕ → List Rec
+text_field n [] = []
+text_field n (b ∷ bytes) = chunk n (b ∷ bytes) ∷ []
+
+abbrev pub optional_field : {X : Type 0} → ℕ → (X → List Rec) → Option X → List Rec
+optional_field n f None = []
+optional_field n f (Some x) = chunk n (spelling (f x)) ∷ []
+
+abbrev pub each_field : {X : Type 0} → ℕ → (X → List Rec) → List X → List Rec
+each_field n f xs = map (λ x. chunk n (spelling (f x))) xs

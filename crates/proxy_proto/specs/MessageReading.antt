@@ -1,0 +1,44 @@
+-- What a message says to the subscribers of a method, or its first fault.
+use Rattle.std.specs.Prelude.{Bool, true, false, List, ℕ, Option, Some, None, Result, Ok, Err, if◌then◌else◌}
+use Rattle.view_types.specs.declared.message.Message.{Message}
+use Rattle.view_types.specs.declared.message.Message.TheVariants.{Add, Remove, NoEndpoints, Profile}
+use Rattle.view_types.specs.declared.query.Method.{Method}
+use Rattle.view_types.specs.declared.query.Method.TheVariants.{Get, GetProfile}
+use Rattle.proto_wire.specs.declared.record.Rec.{Rec}
+use Rattle.proxy_proto.specs.declared.fault.ProtoFault.{ProtoFault}
+use Rattle.proxy_proto.specs.declared.table.Schema.{Schema}
+use Rattle.proxy_proto.specs.declared.table.Schema.TheVariants.{Update, DestinationProfile}
+use Rattle.proxy_proto.specs.EndpointReading.{pair_in, row_in}
+use Rattle.proxy_proto.specs.Faults.{fault_of}
+use Rattle.proxy_proto.specs.LookUps.{records_in, has, flag_in, inside, each_message}
+use Rattle.proxy_proto.specs.ProfileReading.{profile_in}
+
+-- the methods of the destination controller, Get and GetProfile
+abbrev pub is_of_destinations : Method → Bool
+is_of_destinations Get = true
+is_of_destinations GetProfile = true
+is_of_destinations _ = false
+
+-- the message that answers the method
+abbrev pub answer_schema : Method → Schema
+answer_schema Get = Update
+answer_schema _ = DestinationProfile
+
+unfoldable pub update_in : List Rec → Message
+update_in rs =
+    if has 1 rs then Add (each_message 1 row_in (inside 1 rs))
+    else (if has 2 rs then Remove (each_message 1 pair_in (inside 2 rs))
+    else NoEndpoints (flag_in 1 (inside 3 rs)))
+
+abbrev pub answer_in : Method → List Rec → Message
+answer_in Get rs = update_in rs
+answer_in _ rs = Profile (profile_in rs)
+
+-- the fault where there is one, else what is read
+abbrev pub or_first : {A : Type 0} → Option ProtoFault → Result A ProtoFault → Result A ProtoFault
+or_first None read = read
+or_first (Some fault) read = Err fault
+
+-- Of a method of the policy controller nothing is said here.
+abbrev pub message_of : Method → List ℕ → Result Message ProtoFault
+message_of method bytes = or_first (fault_of (answer_schema method) bytes) (Ok (answer_in method (records_in bytes)))

@@ -1,0 +1,215 @@
+//! The fields of each message, as in `docs/proxy.proto`.
+ghost use Rattle.std.specs.Prelude.{◌≡◌};
+ghost use Rattle.proxy_proto.specs.Tables.{fields_of};
+
+use crate::table::FieldKind::{Fixed32, Fixed64, Message, Number, Text};
+use crate::table::Label::{Choice, Map, Repeated, Required, Single};
+
+/// The messages. The entries of a map are messages too, and so are lists of matches, by what their matches are of.
+#[derive(Clone, Copy)]
+pub enum Schema {
+    Update,
+    WeightedAddrSet,
+    AddrSet,
+    NoEndpoints,
+    WeightedAddr,
+    MetricLabel,
+    TcpAddress,
+    IpAddress,
+    Ipv6,
+    TlsIdentity,
+    DnsLikeIdentity,
+    ProtocolHint,
+    Empty,
+    OpaqueTransport,
+    DestinationProfile,
+    ProfileRoute,
+    RequestMatch,
+    RequestSeq,
+    PathRegex,
+    HttpMethod,
+    ResponseClass,
+    ResponseMatch,
+    ResponseSeq,
+    StatusRange,
+    WeightedDst,
+    Duration,
+    GetDestination,
+}
+
+/// How often a field may come.
+#[derive(Clone, Copy)]
+pub enum Label {
+    /// Once at most.
+    Single,
+    /// Once.
+    Required,
+    /// One of the message's members of a choice comes, once.
+    Choice,
+    Repeated,
+    /// Any number of entries, whose keys differ.
+    Map,
+}
+
+/// What a field holds.
+#[derive(Clone, Copy)]
+pub enum FieldKind {
+    /// A number up to this one.
+    Number(u64),
+    Fixed32,
+    Fixed64,
+    Text,
+    Message(Schema),
+}
+
+/// A field: its number, how often it may come, and what it holds.
+#[derive(Clone, Copy)]
+pub struct Field(pub u32, pub Label, pub FieldKind);
+
+const UINT64: FieldKind = Number(18_446_744_073_709_551_615);
+
+const BOOL: FieldKind = UINT64;
+
+const UINT32: FieldKind = Number(4_294_967_295);
+/// A port, or a status code.
+const UINT16: FieldKind = Number(65_535);
+
+const NANOSECONDS: FieldKind = Number(999_999_999);
+
+const UPDATE: [Field; 3] = [
+    Field(1, Choice, Message(Schema::WeightedAddrSet)),
+    Field(2, Choice, Message(Schema::AddrSet)),
+    Field(3, Choice, Message(Schema::NoEndpoints)),
+];
+
+const WEIGHTED_ADDR_SET: [Field; 1] = [Field(1, Repeated, Message(Schema::WeightedAddr))];
+
+const ADDR_SET: [Field; 1] = [Field(1, Repeated, Message(Schema::TcpAddress))];
+
+const NO_ENDPOINTS: [Field; 1] = [Field(1, Single, BOOL)];
+
+const WEIGHTED_ADDR: [Field; 5] = [
+    Field(1, Required, Message(Schema::TcpAddress)),
+    Field(3, Single, UINT32),
+    Field(4, Map, Message(Schema::MetricLabel)),
+    Field(5, Single, Message(Schema::TlsIdentity)),
+    Field(6, Single, Message(Schema::ProtocolHint)),
+];
+
+const METRIC_LABEL: [Field; 2] = [Field(1, Single, Text), Field(2, Single, Text)];
+
+const TCP_ADDRESS: [Field; 2] = [
+    Field(1, Required, Message(Schema::IpAddress)),
+    Field(2, Single, UINT16),
+];
+
+const IP_ADDRESS: [Field; 2] = [
+    Field(1, Choice, Fixed32),
+    Field(2, Choice, Message(Schema::Ipv6)),
+];
+
+const IPV6: [Field; 2] = [Field(1, Single, Fixed64), Field(2, Single, Fixed64)];
+
+const TLS_IDENTITY: [Field; 1] = [Field(1, Required, Message(Schema::DnsLikeIdentity))];
+
+const DNS_LIKE_IDENTITY: [Field; 1] = [Field(1, Single, Text)];
+
+const PROTOCOL_HINT: [Field; 2] = [
+    Field(1, Single, Message(Schema::Empty)),
+    Field(2, Single, Message(Schema::OpaqueTransport)),
+];
+
+const EMPTY: [Field; 0] = [];
+
+const OPAQUE_TRANSPORT: [Field; 1] = [Field(1, Single, UINT16)];
+
+const DESTINATION_PROFILE: [Field; 5] = [
+    Field(1, Repeated, Message(Schema::ProfileRoute)),
+    Field(3, Repeated, Message(Schema::WeightedDst)),
+    Field(4, Single, BOOL),
+    Field(5, Single, Text),
+    Field(6, Single, Message(Schema::WeightedAddr)),
+];
+
+const PROFILE_ROUTE: [Field; 5] = [
+    Field(1, Required, Message(Schema::RequestMatch)),
+    Field(2, Repeated, Message(Schema::ResponseClass)),
+    Field(3, Map, Message(Schema::MetricLabel)),
+    Field(4, Single, BOOL),
+    Field(5, Single, Message(Schema::Duration)),
+];
+
+const REQUEST_MATCH: [Field; 5] = [
+    Field(1, Choice, Message(Schema::RequestSeq)),
+    Field(2, Choice, Message(Schema::RequestSeq)),
+    Field(3, Choice, Message(Schema::RequestMatch)),
+    Field(4, Choice, Message(Schema::PathRegex)),
+    Field(5, Choice, Message(Schema::HttpMethod)),
+];
+
+const REQUEST_SEQ: [Field; 1] = [Field(1, Repeated, Message(Schema::RequestMatch))];
+
+const PATH_REGEX: [Field; 1] = [Field(1, Single, Text)];
+
+const HTTP_METHOD: [Field; 1] = [Field(1, Single, Text)];
+
+const RESPONSE_CLASS: [Field; 2] = [
+    Field(1, Required, Message(Schema::ResponseMatch)),
+    Field(2, Single, BOOL),
+];
+
+const RESPONSE_MATCH: [Field; 4] = [
+    Field(1, Choice, Message(Schema::ResponseSeq)),
+    Field(2, Choice, Message(Schema::ResponseSeq)),
+    Field(3, Choice, Message(Schema::ResponseMatch)),
+    Field(4, Choice, Message(Schema::StatusRange)),
+];
+
+const RESPONSE_SEQ: [Field; 1] = [Field(1, Repeated, Message(Schema::ResponseMatch))];
+
+const STATUS_RANGE: [Field; 2] = [Field(1, Single, UINT16), Field(2, Single, UINT16)];
+
+const WEIGHTED_DST: [Field; 2] = [Field(1, Single, Text), Field(2, Single, UINT32)];
+
+const DURATION: [Field; 2] = [Field(1, Single, UINT64), Field(2, Single, NANOSECONDS)];
+
+const GET_DESTINATION: [Field; 3] = [
+    Field(1, Single, Text),
+    Field(2, Single, Text),
+    Field(3, Single, Text),
+];
+
+/// The fields of a message.
+pub fn fields(schema: Schema) -> &'static [Field]
+    ensures { result.now ≡ fields_of schema }
+{
+    match schema {
+        Schema::Update => &UPDATE,
+        Schema::WeightedAddrSet => &WEIGHTED_ADDR_SET,
+        Schema::AddrSet => &ADDR_SET,
+        Schema::NoEndpoints => &NO_ENDPOINTS,
+        Schema::WeightedAddr => &WEIGHTED_ADDR,
+        Schema::MetricLabel => &METRIC_LABEL,
+        Schema::TcpAddress => &TCP_ADDRESS,
+        Schema::IpAddress => &IP_ADDRESS,
+        Schema::Ipv6 => &IPV6,
+        Schema::TlsIdentity => &TLS_IDENTITY,
+        Schema::DnsLikeIdentity => &DNS_LIKE_IDENTITY,
+        Schema::ProtocolHint => &PROTOCOL_HINT,
+        Schema::Empty => &EMPTY,
+        Schema::OpaqueTransport => &OPAQUE_TRANSPORT,
+        Schema::DestinationProfile => &DESTINATION_PROFILE,
+        Schema::ProfileRoute => &PROFILE_ROUTE,
+        Schema::RequestMatch => &REQUEST_MATCH,
+        Schema::RequestSeq => &REQUEST_SEQ,
+        Schema::PathRegex => &PATH_REGEX,
+        Schema::HttpMethod => &HTTP_METHOD,
+        Schema::ResponseClass => &RESPONSE_CLASS,
+        Schema::ResponseMatch => &RESPONSE_MATCH,
+        Schema::ResponseSeq => &RESPONSE_SEQ,
+        Schema::StatusRange => &STATUS_RANGE,
+        Schema::WeightedDst => &WEIGHTED_DST,
+        Schema::Duration => &DURATION,
+        Schema::GetDestination => &GET_DESTINATION,
+    }
+}
