@@ -2,7 +2,7 @@
 use Rattle.std.specs.Prelude.{◌≡◌, ◌⊎◌, ℕ, ◌&&◌, List, [], ◌∷◌, Option, Some, None, IsSome, bytes_eq, codes, length, nat_le, if◌then◌else◌}
 use Rattle.mesh_base.specs.Numeral.{number_up_to}
 use Rattle.view_types.specs.declared.query.Method.{Method}
-use Rattle.view_types.specs.declared.query.Method.TheVariants.{Get, GetProfile}
+use Rattle.watch_events.specs.Queries.{method_of}
 use Rattle.linkerd_cli.specs.declared.command.FoldAsked.{FoldAsked}
 
 -- the one word `replay`
@@ -14,10 +14,6 @@ IsReplay words = words ≡ codes "replay" ∷ []
 -- one to ten decimal digits that write at most 4294967295
 unfoldable pub id_of : List ℕ → Option ℕ
 id_of digits = if nat_le (length digits) 10 then number_up_to 10 4294967295 digits else None
-
--- a method whose messages are read
-unfoldable pub method_of : List ℕ → Option Method
-method_of word = if bytes_eq word (codes "Get") then Some Get else if bytes_eq word (codes "GetProfile") then Some GetProfile else None
 
 abbrev pub both_asked : Option ℕ → Option Method → Option FoldAsked
 both_asked (Some id) (Some method) = Some (record { id = record { 0 = id }; method = method })

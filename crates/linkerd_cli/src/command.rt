@@ -1,6 +1,6 @@
 ghost use Rattle.std.specs.Prelude.{◌≡◌, ◌≢◌, ◌↔◌, ◌<◌, ◌^◌, ◌&&◌, IfSome, IsTrue, bytes_eq, codes};
-ghost use Rattle.proxy_proto.specs.MessageReading.{is_of_destinations};
-ghost use Rattle.linkerd_cli.specs.Command.{IsReplay, both_asked, fold_asked, id_of, method_of};
+ghost use Rattle.watch_events.specs.Queries.{method_of};
+ghost use Rattle.linkerd_cli.specs.Command.{IsReplay, both_asked, fold_asked, id_of};
 
 use line_run::Status;
 use mesh_base::numeral::read_number;
@@ -10,6 +10,7 @@ use std::env;
 use std::env::Env;
 use std::io::ErrorKind;
 use view_types::query::Method;
+use watch_events::method::method_of;
 
 /// The words are the one word `replay`.
 pub(crate) fn is_replay(words: &[Text]) -> bool
@@ -41,25 +42,9 @@ fn id_of(digits: &[u8]) -> Option<u64>
     }
 }
 
-#[tactic(auto, unfolding(crate::specs::Command::method_of))]
-fn method_of(word: &str) -> Option<Method>
-    ensures value { result ≡ method_of word.now }
-    ensures of_destinations { IfSome result (λ method. IsTrue (is_of_destinations method)) }
-{
-    if word == "Get" {
-        Some(Method::Get)
-    } else if word == "GetProfile" {
-        Some(Method::GetProfile)
-    } else {
-        None
-    }
-}
-
 fn both_asked(id: Option<u64>, method: Option<Method>) -> Option<FoldAsked>
-    requires small { IfSome id (λ id. id < 2 ^ 32) }
-    requires of_destinations { IfSome method (λ method. IsTrue (is_of_destinations method)) }
-    ensures value { result ≡ both_asked id method }
-    ensures of_destinations { IfSome result (λ asked. IsTrue (is_of_destinations asked.method)) }
+    requires { IfSome id (λ id. id < 2 ^ 32) }
+    ensures { result ≡ both_asked id method }
 {
     let Some(id) = id else { return None };
     let Some(method) = method else { return None };
@@ -77,8 +62,7 @@ fn are_names(command: &str, id_name: &str, method_name: &str) -> bool
 
 /// What the words ask for, where they are `fold --id N --method M`.
 pub(crate) fn fold_asked(words: &[Text]) -> Option<FoldAsked>
-    ensures value { result ≡ fold_asked words.now }
-    ensures of_destinations { IfSome result (λ asked. IsTrue (is_of_destinations asked.method)) }
+    ensures { result ≡ fold_asked words.now }
 {
     let [command, id_name, id, method_name, method] = words else {
         return None;

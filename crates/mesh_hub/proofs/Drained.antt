@@ -1,5 +1,5 @@
 -- What a drain comes to at the place where its subscription stands, and a call on an id that isn't live.
-use Rattle.std.proofs.Common.{◌≡◌, ℕ, suc, false, List, [], ◌∷◌, ◌++◌, get_or, take, drop, Option, None, Ok, Err, sym, ap, ◌∙◌}
+use Rattle.std.proofs.Common.{◌≡◌, ℕ, suc, false, List, [], ◌∷◌, ◌++◌, get_or, take, drop, Option, Some, None, Ok, Err, sym, ap, ◌∙◌}
 use Rattle.std.proofs.lemmas.List.{set_split}
 use Rattle.view_types.specs.declared.view.View.{View}
 use Rattle.view_rules.specs.Views.{view_of}
@@ -16,7 +16,7 @@ with_subs old subs = record old { subs = subs }
 
 -- ---- who was sent its messages goes on
 
-module _ (old new : HubState) (id at : ℕ) (stands : StandsAt id_of id old.subs at) (sub : Subscription) (is : sub ≡ get_or old.subs at sub) (view : Option View) (frames : List (List ℕ)) (due : IsDue old sub view frames) where
+module _ (old new : HubState) (id at : ℕ) (stands : StandsAt id_of id old.subs at) (sub : Subscription) (is : sub ≡ get_or old.subs at sub) (view : View) (frames : List (List ℕ)) (due : IsDue old sub view frames) where
   its_frames : Ok frames ≡ frames_at old id
   its_frames =
       ap Ok due.frames
@@ -24,17 +24,17 @@ module _ (old new : HubState) (id at : ℕ) (stands : StandsAt id_of id old.subs
       ∙ sym (ap (frames_for old id) (found_there id_of id old.subs at stands sub is))
 
   -- it stays, and was shown the view
-  its_place : shown_now old sub ≡ record sub { shown = view } ∷ []
+  its_place : shown_now old sub ≡ record sub { shown = Some view } ∷ []
   its_place =
-      ap (λ found. unless_too_long found (record sub { shown = view_of old.config old.objects sub.query })) due.fits
-      ∙ ap (λ (seen : Option View). record sub { shown = seen } ∷ []) (sym due.view)
+      ap (λ found. unless_too_long found (record sub { shown = Some (view_of old.config old.objects sub.query) })) due.fits
+      ∙ ap (λ (seen : View). record sub { shown = Some seen } ∷ []) (sym due.view)
 
   pub went_on : old.spent ≡ false → Shows at view old new → Goes old (frames_at old id) (drained old id) (Ok frames) new
   went_on going shows = record {
     going = going;
     answer = its_frames;
     state = shows sub (sym is) ∙ ap (with_subs old)
-        (set_split old.subs at (record sub { shown = view }) stands.within
+        (set_split old.subs at (record sub { shown = Some view }) stands.within
         ∙ sym (ap (λ (put : List Subscription). take at old.subs ++ (put ++ drop (suc at) old.subs)) its_place)
         ∙ sym (gives_way id_of id old.subs at stands sub is (shown_now old)));
   }

@@ -1,7 +1,7 @@
 -- What holds of each item of a list that is made of other lists.
-use Rattle.std.proofs.Common.{◌≡◌, ℕ, zero, suc, Bool, true, false, cond, List, [], ◌∷◌, ◌++◌, map, take, drop, Some, refl, subst, inl, inr}
+use Rattle.std.proofs.Common.{◌≡◌, ℕ, zero, suc, Bool, true, false, cond, List, [], ◌∷◌, ◌++◌, map, take, drop, Option, Some, None, IfSome, refl, subst, inl, inr}
 use Rattle.std.specs.Prelude.{find, flat_map}
-use Rattle.std.specs.List.{AllByRecursion, filter}
+use Rattle.std.specs.List.{AllByRecursion, cons_option, filter, filter_map}
 use Rattle.view_rules.proofs.Among.{Among}
 
 module _ {X : Type 0} where
@@ -17,6 +17,10 @@ module _ {X : Type 0} where
     pub all_if : (b : Bool) (xs : List X) → AllByRecursion P xs → AllByRecursion P (cond b xs [])
     all_if true xs all = all
     all_if false xs all = tt
+
+    pub all_with : (found : Option X) (xs : List X) → IfSome found P → AllByRecursion P xs → AllByRecursion P (cons_option found xs)
+    all_with None xs here rest = rest
+    all_with (Some x) xs here rest = (here, rest)
 
     pub all_taken : (n : ℕ) (xs : List X) → AllByRecursion P xs → AllByRecursion P (take n xs)
     all_taken zero xs all = tt
@@ -51,3 +55,12 @@ module _ {X Y : Type 0} where
   pub all_mapped : (P : X → Type 0) (Q : Y → Type 0) (f : X → Y) → ((x : X) → P x → Q (f x)) → (xs : List X) → AllByRecursion P xs → AllByRecursion Q (map f xs)
   all_mapped P Q f each [] all = tt
   all_mapped P Q f each (x ∷ xs) all = (each x all.0, all_mapped P Q f each xs all.1)
+
+  -- whatever the items were
+  pub all_made : (Q : Y → Type 0) (f : X → Y) → ((x : X) → Q (f x)) → (xs : List X) → AllByRecursion Q (map f xs)
+  all_made Q f each [] = tt
+  all_made Q f each (x ∷ xs) = (each x, all_made Q f each xs)
+
+  pub all_given : (P : X → Type 0) (Q : Y → Type 0) (f : X → Option Y) → ((x : X) → P x → IfSome (f x) Q) → (xs : List X) → AllByRecursion P xs → AllByRecursion Q (filter_map f xs)
+  all_given P Q f each [] all = tt
+  all_given P Q f each (x ∷ xs) all = all_with Q (f x) (filter_map f xs) (each x all.0) (all_given P Q f each xs all.1)

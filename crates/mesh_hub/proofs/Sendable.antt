@@ -1,4 +1,4 @@
--- What is sent of lawful objects is sendable: the rows, and the profiles, of their views.
+-- What is sent of lawful objects is sendable: the rows of their endpoints, and their other views.
 use Rattle.std.proofs.Common.{◌≡◌, ℕ, zero, suc, ◌<◌, ◌≤◌, ◌^◌, Bool, true, false, cond, List, [], ◌∷◌, length, map, drop, Option, Some, None, refl, sym, ap, subst, arith, lit<}
 use Rattle.std.specs.Prelude.{Ok, codes, nat_lt, not, option_map}
 use Rattle.std.specs.List.{AllByRecursion}
@@ -8,7 +8,7 @@ use Rattle.std.proofs.lemmas.Bool.{ltb-false}
 use Rattle.std.proofs.lemmas.Str.{IsUtf8-from_is_utf8}
 use Rattle.net_cidr.specs.declared.ip.Ip.{Ip}
 use Rattle.line_run.specs.Rows.{Row}
-use Rattle.view_rules.specs.Batch.{changed_rows, gone_pairs, has_pair, has_row, in_pieces, is_news, messages_between, messages_to, pieces_up_to, profile_batch, profile_in, rows_before}
+use Rattle.view_rules.specs.Batch.{batch, changed_rows, gone_pairs, has_pair, has_row, in_pieces, is_news, messages_to, outbound_in, pieces_up_to, profile_in, rows_before, server_in, whole_batch}
 use Rattle.view_rules.specs.Views.{view_before, view_of}
 use Rattle.view_rules.specs.Endpoints.{endpoints, pair_of}
 use Rattle.view_types.specs.Defaults.{usual_config}
@@ -16,12 +16,12 @@ use Rattle.view_types.specs.Objects.{ObjectMap}
 use Rattle.view_types.specs.declared.endpoint.EndpointRow.{EndpointRow}
 use Rattle.view_types.specs.declared.endpoint.EndpointView.{EndpointView}
 use Rattle.view_types.specs.declared.message.Message.{Message}
-use Rattle.view_types.specs.declared.message.Message.TheVariants.{Add, Remove, NoEndpoints, Profile as WholeProfile}
+use Rattle.view_types.specs.declared.message.Message.TheVariants.{Add, Remove, NoEndpoints, Profile as WholeProfile, Server as WholeServer, Outbound as WholeOutbound}
 use Rattle.view_types.specs.declared.query.Query.{Query}
 use Rattle.view_types.specs.declared.query.Query.TheVariants as queries
 use Rattle.proxy_proto.specs.Messages.{canonical}
 use Rattle.proxy_proto.specs.MessageReading.{message_of}
-use Rattle.proxy_proto.specs.Sendable.{IsSendable, IsSendablePair, IsSendableProfile, IsSendableRow, method_of}
+use Rattle.proxy_proto.specs.Sendable.{AreSendableParts, IsSendable, IsSendablePair, IsSendableRow, method_of}
 use Rattle.proxy_proto.proofs.Round.{message_back}
 use Rattle.mesh_hub.specs.Drains.{too_long}
 use Rattle.mesh_hub.specs.History.{Asked, State, after, asked_at, messages_due, too_long_for}
@@ -33,9 +33,13 @@ use Rattle.mesh_hub.specs.Told.{last_drain}
 use Rattle.mesh_hub.proofs.Lists.{all_if, all_joined, all_kept, all_left, all_mapped, all_taken, all_weaker}
 use Rattle.mesh_hub.proofs.Told.{told_at_last_drain}
 use Rattle.view_rules.specs.Profiles.{profile}
+use Rattle.view_rules.specs.Inbound.{inbound}
+use Rattle.view_rules.specs.Outbound.{outbound}
 use Rattle.view_rules.specs.Same.{same_option, same_profile}
-use Rattle.view_types.specs.declared.outbound.ProfileView.{ProfileView}
+use Rattle.view_rules.specs.SamePolicies.{same_outbound, same_server}
 use Rattle.watch_events.specs.Lawful.{IsLawfulQuery}
+use Rattle.mesh_hub.proofs.SendableInbound.{inbound_is_sendable}
+use Rattle.mesh_hub.proofs.SendableOutbound.{outbound_is_sendable}
 use Rattle.mesh_hub.proofs.SendableProfiles.{profile_is_sendable}
 use Rattle.mesh_hub.proofs.SendableRows.{AreLawfulHeld, shown_are_sendable}
 
@@ -74,10 +78,10 @@ batch_is_sendable size old exists (r ∷ rs) old_good good =
     (adds_are_sendable (length changed) size changed (all_kept IsSendableRow (λ row. not (has_row (rows_before old) row)) (r ∷ rs) good))
     (removes_are_sendable (length gone) size gone (all_kept IsSendablePair (λ pair. not (has_pair (r ∷ rs) pair)) (map pair_of (rows_before old)) (pairs_are_sendable (rows_before old) old_good)))
 
-profile_is_sendable_if : (old : Option ProfileView) (new : ProfileView) → IsSendableProfile new → AllByRecursion IsSendableIf (profile_batch old new)
-profile_is_sendable_if old new good = if_new (same_option same_profile old (Some new))
+whole_is_sendable : {X : Type 0} (same : X → X → Bool) (message : X → Message) (old : Option X) (new : X) → AreSendableParts (message new) → AllByRecursion IsSendableIf (whole_batch same message old new)
+whole_is_sendable same message old new good = if_new (same_option same old (Some new))
   where
-    if_new : (same : Bool) → AllByRecursion IsSendableIf (cond same [] (WholeProfile new ∷ []))
+    if_new : (shown : Bool) → AllByRecursion IsSendableIf (cond shown [] (message new ∷ []))
     if_new true = tt
     if_new false = (λ short. record { parts = good; short = short }, tt)
 
@@ -118,16 +122,20 @@ module _ (program : Program) (lawful : HeldAreLawful program) (asked_lawful : Qu
   due_are_sendable held now asked query told = by_query asked.query query asked.told told
     where
       by_query : (query : Query) → IsLawfulQuery query → (told : Option ObjectMap) → IsLawfulTold told
-          → AllByRecursion IsSendableIf (messages_between program.limits (view_before program.config query told) (view_of program.config held query))
+          → AllByRecursion IsSendableIf (batch (view_before program.config query told) (view_of program.config held query) program.limits)
       by_query (queries.Get ns name port ctx) lawful None told = batch_is_sendable program.limits.frame_addrs None _ _ tt (shown_are_sendable program.config usual held now ns name port)
       by_query (queries.Get ns name port ctx) lawful (Some before) told =
           batch_is_sendable program.limits.frame_addrs (Some (endpoints program.config before ns name port)) _ _
           (shown_are_sendable program.config usual before told ns name port) (shown_are_sendable program.config usual held now ns name port)
       by_query (queries.Profile target ctx) lawful before told =
-          profile_is_sendable_if (profile_in (view_before program.config (queries.Profile target ctx) before)) (profile program.config held target ctx.ns)
+          whole_is_sendable same_profile WholeProfile (profile_in (view_before program.config (queries.Profile target ctx) before)) (profile program.config held target ctx.ns)
           (profile_is_sendable program.config usual held now ctx.ns target lawful)
-      by_query (queries.Port ns pod port) lawful before told = tt
-      by_query (queries.Traffic target) lawful before told = tt
+      by_query (queries.Port ns pod port) lawful before told =
+          whole_is_sendable same_server WholeServer (server_in (view_before program.config (queries.Port ns pod port) before)) (inbound program.config held ns pod port)
+          (inbound_is_sendable program.config usual held now ns pod port)
+      by_query (queries.Traffic target) lawful before told =
+          whole_is_sendable same_outbound WholeOutbound (outbound_in (view_before program.config (queries.Traffic target) before)) (outbound program.config held target)
+          (outbound_is_sendable held now program.config usual target lawful)
 
   sent_are_sendable : HasLimit program → (past : List Row) (id : ℕ) → AllByRecursion IsSendable (sent_now program (after program past) id)
   sent_are_sendable small past id = by_found (asked_at id now.subs) refl

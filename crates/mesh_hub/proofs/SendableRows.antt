@@ -1,6 +1,6 @@
 -- Each row of lawful objects can be sent: it is of an address and a port that a held slice gives, and its strings are those
 -- of a held Pod and of the configuration.
-use Rattle.std.proofs.Common.{◌≡◌, ℕ, ◌+◌, ◌<◌, true, false, cond, ◌&&◌, List, [], ◌∷◌, ◌++◌, length, Option, Some, None, refl, sym, ap, subst, ◌∙◌, arith, lit<}
+use Rattle.std.proofs.Common.{◌≡◌, ℕ, ◌<◌, Bool, true, false, cond, ◌&&◌, List, [], ◌∷◌, ◌++◌, length, Option, Some, None, IfSome, refl, sym, ap, subst, ◌∙◌, arith, lit<}
 use Rattle.std.specs.Prelude.{codes, find, ◌≢◌}
 use Rattle.std.specs.List.{AllByRecursion, cons_option}
 use Rattle.std.specs.FinMap.{empty, entries, entries-insert, get, insert, len-empty, len-entries, put, values}
@@ -9,33 +9,32 @@ use Rattle.std.specs.Str.{IsUtf8, bytes_eq, chars, is_utf8}
 use Rattle.std.proofs.lemmas.Str.{IsUtf8-append, IsUtf8-from_is_utf8}
 use Rattle.std.specs.Cmp.Lexicographic.{nat_list_cmp_total, slice_cmp}
 use Rattle.std.specs.Ordering.{nat_cmp}
-use Rattle.std.proofs.lemmas.List.Elements.{recursion_from_All}
 use Rattle.mesh_base.proofs.KeyOrder.{keys_total}
 use Rattle.mesh_base.specs.declared.key.ObjKey.{ObjKey}
 use Rattle.net_cidr.specs.Texts.{FitsIp}
 use Rattle.net_cidr.specs.declared.ip.Ip.{Ip}
 use Rattle.view_rules.specs.PodRows.{as_pod, bare_row, labelled_row, labels_of, meshed_row, pod_found, pod_held, pod_key, row_for, row_of}
-use Rattle.view_rules.specs.Endpoints.{RowFor, address_rows, endpoints, endpoints_from, first_rows, has_addresses, no_endpoints, pair_of, point_rows, port_name, port_rows, rows_from, service_held, slice_in, slice_rows, slices_among, slices_held}
+use Rattle.view_rules.specs.Profiles.{is_pod_with, pod_at}
+use Rattle.view_rules.specs.Endpoints.{RowFor, address_rows, endpoints, endpoints_from, has_addresses, no_endpoints, pair_of, point_rows, port_name, port_rows, rows_from, service_held, slice_in, slice_rows, slices_among, slices_held}
 use Rattle.mesh_text.specs.Mesh.{identity_of, is_meshed}
 use Rattle.view_types.specs.Lawful.{IsLawful, IsLawfulPod, IsLawfulSlice}
 use Rattle.view_types.specs.Objects.{ObjectMap}
 use Rattle.view_types.specs.declared.config.Config.{Config}
 use Rattle.view_types.specs.declared.pod.Pod.{Pod}
 use Rattle.view_types.specs.declared.object.Object.TheVariants as objects
-use Rattle.view_types.specs.declared.endpoint.EndpointRow.{EndpointRow}
 use Rattle.view_types.specs.declared.endpoint.EndpointView.{EndpointView}
 use Rattle.view_types.specs.declared.object.Object.{Object}
 use Rattle.view_types.specs.declared.service.NamedPort.{NamedPort}
 use Rattle.view_types.specs.declared.service.Service.{Service}
 use Rattle.view_types.specs.declared.slice.Point.{Point}
 use Rattle.view_types.specs.declared.slice.Slice.{Slice}
-use Rattle.view_rules.specs.Laws.{is_at}
-use Rattle.view_rules.proofs.FirstRows.{are_first}
 use Rattle.view_rules.proofs.Given.{slice_is}
 use Rattle.view_rules.proofs.Entries.{held_somewhere}
+use Rattle.view_rules.proofs.Pairs.{pairs_total}
 use Rattle.proxy_proto.specs.Sendable.{IsSendableLabel, IsSendableRow}
 use Rattle.mesh_hub.specs.Sendable.{IsLawfulConfig}
-use Rattle.mesh_hub.proofs.Lists.{all_among, all_flat, all_if, all_weaker, found_is}
+use Rattle.mesh_hub.proofs.Lists.{all_among, all_flat, all_if, found_is}
+use Rattle.mesh_hub.proofs.Ordered.{all_in_order}
 
 -- ---- rows
 
@@ -46,23 +45,39 @@ none_long (x ∷ xs) is = absurd (omega arith)
 no_labels : entries (empty {X = List ℕ} {R = slice_cmp nat_cmp}) ≡ []
 no_labels = none_long _ (sym (len-entries (empty {X = List ℕ} {R = slice_cmp nat_cmp})) ∙ len-empty (slice_cmp nat_cmp) (List ℕ))
 
+-- ---- what is held
+
+-- all that is held is lawful
+abbrev pub AreLawfulHeld : ObjectMap → Type 0
+AreLawfulHeld held = (key : ObjKey) (object : Object) → get held key ≡ Some object → IsLawful object
+
+pub values_are_lawful : (held : ObjectMap) → AreLawfulHeld held → AllByRecursion IsLawful (values held)
+values_are_lawful held lawful = all_among IsLawful (values held) (λ object at. let place = held_somewhere keys_total held object at in lawful place.0 object place.1)
+
+-- what holds where no object is found, and of each lawful one
+pub of_found : (Q : Option Object → Type 0) → Q None → ((o : Object) → IsLawful o → Q (Some o)) → (found : Option Object) → ((o : Object) → found ≡ Some o → IsLawful o) → Q found
+of_found Q none some None lawful = none
+of_found Q none some (Some o) lawful = some o (lawful o refl)
+
+-- the first that passes
+pub of_first : (held : ObjectMap) → AreLawfulHeld held → (Q : Option Object → Type 0) → Q None → ((o : Object) → IsLawful o → Q (Some o)) → (test : Object → Bool) → Q (find test (values held))
+of_first held lawful Q none some test = of_found Q none some (find test (values held)) (λ o found. found_is IsLawful test (values held) o (values_are_lawful held lawful) found)
+
 -- ---- what a Pod gives a row
 
-abbrev pub IsLawfulIfSome : Option Pod → Type 0
-IsLawfulIfSome None = Unit {0}
-IsLawfulIfSome (Some pod) = IsLawfulPod pod
-
-pod_of_object : (o : Object) → IsLawful o → IsLawfulIfSome (as_pod o)
+pod_of_object : (o : Object) → IsLawful o → IfSome (as_pod o) IsLawfulPod
 pod_of_object (objects.Pod pod) lawful = lawful
 pod_of_object _ lawful = tt
 
-pub pod_of : (found : Option Object) → ((o : Object) → found ≡ Some o → IsLawful o) → IsLawfulIfSome (pod_found found)
-pod_of None lawful = tt
-pod_of (Some o) lawful = pod_of_object o (lawful o refl)
+abbrev HasLawfulPod : Option Object → Type 0
+HasLawfulPod found = IfSome (pod_found found) IsLawfulPod
 
-pod_is_lawful : (held : ObjectMap) → ((key : ObjKey) (o : Object) → get held key ≡ Some o → IsLawful o) → (target : Option (List ℕ × List ℕ)) → IsLawfulIfSome (pod_held held target)
+pod_is_lawful : (held : ObjectMap) → AreLawfulHeld held → (target : Option (List ℕ × List ℕ)) → IfSome (pod_held held target) IsLawfulPod
 pod_is_lawful held lawful None = tt
-pod_is_lawful held lawful (Some target) = pod_of (get held (pod_key target.0 target.1)) (lawful (pod_key target.0 target.1))
+pod_is_lawful held lawful (Some target) = of_found HasLawfulPod tt pod_of_object (get held (pod_key target.0 target.1)) (lawful (pod_key target.0 target.1))
+
+pub pod_at_is_lawful : (held : ObjectMap) → AreLawfulHeld held → (ip : Ip) → IfSome (pod_at held ip) IsLawfulPod
+pod_at_is_lawful held lawful ip = of_first held lawful HasLawfulPod tt pod_of_object (is_pod_with ip)
 
 pod_labels : (pod : Pod) → entries (labels_of pod) ≡ (codes "pod", pod.meta.name) ∷ (codes "serviceaccount", pod.account) ∷ []
 pod_labels pod =
@@ -84,7 +99,7 @@ middle_is_text : IsUtf8 (codes ".serviceaccount.identity.")
 unfolding is_utf8 chars encode
 middle_is_text = IsUtf8-from_is_utf8 (codes ".serviceaccount.identity.") refl
 
-identity_is_text : (config : Config) → IsLawfulConfig config → (ns account : List ℕ) → IsUtf8 ns → IsUtf8 account → IsUtf8 (identity_of config ns account)
+pub identity_is_text : (config : Config) → IsLawfulConfig config → (ns account : List ℕ) → IsUtf8 ns → IsUtf8 account → IsUtf8 (identity_of config ns account)
 identity_is_text config lawful ns account ns_text account_text =
     IsUtf8-append account _ account_text
     (dot_and _
@@ -96,7 +111,7 @@ some_text : (account rest : List ℕ) → account ++ 46 ∷ rest ≢ []
 some_text [] rest is = absurd (cc is)
 some_text (c ∷ cs) rest is = absurd (cc is)
 
-pub row_is_sendable : (config : Config) → IsLawfulConfig config → (pod : Option Pod) → IsLawfulIfSome pod → (ip : Ip) (port : ℕ) → FitsIp ip → port < 65536 → IsSendableRow (row_of config pod ip port)
+pub row_is_sendable : (config : Config) → IsLawfulConfig config → (pod : Option Pod) → IfSome pod IsLawfulPod → (ip : Ip) (port : ℕ) → FitsIp ip → port < 65536 → IsSendableRow (row_of config pod ip port)
 row_is_sendable config usual None lawful ip port ip_fits port_fits = record {
   ip = ip_fits;
   port = port_fits;
@@ -145,14 +160,9 @@ slices_are_lawful ns name (o ∷ os) lawful =
       | None ↦ λ is. rest
     ] refl
 
-first_are_good : (rows : List EndpointRow) → AllByRecursion IsSendableRow rows → AllByRecursion IsSendableRow (first_rows rows)
-first_are_good rows good =
-    let first = are_first rows in
-    all_weaker (λ row. find (is_at (pair_of row)) rows ≡ Some row) IsSendableRow (λ row is. found_is IsSendableRow _ rows row good is) (first_rows rows) (recursion_from_All _ _ first.firsts)
-
 rows_are_good : (row : RowFor) → GivesSendable row → (slices : List Slice) (named : Option (List ℕ)) → AllByRecursion IsLawfulSlice slices → AllByRecursion IsSendableRow (rows_from row slices named)
 rows_are_good row gives slices None lawful = tt
-rows_are_good row gives slices (Some named) lawful = first_are_good _ (all_flat IsLawfulSlice IsSendableRow (slice_rows row named) (slice_is_good row gives named) slices lawful)
+rows_are_good row gives slices (Some named) lawful = all_in_order pairs_total pair_of IsSendableRow _ (all_flat IsLawfulSlice IsSendableRow (slice_rows row named) (slice_is_good row gives named) slices lawful)
 
 view_is_good : (row : RowFor) → GivesSendable row → (slices : List Slice) (number : ℕ) (found : Option Service) → AllByRecursion IsLawfulSlice slices → AllByRecursion IsSendableRow (endpoints_from row slices number found).rows
 view_is_good row gives slices number None lawful = tt
@@ -163,13 +173,6 @@ view_is_good row gives slices number (Some s) lawful = elim s.external as (λ b.
     ]
 
 -- ---- views
-
--- all that is held is lawful
-abbrev pub AreLawfulHeld : ObjectMap → Type 0
-AreLawfulHeld held = (key : ObjKey) (object : Object) → get held key ≡ Some object → IsLawful object
-
-pub values_are_lawful : (held : ObjectMap) → AreLawfulHeld held → AllByRecursion IsLawful (values held)
-values_are_lawful held lawful = all_among IsLawful (values held) (λ object at. let place = held_somewhere keys_total held object at in lawful place.0 object place.1)
 
 pub shown_are_sendable : (config : Config) → IsLawfulConfig config → (held : ObjectMap) → AreLawfulHeld held → (ns name : List ℕ) (port : ℕ) → AllByRecursion IsSendableRow (endpoints config held ns name port).rows
 shown_are_sendable config usual held lawful ns name port = view_is_good (row_for config held)

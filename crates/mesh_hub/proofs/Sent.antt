@@ -7,6 +7,7 @@ use Rattle.mesh_base.proofs.KeyOrder.{keys_exact, keys_total}
 use Rattle.line_run.specs.Rows.{Row}
 use Rattle.view_types.specs.Objects.{ObjectMap}
 use Rattle.view_types.specs.declared.message.Message.{Message}
+use Rattle.view_types.specs.declared.query.Query.{Query}
 use Rattle.view_types.specs.declared.view.View.{View}
 use Rattle.view_rules.specs.Fold.{fold, folded_onto, shown_after}
 use Rattle.view_rules.specs.Views.{view_before, view_of}
@@ -36,7 +37,7 @@ sends program now id asked found short = ap (sent_if_live program now.objects) f
 -- one who saw the view over what was held at its last drain, and then is sent these, sees that over what is held
 module _ (program : Program) (folds : MessagesFold) (one : 1 ≤ program.limits.frame_addrs) where
   sees_now : (held : ObjectMap) (asked : Asked) (sent : List Message) → fold sent ≡ view_before program.config asked.query asked.told
-      → fold (sent ++ messages_due program held asked) ≡ view_of program.config held asked.query
+      → fold (sent ++ messages_due program held asked) ≡ Some (view_of program.config held asked.query)
   sees_now held asked sent so_far =
       folded_more None sent (messages_due program held asked)
       ∙ ap (λ (view : Option View). folded_onto view (messages_due program held asked)) so_far
@@ -138,8 +139,8 @@ end_folds_to_view program folds one past id asked drained =
 pub same_objects_same_view : (program : Program) → MessagesFold → SameObjectsSameView program
 same_objects_same_view program folds one past other same id other_id asked other_asked here there query =
     end_folds_to_view program folds one past id asked here
-    ∙ ap (λ (held : ObjectMap). view_of program.config held asked.query) (same_map keys_total keys_exact (after program past).objects (after program other).objects same)
-    ∙ ap (view_of program.config (after program other).objects) query
+    ∙ ap (λ (held : ObjectMap). Some (view_of program.config held asked.query)) (same_map keys_total keys_exact (after program past).objects (after program other).objects same)
+    ∙ ap (λ (asked : Query). Some (view_of program.config (after program other).objects asked)) query
     ∙ sym (end_folds_to_view program folds one other other_id other_asked there)
 
 -- ---- what is written

@@ -14,7 +14,7 @@ use Rattle.line_run.specs.Rows.{Row}
 use Rattle.view_types.specs.Objects.{ObjectMap}
 use Rattle.view_types.specs.declared.message.Message.{Message}
 use Rattle.view_types.specs.declared.query.Query.{Query}
-use Rattle.view_rules.specs.Batch.{messages_between}
+use Rattle.view_rules.specs.Batch.{batch}
 use Rattle.view_rules.specs.Views.{view_before, view_of}
 use Rattle.watch_events.specs.declared.line.Line.{Line}
 use Rattle.watch_events.specs.declared.line.Line.TheVariants as lines
@@ -52,7 +52,7 @@ asked_at id subs = at_id id_of id subs
 
 -- the messages from the view over what was held at the last drain to the view over what is held
 abbrev pub messages_due : Program → ObjectMap → Asked → List Message
-messages_due program held asked = messages_between program.limits (view_before program.config asked.query asked.told) (view_of program.config held asked.query)
+messages_due program held asked = batch (view_before program.config asked.query asked.told) (view_of program.config held asked.query) program.limits
 
 -- the length of the first of them that is too long
 abbrev pub too_long_for : Program → ObjectMap → Asked → Option ℕ

@@ -7,7 +7,7 @@ use Rattle.view_types.specs.Objects.{ObjectMap}
 use Rattle.view_types.specs.declared.config.Config.{Config}
 use Rattle.view_types.specs.declared.message.Message.{Message}
 use Rattle.view_types.specs.declared.query.Query.{Query}
-use Rattle.view_rules.specs.Batch.{messages_between}
+use Rattle.view_rules.specs.Batch.{batch}
 use Rattle.view_rules.specs.Views.{view_of}
 use Rattle.watch_events.specs.declared.event.Event.{Event}
 use Rattle.mesh_hub.specs.Drains.{frames_within, too_long, unless_too_long}
@@ -102,7 +102,7 @@ pub record Cancels (id : ℕ) (old : HubState) (result : Result (Unit {0}) NotLi
 
 -- the messages from the view that a subscriber was last shown to that of the objects held
 abbrev pub messages_for : HubState → Subscription → List Message
-messages_for now sub = messages_between now.limits sub.shown (view_of now.config now.objects sub.query)
+messages_for now sub = batch sub.shown (view_of now.config now.objects sub.query) now.limits
 
 -- what a drain answers
 abbrev pub frames_for : HubState → ℕ → Option Subscription → Result (List (List ℕ)) HubFault
@@ -114,7 +114,7 @@ frames_at now id = frames_for now id (sub_at id now.subs)
 
 -- what stands in the place of a subscription once it was drained
 abbrev pub shown_now : HubState → Subscription → List Subscription
-shown_now now sub = unless_too_long (too_long now.limits.message (messages_for now sub)) (record sub { shown = view_of now.config now.objects sub.query })
+shown_now now sub = unless_too_long (too_long now.limits.message (messages_for now sub)) (record sub { shown = Some (view_of now.config now.objects sub.query) })
 
 abbrev pub drained : HubState → ℕ → HubState
 drained now id = record now { subs = in_place id_of id (shown_now now) now.subs }

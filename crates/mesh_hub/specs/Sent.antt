@@ -61,12 +61,12 @@ FoldsToLastShown program = 1 ≤ program.limits.frame_addrs → (past : List Row
 
 -- A live subscriber is owed nothing: its view is what it was last shown.
 abbrev pub IsOwedNothing : Program → State → Asked → Type 0
-IsOwedNothing program now asked = view_before program.config asked.query asked.told ≡ view_of program.config now.objects asked.query
+IsOwedNothing program now asked = view_before program.config asked.query asked.told ≡ Some (view_of program.config now.objects asked.query)
 
 -- Whenever a live subscriber is owed nothing, folding what it was sent gives the view that filters over what is held give.
 abbrev pub FoldsToView : Program → Type 0
 FoldsToView program = 1 ≤ program.limits.frame_addrs → (past : List Row) (id : ℕ) (asked : Asked) → asked_at id (after program past).subs ≡ Some asked
-    → IsOwedNothing program (after program past) asked → fold (sent_to program past id) ≡ view_of program.config (after program past).objects asked.query
+    → IsOwedNothing program (after program past) asked → fold (sent_to program past id) ≡ Some (view_of program.config (after program past).objects asked.query)
 
 -- the last drain of a live subscription, at the end of the input, meets no message that is too long
 abbrev pub IsDrained : Program → List Row → ℕ → Asked → Type 0
@@ -75,7 +75,7 @@ IsDrained program past id asked = (asked_at id (after program past).subs ≡ Som
 -- So it is at the end of the input.
 abbrev pub EndFoldsToView : Program → Type 0
 EndFoldsToView program = 1 ≤ program.limits.frame_addrs → (past : List Row) (id : ℕ) (asked : Asked) → IsDrained program past id asked
-    → fold (sent_in_all program past id) ≡ view_of program.config (after program past).objects asked.query
+    → fold (sent_in_all program past id) ≡ Some (view_of program.config (after program past).objects asked.query)
 
 -- Where two lists of rows end in the same objects, one query ends in the same view after both.
 abbrev pub SameObjectsSameView : Program → Type 0

@@ -1,4 +1,4 @@
-ghost use Rattle.std.specs.Prelude.{◌≡◌, ◌==◌, ◌≤◌, ◌<◌, false, None, IfOk, MatchOption, length};
+ghost use Rattle.std.specs.Prelude.{◌≡◌, ◌==◌, ◌≤◌, ◌<◌, false, None, IfOk, MatchOption, Some, length};
 ghost use Rattle.std.specs.List.{position_from};
 ghost use Rattle.view_types.specs.Objects.{IsListOf};
 ghost use Rattle.view_rules.specs.Fold.{IsOrderlyIfShown};
@@ -18,7 +18,7 @@ use object_store::change::StoreFault;
 use object_store::store::Store;
 use std::alloc::Global;
 use std::mem;
-use view_diff::views::messages_between;
+use view_diff::views::batch;
 use view_scratch::scratch::scratch;
 use view_types::config::Config;
 use view_types::object::Object;
@@ -276,29 +276,24 @@ impl Hub {
     }
 
     // The view that a subscriber is to see, and the frames that bring it there.
-    fn due(&self, sub: &Subscription) -> Result<(Option<View>, List<Bytes>), HubFault>
+    fn due(&self, sub: &Subscription) -> Result<(View, List<Bytes>), HubFault>
         requires { IsOrderlyIfShown sub.now.shown }
         ensures { IsDueOrTooLong (state_of self.now) sub.now result }
     {
         let view = scratch(self.alloc, &self.store, &self.config, &sub.query)?;
-        let messages = messages_between(
-            self.alloc,
-            sub.shown.as_ref(),
-            view.as_ref(),
-            &self.limits,
-        )?;
+        let messages = batch(self.alloc, sub.shown.as_ref(), &view, &self.limits)?;
         let frames = frames_within(self.alloc, self.limits.message, messages.as_slice())?;
         Ok((view, frames))
     }
 
     // Notes the view that the subscriber at a place was shown.
-    fn show(&mut self, at: usize, view: Option<View>)
+    fn show(&mut self, at: usize, view: View)
         requires within { at < length self.old.subs }
-        requires orderly { IsOrderlyIfShown view }
+        requires orderly { IsOrderlyIfShown (Some view) }
         ensures { Shows at view (state_of self.old) (state_of self.new) }
     {
         let mut subs = mem::replace(&mut self.subs, List::new(self.alloc)).into_vec();
-        subs[at].shown = view;
+        subs[at].shown = Some(view);
         self.subs = List::from_vec(subs);
     }
 

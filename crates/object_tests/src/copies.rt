@@ -363,4 +363,11 @@ fn messages(rt: HostRuntime) {
     let remove = Message::Remove(one(alloc, (Ip::V4(1), 80)));
     assert!(rt; copies_message(alloc, remove, "Remove([(0.0.0.1,80)])"));
     assert!(rt; copies_message(alloc, Message::NoEndpoints(true), "NoEndpoints(true)"));
+    for message in [
+        Message::Profile(profile_view(alloc)),
+        Message::Server(ServerView::Present(server_row(alloc))),
+        Message::Outbound(outbound(alloc)),
+    ] {
+        assert!(rt; copies_message(alloc, message, "a whole view"));
+    }
 }

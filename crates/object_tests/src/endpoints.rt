@@ -129,7 +129,7 @@ fn object_in(alloc: Global, line: &str) -> Option<Object> {
 }
 
 /// What holds the objects of all lines, if each reads.
-pub fn store_of(alloc: Global, lines: &str) -> Option<Store> {
+fn store_of(alloc: Global, lines: &str) -> Option<Store> {
     let mut store = Store::new(alloc, 10);
     for line in lines.split('\n') {
         store.set(object_in(alloc, line)?).ok()?;
@@ -155,7 +155,7 @@ fn is_told(alloc: Global, store: &Store, port: u16, expected: &str) -> Result<bo
     let config = Config::usual(alloc)?;
     let query = query_of(alloc, port)?;
     match &scratch(alloc, store, &config, &query)? {
-        Some(View::Endpoints(view)) => Ok(is_shown(alloc, view, expected)),
+        View::Endpoints(view) => Ok(is_shown(alloc, view, expected)),
         _ => Ok(false),
     }
 }

@@ -14,8 +14,6 @@ mod endpoints;
 #[cfg(test)]
 mod messages;
 #[cfg(test)]
-mod profiles;
-#[cfg(test)]
 mod reading;
 #[cfg(test)]
 mod rows;

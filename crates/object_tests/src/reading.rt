@@ -1,6 +1,3 @@
-ghost use Rattle.std.specs.Prelude.{IfOk, IsTrue};
-ghost use Rattle.proxy_proto.specs.MessageReading.{is_of_destinations};
-
 use crate::told::is_shown;
 use proxy_proto::reading::read_message;
 use proxy_proto::request::read_request;
@@ -183,6 +180,110 @@ GetProfile 0a0e2a0c088080808080808080800110 => Wire(Truncated { at: 11 }) : a ti
 GetProfile 0a0d2a0b0880808080808080808001 => Range { field: 1 } : a timeout's whole comes before what lacks outside
 GetProfile 2a01ff3001 => NotUtf8 { field: 5 } : the first of two bad records
 Get 0a0d0a0b0a090a070d010000001001 => Repeated { field: 2 } : a good choice and a bad one inside
+WatchPort empty => empty : no Server
+WatchPort 08011005 => 08011005 : a protocol and a policy
+WatchPort 080110051a03776562 => 080110051a03776562 : a Server
+WatchPort 080110051a00 => 08011005 : an empty name of a Server
+WatchPort 1a0377656210050801 => 080110051a03776562 : fields in another order
+WatchPort 080110053001a10600000000000000003d000000004201ff => 08011005 : an unknown field
+WatchPort 080010051a037765622206080122020a00 => empty : protocol 0, whatever else stands
+WatchPort 1005 => empty : a policy without a protocol
+WatchPort 08061006 => 08061006 : the last protocol and the last policy
+WatchPort 088180001005 => 08011005 : a protocol in more bytes than needed
+WatchPort 08011005220a08011202736122020a00 => 08011005220a08011202736122020a00 : an authorization of anyone, without networks
+WatchPort 08011005220a08021202706122021200 => 08011005220a08021202706122021200 : an authorization of any client with TLS
+WatchPort 080110052206080222021a00 => 080110052206080222021a00 : no clients at all
+WatchPort 080110052218080222141a120a01620a01610a0012022e7812022e781801 => 080110052218080222141a120a01620a01610a0012022e7812022e781801 : clients, in the order in which they stand
+WatchPort 080110052208080222041a021807 => 080110052208080222041a021801 : everyone as another number
+WatchPort 08011005221908011a110a090a050d0302010a102012040a02120022020a00 => 08011005221908011a110a090a050d0302010a102012040a02120022020a00 : networks of both families
+WatchPort 08011005221108011a090a070a050d0000000022020a00 => 08011005221108011a090a070a050d0000000022020a00 : the network 0.0.0.0/0
+WatchPort 08011005221e08011a160a090a050d0302010a100812090a050d0302010a101f22020a00 => 08011005221e08011a160a090a050d0000000a100812090a050d0202010a101f22020a00 : host bits are dropped
+WatchPort 08011005222208011a1a0a180a1412120901000000000000fd110700000000000000104122020a00 => 08011005221908011a110a0f0a0b12090901000000000000fd104122020a00 : host bits of version 6 are dropped
+WatchPort 08011005221108011a090a070a050d0302010a22020a00 => 08011005221108011a090a070a050d0000000022020a00 : length 0 drops the whole address
+WatchPort 08011005221a08011a120a100a0b120911010000000000000010800122020a00 => 08011005221a08011a120a100a0b120911010000000000000010800122020a00 : length 128
+WatchPort 080110052a650802120272311a14323032342d30312d30315430303a30303a30305a22077765622e61707022002a300a070a05080212012f12110a0f0a060a016112016212030a01631a00121212100a05687474707312016218bb0320ad02320a08021202706122020a00 => 080110052a650802120272311a14323032342d30312d30315430303a30303a30305a22077765622e61707022002a300a070a05080212012f12110a0f0a060a016112016212030a01631a00121212100a05687474707312016218bb0320ad02320a08021202706122020a00 : a route with all its parts
+WatchPort 080110052a020801 => 080110052a020801 : a route of the kind alone
+WatchPort 080110052a0408011a00 => 080110052a020801 : an empty time of creation
+WatchPort 080110052a0508011a0178 => 080110052a0508011a0178 : a time of creation in any form
+WatchPort 080110052a0c08012a080a060a0208012200 => 080110052a0a08012a060a040a020801 : an empty method
+WatchPort 080110052a1608012a120a100a02080112050a016118011a03120176 => 080110052a1608012a120a100a02080112050a016118011a03120176 : a header that is a regular expression
+WatchPort 080110052a0808012a0412020a00 => 080110052a0808012a0412020a00 : an empty header change
+WatchPort 080110052a1108012a0d120b12090a001200180020ae02 => 080110052a0b08012a071205120320ae02 : a redirect with empty texts and port 0
+WatchPort 080110052a0c08012a081206120420ffff03 => 080110052a0c08012a081206120420ffff03 : a redirect of status 65535
+Watch 0a00 => 0a00 : absent
+Watch 1200 => 1200 : a Service of nothing
+Watch 120e0a03617070120377656218502001 => 120e0a03617070120377656218502001 : a Service
+Watch 123d0a03617070120377656218502a2f0801120272312a270a070a05080212012f1a100a036170701203617069185020012801220808011080cab5ee012a00 => 123d0a03617070120377656218502a2f0801120272312a270a070a05080212012f1a100a036170701203617069185020012801220808011080cab5ee012a00 : a Service with a route
+Watch 12132a1108012a0d1a0b1203617069180020002800 => 120d2a0b08012a071a051203617069 : a backend of port 0 and weight 0
+Watch 120e2a0c08012a081a0620ffffffff0f => 120e2a0c08012a081a0620ffffffff0f : the greatest weight
+Watch 1a110a0f0a0a0a050d0302010a10903f18904e => 1a110a0f0a0a0a050d0302010a10903f18904e : an address to forward to
+Watch 1a130a0f0a0a0a050d0302010a10903f18904e1001 => 1a130a0f0a0a0a050d0302010a10903f18904e1001 : an address on an opaque port
+WatchPort 08071001 => Range { field: 1 } : protocol 7
+WatchPort 08011007 => Range { field: 2 } : policy 7
+WatchPort 1007 => Range { field: 2 } : policy 7 without a protocol
+WatchPort 0801108180808010 => Range { field: 2 } : a policy far out of range
+WatchPort 0801 => Range { field: 2 } : a protocol without a policy
+WatchPort 080110001a01ff => NotUtf8 { field: 3 } : policy 0 comes after all records
+WatchPort 080110071a01ff => Range { field: 2 } : policy 7 comes where it stands
+WatchPort 08011005220422020a00 => Range { field: 1 } : an authorization of kind 0
+WatchPort 080110052206080322020a00 => Range { field: 1 } : an authorization of kind 3
+WatchPort 220422020a00 => Range { field: 1 } : an authorization of kind 0, without a protocol
+WatchPort 080110052200 => Range { field: 1 } : an empty authorization: the kind before what is absent
+WatchPort 080110052a0412027231 => Range { field: 1 } : a route of kind 0
+WatchPort 080110052a020803 => Range { field: 1 } : a route of kind 3
+WatchPort 080110052a0b08012a070a050a0312012f => Range { field: 1 } : a path of kind 0
+WatchPort 080110052a0a08012a060a040a020804 => Range { field: 1 } : a path of kind 4
+WatchPort 08011005221308011a0b0a090a050d0302010a102122020a00 => Range { field: 2 } : a length above 32
+WatchPort 08011005221108011a090a070a02120010810122020a00 => Range { field: 2 } : a length above 128
+WatchPort 08011005221308011a0b0a0910210a050d0302010a22020a00 => Range { field: 2 } : a length above 32 that comes before the address
+WatchPort 08011005220e08011a060a0410210a0022020a00 => NoChoice : a length above 32 in front of a fault of the address
+WatchPort 08011005221208011a0a0a081080808080100a0022020a00 => Range { field: 2 } : a length that isn't a uint32 in front of a fault of the address
+WatchPort 08011005220d08011a050a0310c80122020a00 => Absent { field: 1 } : a length above 128 without an address
+WatchPort 080110052a0c08012a081206120418808004 => Range { field: 3 } : a redirect's port above 65535
+WatchPort 080110052a0c08012a081206120420808004 => Range { field: 4 } : a redirect's status above 65535
+WatchPort 080110052a0c08012a082206108094ebdc03 => Range { field: 2 } : a timeout's billion of nanoseconds
+Watch 12142a1208012a0e2a0c0884fa85ae221080b0cb9703 => Range { field: 1 } : a timeout of 2 to the power of 63 nanoseconds
+Watch 120c2a0a08012a061a0418808004 => Range { field: 3 } : a backend's port above 65535
+Watch 120e2a0c08012a081a06208080808010 => Range { field: 4 } : a weight above a uint32
+Watch 120418808004 => Range { field: 3 } : a Service's port above 65535
+WatchPort 0801100522020801 => Absent { field: 4 } : an authorization without authentication
+WatchPort 08011005220408012200 => NoChoice : authentication of nothing
+WatchPort 08011005220808011a0022020a00 => Absent { field: 1 } : a network of nothing
+WatchPort 08011005220a08011a020a0022020a00 => Absent { field: 1 } : a network without an address
+WatchPort 08011005221508011a0d0a090a050d0302010a1020120022020a00 => Absent { field: 1 } : an except without an address
+WatchPort 080110052a0b08012a070a052203474554 => Absent { field: 1 } : a match without a path
+WatchPort 080110052a0608012a021200 => NoChoice : a filter of nothing
+Watch empty => NoChoice : nothing
+Watch 2200 => NoChoice : an unknown choice
+Watch 1a00 => Absent { field: 1 } : an address to forward to that isn't there
+Watch 1a020a00 => Absent { field: 1 } : an endpoint without an address
+WatchPort 080108011005 => Repeated { field: 1 } : a protocol twice
+WatchPort 08010a00 => Repeated { field: 1 } : a protocol twice, the second of another wire type
+WatchPort 080110051a01611a0162 => Repeated { field: 3 } : a name twice
+WatchPort 08011005220a080122020a0022020a00 => Repeated { field: 4 } : authentication twice
+WatchPort 080110052208080122040a001a00 => Repeated { field: 3 } : two kinds of authentication
+WatchPort 08011005220a080122061a0418001800 => Repeated { field: 3 } : everyone twice
+WatchPort 08011005221e08011a160a090a050d0302010a10200a090a050d0302010a102022020a00 => Repeated { field: 1 } : a net twice
+WatchPort 08011005221508011a0d0a0b0a050d0302010a1001100122020a00 => Repeated { field: 2 } : a length twice
+WatchPort 080110052a0e08012a0a0a080a0208010a020801 => Repeated { field: 1 } : a path twice
+WatchPort 080110052a0a08012a0612040a001200 => Repeated { field: 2 } : two kinds of filter in one
+WatchPort 080110052a0808012a0422002200 => Repeated { field: 4 } : a timeout twice
+Watch 0a001200 => Repeated { field: 2 } : two choices
+Watch 0a000a00 => Repeated { field: 1 } : a choice twice
+Watch 1a1c0a0c0a0a0a050d0302010a10903f0a0c0a0a0a050d0302010a10903f => Repeated { field: 1 } : an endpoint twice
+WatchPort 0a00 => WrongWire { field: 1 } : a protocol as bytes
+WatchPort 0d01000000 => WrongWire { field: 1 } : a protocol as four bytes
+WatchPort 080110051801 => WrongWire { field: 3 } : a name as a number
+WatchPort 080110052208080122041a020801 => WrongWire { field: 1 } : an identity as a number
+Watch 0801 => WrongWire { field: 1 } : absent as a number
+Watch 12022200 => WrongWire { field: 4 } : an opaque flag as bytes
+WatchPort 080110052209080122051a031201ff => NotUtf8 { field: 2 } : a suffix that isn't UTF-8
+WatchPort 080110052a0508012201ff => NotUtf8 { field: 4 } : a hostname that isn't UTF-8
+WatchPort 080110052a0b08012a0712050a031a01ff => NotUtf8 { field: 3 } : a removed header that isn't UTF-8
+Watch 12030a01ff => NotUtf8 { field: 1 } : a namespace that isn't UTF-8
+WatchPort 080110052a0408010a05 => Wire(Truncated { at: 2 }) : a cut record in a route
+WatchPort 080707 => Range { field: 1 } : a bad tag behind an enum out of range
+WatchPort 080107 => Wire(BadTag { at: 2 }) : a bad tag before policy 0 is found
 "#;
 
 /// A method, the bytes of a request to it, and the query, or the first fault; and what the row is about.
@@ -217,14 +318,51 @@ GetProfile 12037765621a => Wire(Truncated { at: 5 }) : a path that is no target 
 GetProfile 12197765622e6170702e7376632e636c75737465722e6c6f63616c1001 => Repeated { field: 2 } : a second path of another wire type
 GetProfile 07 => Wire(BadTag { at: 0 }) : a bad tag
 GetProfile 20ffffffffffffffffffff => Wire(LongVarint { at: 0 }) : a number without an end
+WatchPort 0a096170703a7765622d3110903f => Port{ns:"app",pod:"web-1",port:8080} : a port of a workload
+WatchPort 10ffff0318010a096170703a7765622d31 => Port{ns:"app",pod:"web-1",port:65535} : the port first, and an unknown field
+WatchPort 0a07612e623a632e641001 => Port{ns:"a.b",pod:"c.d",port:1} : a workload with dots
+WatchPort 0a096170703a7765622d3110808004 => Range { field: 2 } : a port above 65535
+WatchPort 108080040a01ff => Range { field: 2 } : a port above 65535 before a workload that isn't UTF-8
+WatchPort 10000a01ff => NotUtf8 { field: 1 } : port 0 before a workload that isn't UTF-8
+WatchPort 0a096170703a7765622d311000 => Range { field: 2 } : port 0
+WatchPort 0a096170703a7765622d31 => Range { field: 2 } : no port
+WatchPort empty => Range { field: 2 } : nothing at all
+WatchPort 1050 => BadWorkload : no workload
+WatchPort 0a1a7b226e73223a22617070222c22706f64223a227765622d31227d1050 => BadWorkload : a workload that is JSON
+WatchPort 0a096170703a5765622d311050 => BadWorkload : a workload with a capital
+WatchPort 0a0c6170703a7765622d313a38301050 => BadWorkload : a workload with two colons
+WatchPort 0a046170703a1050 => BadWorkload : a workload of an empty Pod
+WatchPort 0a82026170703a61616161616161616161616161616161616161616161616161616161616161616161616161616161616161616161616161616161616161616161616161616161616161616161616161616161616161616161616161616161616161616161616161616161616161616161616161616161616161616161616161616161616161616161616161616161616161616161616161616161616161616161616161616161616161616161616161616161616161616161616161616161616161616161616161616161616161616161616161616161616161616161616161616161616161616161616161616161616161616161616161616161616161616161616161611050 => BadWorkload : a name of 254 bytes
+WatchPort 0aff01616161616161616161616161616161616161616161616161616161616161616161616161616161616161616161616161616161616161616161616161616161616161616161616161616161616161616161616161616161616161616161616161616161616161616161616161616161616161616161616161616161616161616161616161616161616161616161616161616161616161616161616161616161616161616161616161616161616161616161616161616161616161616161616161616161616161616161616161616161616161616161616161616161616161616161616161616161616161616161616161616161616161616161616161613a781050 => Port{ns:"aaaaaaaaaaaaaaaaaaaaaaaaaaaaaaaaaaaaaaaaaaaaaaaaaaaaaaaaaaaaaaaaaaaaaaaaaaaaaaaaaaaaaaaaaaaaaaaaaaaaaaaaaaaaaaaaaaaaaaaaaaaaaaaaaaaaaaaaaaaaaaaaaaaaaaaaaaaaaaaaaaaaaaaaaaaaaaaaaaaaaaaaaaaaaaaaaaaaaaaaaaaaaaaaaaaaaaaaaaaaaaaaaaaaaaaaaaaaaaaaaaaaaaaaaaaaa",pod:"x",port:80} : a namespace of 253 bytes
+WatchPort 0a096170703a7765622d310a096170703a7765622d311050 => Repeated { field: 1 } : a workload twice
+WatchPort 0a096170703a7765622d3112023830 => WrongWire { field: 2 } : a port as bytes
+WatchPort 0a0561 => Wire(Truncated { at: 0 }) : a cut workload
+Watch 12090a050d0909090a1050 => Traffic({ip:10.9.9.9,port:80}) : an address
+Watch 12180a1412120900000000000000fd1109000000000000001050 => Traffic({ip:fd000000000000000000000000000009,port:80}) : an address of version 6
+Watch 12070a050d0909090a => Traffic({ip:10.9.9.9,port:0}) : an address without a port
+Watch 1a1e7765622e6170702e7376632e636c75737465722e6c6f63616c3a38303830 => Traffic({ns:"app",name:"web",port:8080}) : an authority
+Watch 1a195745422e4150502e5356432e434c55535445522e4c4f43414c => Traffic({ns:"app",name:"web",port:80}) : an authority without a port, in capitals
+Watch 1a085b3a3a315d3a3235 => Traffic({ip:00000000000000000000000000000001,port:25}) : an authority that is an address
+Watch 0a0977686174206576657212090a050d0909090a1050 => Traffic({ip:10.9.9.9,port:80}) : a source workload is passed over
+Watch 12090a050d0909090a10500a01ff => NotUtf8 { field: 1 } : a source workload that isn't UTF-8
+Watch 0a000a0012090a050d0909090a1050 => Repeated { field: 1 } : a source workload twice
+Watch 0a096170703a7765622d31 => NoChoice : neither address nor authority
+Watch 12090a050d0909090a10501a197765622e6170702e7376632e636c75737465722e6c6f63616c => Repeated { field: 3 } : both
+Watch 12090a050d0909090a105012090a050d0909090a1050 => Repeated { field: 2 } : an address twice
+Watch 1200 => Absent { field: 1 } : an address of nothing
+Watch 12020a00 => NoChoice : an address without a family
+Watch 120b0a050d0302010a10808004 => Range { field: 2 } : an address's port above 65535
+Watch 1a00 => BadAuthority : an empty authority
+Watch 1a1a7765622e6170702e7376632e6578616d706c652e6f72673a3830 => BadAuthority : an authority of another domain
+Watch 1801 => WrongWire { field: 3 } : an authority as a number
 "#;
 
-fn method_of(word: &str) -> Result<Method, Fail>
-    ensures { IfOk result (λ method. IsTrue (is_of_destinations method)) }
-{
+fn method_of(word: &str) -> Result<Method, Fail> {
     match word {
         "Get" => Ok(Method::Get),
         "GetProfile" => Ok(Method::GetProfile),
+        "WatchPort" => Ok(Method::WatchPort),
+        "Watch" => Ok(Method::Watch),
         _ => Err(Fail::new("no method has this name")),
     }
 }

@@ -1,7 +1,7 @@
 -- Where a fold stands after one more row.
 use Rattle.std.proofs.Common.{◌≡◌, ◌≢◌, ℕ, ◌+◌, Bool, true, false, ◌||◌, List, [], ◌∷◌, ◌++◌, length, reverse, Option, Some, None, Ok, Err, refl, sym, ap, ◌∙◌, subst, arith, append_assoc, append-nil}
 use Rattle.std.specs.Prelude.{Result, OnOk, OnErr}
-use Rattle.std.specs.List.{cons_option, enumerate_from, filter_map}
+use Rattle.std.specs.List.{cons_option, enumerate_from, filter_map, list_any}
 use Rattle.std.proofs.lemmas.Grind.{reverse_onto}
 use Rattle.std.proofs.lemmas.List.{length-reverse}
 use Rattle.std.proofs.lemmas.List.Elements.{filter_map-append}
@@ -17,7 +17,7 @@ use Rattle.view_types.specs.declared.message.Message.{Message}
 use Rattle.view_types.specs.declared.query.Method.{Method}
 use Rattle.view_types.specs.declared.view.View.{View}
 use Rattle.output_fold.specs.FaultText.{fold_fault_text}
-use Rattle.output_fold.specs.Folded.{are_some, bad_line, bad_rows, fault_at, fault_told, message_told, messages_in, refused_in}
+use Rattle.output_fold.specs.Folded.{bad_line, bad_rows, fault_at, fault_told, message_told, messages_in, refused_in}
 use Rattle.output_fold.specs.Lines.{Told, row_says}
 use Rattle.output_fold.specs.Given.{Fails}
 use Rattle.output_fold.specs.Stand.{IsOfFold, ShowsIf, Stands}
@@ -40,6 +40,10 @@ numbered n (x ∷ xs) ys =
 pub folded_more : (shown : Option View) (messages : List Message) (m : Message) → folded_onto shown (messages ++ m ∷ []) ≡ Some (shown_after (folded_onto shown messages) m)
 folded_more shown [] m = refl
 folded_more shown (first ∷ messages) m = folded_more (Some (shown_after shown first)) messages m
+
+-- the list isn't empty
+abbrev are_some : {A : Type 0} → List A → Bool
+are_some xs = list_any (λ x. true) xs
 
 none_of : {A : Type 0} (xs : List A) → are_some xs ≡ false → xs ≡ []
 none_of [] e = refl

@@ -1,6 +1,6 @@
 -- What is written of an input: why its first bad row doesn't read, or the view that the frames of the id show.
-use Rattle.std.specs.Prelude.{ℕ, Bool, true, false, List, [], ◌∷◌, Option, Some, None, Result, Ok, Err}
-use Rattle.std.specs.List.{enumerate_from, filter_map}
+use Rattle.std.specs.Prelude.{ℕ, Bool, true, List, [], ◌∷◌, Option, Some, None, Result, Ok, Err}
+use Rattle.std.specs.List.{enumerate_from, filter_map, list_any}
 use Rattle.mesh_base.specs.declared.limits.Limits.{Limits}
 use Rattle.line_run.specs.Rows.{Row, rows_of}
 use Rattle.view_types.specs.declared.message.Message.{Message}
@@ -57,13 +57,9 @@ text_of id limits (bad ∷ more) messages = bad_line (bad ∷ more)
 abbrev pub folded_in : Method → ℕ → Limits → List Row → List ℕ
 folded_in method id limits rows = text_of id limits (bad_rows method id rows) (messages_in method id rows)
 
-abbrev pub are_some : {A : Type 0} → List A → Bool
-are_some [] = false
-are_some (x ∷ xs) = true
-
 -- some row doesn't read
 abbrev pub refused_in : Method → ℕ → List Row → Bool
-refused_in method id rows = are_some (bad_rows method id rows)
+refused_in method id rows = list_any (λ bad. true) (bad_rows method id rows)
 
 -- what is written of an input
 abbrev pub folded_of : Method → ℕ → Limits → List ℕ → List ℕ

@@ -1,7 +1,6 @@
-ghost use Rattle.std.specs.Prelude.{◌≡◌, ◌≢◌, ◌≤◌, ◌<◌, ℕ, List, length, Some, IsTrue};
+ghost use Rattle.std.specs.Prelude.{◌≡◌, ◌≢◌, ◌≤◌, ◌<◌, ℕ, List, length, Some};
 ghost use Rattle.mesh_outside.specs.Causes.{Rose, Unrisen};
 ghost use Rattle.line_run.specs.Run.{OnEnd, OnStop, TookLimit, IsAnswered, IsTooLong};
-ghost use Rattle.proxy_proto.specs.MessageReading.{is_of_destinations};
 ghost use Rattle.output_fold.specs.Headline.{WritesFolded, WritesFoldedFront};
 
 use crate::folding::Folding;
@@ -13,7 +12,7 @@ use std::alloc::Global;
 use view_fold::folding::Fold;
 use view_types::query::Method;
 
-/// Reads the lines that `replay` wrote, and writes the frames that bring a subscriber who has no view to the one that
+/// Reads the lines that `replay` wrote, and writes the `view` lines that bring a subscriber who has no view to the one that
 /// the frames of the id show; or the first line that doesn't read, and then no view. Lines behind that one are read and
 /// passed over.
 pub fn fold_file<S: Source, K: Sink>(
@@ -24,8 +23,7 @@ pub fn fold_file<S: Source, K: Sink>(
     input: &mut S,
     out: &mut K,
 ) -> Status
-    requires of_destinations { IsTrue (is_of_destinations method) }
-    requires some_addresses { 1 ≤ limits.now.frame_addrs }
+    requires { 1 ≤ limits.now.frame_addrs }
 
     // Read to the end: what was written is the defined text, and a line didn't read or none.
     ensures output { OnEnd result (WritesFolded method id.0 limits.now (S.left input.old) (K.held out.old) (K.held out.new)) }

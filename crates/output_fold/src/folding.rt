@@ -1,6 +1,5 @@
-ghost use Rattle.std.specs.Prelude.{◌≡◌, ◌≢◌, ◌≤◌, ◌++◌, IsTrue, OnOk};
+ghost use Rattle.std.specs.Prelude.{◌≡◌, ◌≢◌, ◌≤◌, ◌++◌, OnOk};
 ghost use Rattle.view_rules.specs.Fold.{IsOrderlyIfShown};
-ghost use Rattle.proxy_proto.specs.MessageReading.{is_of_destinations};
 ghost use Rattle.mesh_hub.specs.Orderly.{IsOrderlyIfShown-prop};
 ghost use Rattle.mesh_hub.specs.Text.{fault_line};
 ghost use Rattle.output_fold.specs.FaultText.{fold_fault_text};
@@ -37,7 +36,6 @@ pub(crate) struct Folding {
     pub(crate) fold: Fold,
     /// A line didn't read. Those behind it are passed over.
     pub(crate) failed: bool,
-    ghost of_destinations: { IsTrue (is_of_destinations method) },
     ghost some_addresses: { 1 ≤ limits.frame_addrs },
     ghost orderly: { IsOrderlyIfShown fold.view } by { IsOrderlyIfShown-prop fold.view },
 }

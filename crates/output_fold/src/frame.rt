@@ -1,7 +1,6 @@
-ghost use Rattle.std.specs.Prelude.{◌≡◌, IsTrue};
+ghost use Rattle.std.specs.Prelude.{◌≡◌};
 ghost use Rattle.output_fold.specs.Given.{Gives, GivesAs, IsAs};
 ghost use Rattle.output_fold.specs.Lines.{bytes_of, frame_message, message_in};
-ghost use Rattle.proxy_proto.specs.MessageReading.{is_of_destinations};
 
 use crate::fault::FoldFault;
 use hex::FromHexError;
@@ -44,7 +43,6 @@ fn message_in(bytes: &[u8]) -> Result<&[u8], FoldFault>
 
 /// The message of the frame that hex stands for.
 pub(crate) fn read_frame(alloc: Global, method: Method, hex: &[u8]) -> Result<Message, FoldFault>
-    requires { IsTrue (is_of_destinations method) }
     ensures { Gives result (frame_message method hex.now) }
 {
     let bytes = bytes_of(alloc, hex)?;

@@ -1,9 +1,8 @@
-ghost use Rattle.std.specs.Prelude.{◌≡◌, IsTrue, bytes_eq, option_map};
+ghost use Rattle.std.specs.Prelude.{◌≡◌, bytes_eq, option_map};
 ghost use Rattle.std.specs.Option.{option_copied};
 ghost use Rattle.mesh_base.specs.Pieces.{pieces};
 ghost use Rattle.output_fold.specs.Given.{Gives, IsAs};
 ghost use Rattle.output_fold.specs.Lines.{are_two_numbers, begin_with_number, frame_words, hex_of, passed_if, row_says};
-ghost use Rattle.proxy_proto.specs.MessageReading.{is_of_destinations};
 
 use crate::fault::FoldFault;
 use crate::frame::read_frame;
@@ -98,7 +97,6 @@ pub(crate) fn row_says(
     id: u32,
     row: Option<&[u8]>,
 ) -> Result<Option<Message>, FoldFault>
-    requires { IsTrue (is_of_destinations method) }
     ensures { Gives result (row_says method id (option_copied row.entry)) }
 {
     let Some(line) = row else {

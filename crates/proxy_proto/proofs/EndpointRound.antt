@@ -18,9 +18,9 @@ use Rattle.proto_wire.specs.Wire.{spelling, scan_in}
 use Rattle.proxy_proto.specs.declared.table.Schema.TheVariants as schemas
 use Rattle.proxy_proto.specs.FieldRecords.{chunk, number_field, fixed64_field, text_field, optional_field, each_field}
 use Rattle.proxy_proto.specs.Endpoints.{half_records, ip_records, address_records, label_records, identity_records, h2_field, hint_records, hint_field, row_records}
-use Rattle.proxy_proto.specs.EndpointReading.{ip_in, pair_in, label_in, some_string, identity_in, tunnel_in, row_in}
+use Rattle.proxy_proto.specs.EndpointReading.{ip_in, pair_in, label_in, identity_in, tunnel_in, row_in}
 use Rattle.proxy_proto.specs.Faults.{record_fault, records_fault, end_fault, fault_at, key_of}
-use Rattle.proxy_proto.specs.LookUps.{has, below, chunk_from, records_in, value_at, fixed64_from, chunk_in, inside, number_below, each_message}
+use Rattle.proxy_proto.specs.LookUps.{has, below, chunk_from, records_in, value_at, fixed64_from, chunk_in, inside, number_below, each_message, some_string}
 use Rattle.proxy_proto.specs.Messages.{pair_records}
 use Rattle.proxy_proto.specs.Sendable.{PortFits, IsSendableIdentity, IsSendableLabel, IsSendablePair, IsSendableRow}
 use Rattle.proxy_proto.specs.Tables.{fields_of}
@@ -58,7 +58,7 @@ high_half n lt = div_below n (2 ^ 64) (2 ^ 64) (lit< tt) lt
 low_half : (n : ℕ) → n % 2 ^ 64 < 2 ^ 64
 low_half n = omega arith
 
-ip_comes : (ip : Ip) → FitsIp ip → length (spelling (ip_records ip)) < 2 ^ 64 → Comes schemas.IpAddress ip_in (ip_records ip) ip
+pub ip_comes : (ip : Ip) → FitsIp ip → length (spelling (ip_records ip)) < 2 ^ 64 → Comes schemas.IpAddress ip_in (ip_records ip) ip
 unfolding ip_records ip_in record_fault
 ip_comes (V4 n) fits short = comes schemas.IpAddress ip_in (ip_records (V4 n)) (V4 n) (record { named = lit< tt; number = lit< tt; value = fits }, tt) short (λ d le. refl) refl refl
 ip_comes (V6 n) fits short =

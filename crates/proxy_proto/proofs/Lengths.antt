@@ -7,7 +7,7 @@ use Rattle.net_cidr.specs.declared.ip.Ip.{Ip}
 use Rattle.net_cidr.specs.declared.ip.Ip.TheVariants.{V4, V6}
 use Rattle.view_types.specs.declared.endpoint.EndpointRow.{EndpointRow}
 use Rattle.view_types.specs.declared.message.Message.{Message}
-use Rattle.view_types.specs.declared.message.Message.TheVariants.{Add, Remove, NoEndpoints, Profile}
+use Rattle.view_types.specs.declared.message.Message.TheVariants.{Add, Remove, NoEndpoints, Profile, Server, Outbound}
 use Rattle.proto_wire.specs.declared.record.Rec.{Rec}
 use Rattle.proto_wire.specs.declared.record.WireValue.TheVariants.{Varint, Fixed64, Fixed32}
 use Rattle.proto_wire.specs.Wire.{varint_up_to, spelled, spelling}
@@ -119,6 +119,8 @@ plain_length (Remove pairs) plain =
     omega arith
 plain_length (NoEndpoints exists) plain = none_most exists
 plain_length (Profile view) plain = absurd plain
+plain_length (Server view) plain = absurd plain
+plain_length (Outbound view) plain = absurd plain
 
 -- a message of at most a thousand plain rows or addresses fits a frame
 pub plain_fits : (message : Message) → IsPlainMessage message → count_in message ≤ 1000 → length (canonical message) < 2 ^ 32

@@ -1,7 +1,11 @@
+pub mod AuthorizationRound
 pub mod Checking
 pub mod Coming
 pub mod EndpointRound
+pub mod FieldBlocks
 pub mod Found
+pub mod HttpMatchRound
+pub mod HttpRouteRound
 pub mod LabelMaps
 pub mod Lengths
 pub mod MapPassing
@@ -9,8 +13,10 @@ pub mod MatchReading
 pub mod MatchRound
 pub mod MetKeys
 pub mod Passing
+pub mod PolicyRound
 pub mod ProfileRound
 pub mod RequestRound
 pub mod ResponseRound
 pub mod Round
 pub mod RouteRound
+pub mod WrittenFields

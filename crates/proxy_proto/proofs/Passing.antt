@@ -47,7 +47,7 @@ pub below_more : (low n : ℕ) (seen : List Rec) → low ≤ n → AreBelow low 
 below_more low n [] le h = tt
 below_more low n (r ∷ rs) le h = let lt = h.0.below in (record { below = omega arith }, below_more low n rs le h.1)
 
-below_append : (n : ℕ) (xs ys : List Rec) → AreBelow n xs → AreBelow n ys → AreBelow n (xs ++ ys)
+pub below_append : (n : ℕ) (xs ys : List Rec) → AreBelow n xs → AreBelow n ys → AreBelow n (xs ++ ys)
 below_append n [] ys h k = k
 below_append n (x ∷ xs) ys h k = (h.0, below_append n xs ys h.1 k)
 
@@ -65,7 +65,7 @@ second_none : (a b : Option ProtoFault) → or_fault a b ≡ None → b ≡ None
 second_none None b h = h
 second_none (Some fault) b h = absurd (let e : Some fault ≡ None = h in cc)
 
-behind : (inner : Inner) (fs : List Field) (seen xs ys : List Rec) → records_fault inner fs seen xs ≡ None → records_fault inner fs (seen ++ xs) ys ≡ None → records_fault inner fs seen (xs ++ ys) ≡ None
+pub behind : (inner : Inner) (fs : List Field) (seen xs ys : List Rec) → records_fault inner fs seen xs ≡ None → records_fault inner fs (seen ++ xs) ys ≡ None → records_fault inner fs seen (xs ++ ys) ≡ None
 behind inner fs seen [] ys h k = rw (append-nil seen) at k
 behind inner fs seen (x ∷ xs) ys h k =
     let here = first_none (record_fault inner fs seen x) _ h in

@@ -1,7 +1,7 @@
 -- What is written of a message is read back.
 use Rattle.std.proofs.Common.{◌≡◌, ◌+◌, ◌<◌, ◌^◌, Bool, List, [], length, Result, Ok, Err, refl, sym, ap, ◌∙◌, arith, lit<, lit≤}
 use Rattle.view_types.specs.declared.message.Message.{Message}
-use Rattle.view_types.specs.declared.message.Message.TheVariants.{Add, Remove, NoEndpoints, Profile}
+use Rattle.view_types.specs.declared.message.Message.TheVariants.{Add, Remove, NoEndpoints, Profile, Server, Outbound}
 use Rattle.proto_wire.specs.declared.record.Rec.{Rec}
 use Rattle.proto_wire.specs.Wire.{spelling}
 use Rattle.proxy_proto.specs.declared.fault.ProtoFault.{ProtoFault}
@@ -20,6 +20,7 @@ use Rattle.proxy_proto.proofs.Coming.{Comes, comes, each_comes, first_inside, fi
 use Rattle.proxy_proto.proofs.EndpointRound.{pair_comes, row_comes}
 use Rattle.proxy_proto.proofs.Found.{only_bool, sound_bool, sound_chunk}
 use Rattle.proxy_proto.proofs.Passing.{chosen, pass_bool}
+use Rattle.proxy_proto.proofs.PolicyRound.{outbound_comes, server_comes}
 use Rattle.proxy_proto.proofs.ProfileRound.{profile_comes}
 
 none_comes : (exists : Bool) → length (spelling (bool_field 1 exists)) < 2 ^ 64 → Comes schemas.NoEndpoints (flag_in 1) (bool_field 1 exists) exists
@@ -58,6 +59,12 @@ message_comes (NoEndpoints exists) fits =
 message_comes (Profile view) fits =
     let there = profile_comes view fits.parts fits.short in
     record { clean = there.clean; back = ap Profile there.back }
+message_comes (Server view) fits =
+    let there = server_comes view fits.parts fits.short in
+    record { clean = there.clean; back = ap Server there.back }
+message_comes (Outbound view) fits =
+    let there = outbound_comes view fits.parts fits.short in
+    record { clean = there.clean; back = ap Outbound there.back }
 
 read_whole : {X : Type 0} (schema : Schema) (said : List Rec → X) (rs : List Rec) (x : X) → Comes schema said rs x → or_first (fault_of schema (spelling rs)) (Ok (said (records_in (spelling rs)))) ≡ Ok x
 read_whole schema said rs x there = rw (there.clean (length (spelling rs) + 1) (omega arith), there.back) refl

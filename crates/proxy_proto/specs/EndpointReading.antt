@@ -1,5 +1,5 @@
 -- What the records of an endpoint's message, WeightedAddr, and of those in it say.
-use Rattle.std.specs.Prelude.{ℕ, ◌+◌, ◌*◌, ◌^◌, List, [], ◌∷◌, Option, Some, None}
+use Rattle.std.specs.Prelude.{ℕ, ◌+◌, ◌*◌, ◌^◌, List, Option, Some}
 use Rattle.std.specs.Cmp.Lexicographic.{slice_cmp}
 use Rattle.std.specs.FinMap.{FinMap, from_entries}
 use Rattle.std.specs.Ordering.{nat_cmp}
@@ -9,7 +9,7 @@ use Rattle.view_types.specs.declared.endpoint.EndpointRow.{EndpointRow}
 use Rattle.proto_wire.specs.declared.record.Rec.{Rec}
 use Rattle.proto_wire.specs.declared.record.WireValue.{WireValue}
 use Rattle.proto_wire.specs.declared.record.WireValue.TheVariants.{Fixed32}
-use Rattle.proxy_proto.specs.LookUps.{value_at, has, fixed64_from, number_below, string_in, inside, each_message, optional_in}
+use Rattle.proxy_proto.specs.LookUps.{value_at, has, fixed64_from, number_below, string_in, inside, each_message, optional_in, some_string}
 
 -- ---- addresses
 
@@ -32,11 +32,6 @@ label_in rs = (string_in 1 rs, string_in 2 rs)
 
 abbrev pub labels_in : ℕ → List Rec → FinMap (slice_cmp nat_cmp) (List ℕ)
 labels_in n rs = from_entries (each_message n label_in rs)
-
--- the empty string is none
-abbrev pub some_string : List ℕ → Option (List ℕ)
-some_string [] = None
-some_string (b ∷ bytes) = Some (b ∷ bytes)
 
 unfoldable pub identity_in : List Rec → Option (List ℕ)
 identity_in rs = some_string (string_in 1 (inside 1 rs))

@@ -14,8 +14,8 @@ use Rattle.proxy_proto.specs.declared.table.FieldKind.TheVariants.{Number, Fixed
 use Rattle.proxy_proto.specs.declared.table.Label.{Label}
 use Rattle.proxy_proto.specs.declared.table.Label.TheVariants.{Single, Required, Choice, Repeated, Map}
 use Rattle.proxy_proto.specs.declared.table.Schema.{Schema}
-use Rattle.proxy_proto.specs.declared.table.Schema.TheVariants.{Duration}
-use Rattle.proxy_proto.specs.LookUps.{records_in, has, nanoseconds_in, chunk_from, chunk_in}
+use Rattle.proxy_proto.specs.declared.table.Schema.TheVariants.{Duration, IpNetwork, Server, Authz, HttpRoute, PathMatch, PortSpec}
+use Rattle.proxy_proto.specs.LookUps.{records_in, value_at, has, number_from, nanoseconds_in, chunk_from, chunk_in, inside}
 use Rattle.proxy_proto.specs.Tables.{number_of, label_of, kind_of, fields_of}
 
 abbrev pub or_fault : Option ProtoFault → Option ProtoFault → Option ProtoFault
@@ -100,9 +100,28 @@ abbrev pub wire_fault : Option WireFault → Option ProtoFault
 wire_fault None = None
 wire_fault (Some fault) = Some (Wire fault)
 
--- A duration is below 2 ^ 63 nanoseconds.
+abbrev pub number_in : ℕ → List Rec → ℕ
+number_in n rs = number_from (value_at n rs)
+
+-- how many bits an address has, by the member of its choice
+abbrev pub bits_of : List Rec → ℕ
+bits_of address = if has 1 address then 32 else 128
+
+-- a number that may not be 0, or left out
+abbrev pub zero_fault : ℕ → List Rec → Option ProtoFault
+zero_fault n rs = fault_if (number_in n rs == 0) (Range n)
+
+-- What the records of a message together say, and no one of them: a duration is below 2 ^ 63 nanoseconds, a network has
+-- at most the bits of its address, and 0 is no member of an enum and no port. A Server whose protocol is 0 says that
+-- there is none, and then its policy isn't asked.
 abbrev pub whole_fault : Schema → List Rec → Option ProtoFault
 whole_fault Duration rs = fault_if (not (nat_lt (nanoseconds_in rs) (2 ^ 63))) (Range 1)
+whole_fault IpNetwork rs = fault_if (has 1 rs && nat_lt (bits_of (inside 1 rs)) (number_in 2 rs)) (Range 2)
+whole_fault Server rs = fault_if (not (number_in 1 rs == 0) && number_in 2 rs == 0) (Range 2)
+whole_fault Authz rs = zero_fault 1 rs
+whole_fault HttpRoute rs = zero_fault 1 rs
+whole_fault PathMatch rs = zero_fault 1 rs
+whole_fault PortSpec rs = zero_fault 2 rs
 whole_fault _ rs = None
 
 -- a required field that isn't there

@@ -26,5 +26,17 @@ abbrev pub optional_field : {X : Type 0} → ℕ → (X → List Rec) → Option
 optional_field n f None = []
 optional_field n f (Some x) = chunk n (spelling (f x)) ∷ []
 
+-- a string that may be left out; the empty one is left out too
+abbrev pub optional_text : ℕ → Option (List ℕ) → List Rec
+optional_text n None = []
+optional_text n (Some text) = text_field n text
+
+abbrev pub optional_number : ℕ → Option ℕ → List Rec
+optional_number n None = []
+optional_number n (Some x) = number_field n x
+
+abbrev pub texts_field : ℕ → List (List ℕ) → List Rec
+texts_field n texts = map (chunk n) texts
+
 abbrev pub each_field : {X : Type 0} → ℕ → (X → List Rec) → List X → List Rec
 each_field n f xs = map (λ x. chunk n (spelling (f x))) xs

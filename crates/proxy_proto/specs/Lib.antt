@@ -1,3 +1,5 @@
+pub mod AuthorizationReading
+pub mod Authorizations
 pub mod EndpointReading
 pub mod Endpoints
 pub mod Faults
@@ -9,8 +11,12 @@ pub mod Messages
 pub mod MetKeys
 pub mod NestedFaults
 pub mod Plain
+pub mod Policies
+pub mod PolicyReading
 pub mod ProfileReading
 pub mod Profiles
 pub mod RequestReading
+pub mod RouteReading
+pub mod Routes
 pub mod Sendable
 pub mod Tables

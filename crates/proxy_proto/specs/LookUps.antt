@@ -68,9 +68,22 @@ abbrev pub each_in : {X : Type 0} → ℕ → (List ℕ → X) → List Rec → 
 each_in n said [] = []
 each_in n said (r ∷ rs) = if r.number == n then said (chunk_from (Some r.value)) ∷ each_in n said rs else each_in n said rs
 
+-- the strings in a repeated field
+abbrev pub texts_in : ℕ → List Rec → List (List ℕ)
+texts_in n rs = each_in n string_from rs
+
 abbrev pub each_message : {X : Type 0} → ℕ → (List Rec → X) → List Rec → List X
 each_message n said rs = each_in n (λ bytes. said (records_in bytes)) rs
 
 -- what the message in a field says, where it is there
 abbrev pub optional_in : {X : Type 0} → ℕ → (List Rec → X) → List Rec → Option X
 optional_in n said rs = option_map (λ value. said (records_in (chunk_from (Some value)))) (value_at n rs)
+
+-- ---- what stands for none
+
+abbrev pub some_string : List ℕ → Option (List ℕ)
+some_string [] = None
+some_string (b ∷ bytes) = Some (b ∷ bytes)
+
+abbrev pub some_number : ℕ → Option ℕ
+some_number n = if n == 0 then None else Some n

@@ -1,28 +1,25 @@
 -- What a message says to the subscribers of a method, or its first fault.
-use Rattle.std.specs.Prelude.{Bool, true, false, List, ℕ, Option, Some, None, Result, Ok, Err, if◌then◌else◌}
+use Rattle.std.specs.Prelude.{List, ℕ, Option, Some, None, Result, Ok, Err, if◌then◌else◌}
 use Rattle.view_types.specs.declared.message.Message.{Message}
-use Rattle.view_types.specs.declared.message.Message.TheVariants.{Add, Remove, NoEndpoints, Profile}
+use Rattle.view_types.specs.declared.message.Message.TheVariants.{Add, Remove, NoEndpoints, Profile, Server, Outbound}
 use Rattle.view_types.specs.declared.query.Method.{Method}
-use Rattle.view_types.specs.declared.query.Method.TheVariants.{Get, GetProfile}
+use Rattle.view_types.specs.declared.query.Method.TheVariants.{Get, GetProfile, WatchPort, Watch}
 use Rattle.proto_wire.specs.declared.record.Rec.{Rec}
 use Rattle.proxy_proto.specs.declared.fault.ProtoFault.{ProtoFault}
 use Rattle.proxy_proto.specs.declared.table.Schema.{Schema}
-use Rattle.proxy_proto.specs.declared.table.Schema.TheVariants.{Update, DestinationProfile}
+use Rattle.proxy_proto.specs.declared.table.Schema.TheVariants as schema
 use Rattle.proxy_proto.specs.EndpointReading.{pair_in, row_in}
 use Rattle.proxy_proto.specs.Faults.{fault_of}
 use Rattle.proxy_proto.specs.LookUps.{records_in, has, flag_in, inside, each_message}
+use Rattle.proxy_proto.specs.PolicyReading.{outbound_in, server_in}
 use Rattle.proxy_proto.specs.ProfileReading.{profile_in}
-
--- the methods of the destination controller, Get and GetProfile
-abbrev pub is_of_destinations : Method → Bool
-is_of_destinations Get = true
-is_of_destinations GetProfile = true
-is_of_destinations _ = false
 
 -- the message that answers the method
 abbrev pub answer_schema : Method → Schema
-answer_schema Get = Update
-answer_schema _ = DestinationProfile
+answer_schema Get = schema.Update
+answer_schema GetProfile = schema.DestinationProfile
+answer_schema WatchPort = schema.Server
+answer_schema Watch = schema.OutboundPolicy
 
 unfoldable pub update_in : List Rec → Message
 update_in rs =
@@ -32,13 +29,14 @@ update_in rs =
 
 abbrev pub answer_in : Method → List Rec → Message
 answer_in Get rs = update_in rs
-answer_in _ rs = Profile (profile_in rs)
+answer_in GetProfile rs = Profile (profile_in rs)
+answer_in WatchPort rs = Server (server_in rs)
+answer_in Watch rs = Outbound (outbound_in rs)
 
 -- the fault where there is one, else what is read
 abbrev pub or_first : {A : Type 0} → Option ProtoFault → Result A ProtoFault → Result A ProtoFault
 or_first None read = read
 or_first (Some fault) read = Err fault
 
--- Of a method of the policy controller nothing is said here.
 abbrev pub message_of : Method → List ℕ → Result Message ProtoFault
 message_of method bytes = or_first (fault_of (answer_schema method) bytes) (Ok (answer_in method (records_in bytes)))

@@ -36,6 +36,19 @@ uint32 = Number 4294967295
 abbrev pub uint16 : FieldKind
 uint16 = Number 65535
 
+-- a place in an enum, from 1; 0 says nothing
+abbrev pub protocol : FieldKind
+protocol = Number 6
+
+abbrev pub policy : FieldKind
+policy = Number 6
+
+abbrev pub one_of_two : FieldKind
+one_of_two = Number 2
+
+abbrev pub one_of_three : FieldKind
+one_of_three = Number 3
+
 -- less than a second
 abbrev pub nanoseconds : FieldKind
 nanoseconds = Number 999999999
@@ -98,5 +111,74 @@ fields_of schema.ResponseSeq = field 1 Repeated (Message schema.ResponseMatch) �
 fields_of schema.StatusRange = field 1 Single uint16 ∷ field 2 Single uint16 ∷ []
 fields_of schema.WeightedDst = field 1 Single Text ∷ field 2 Single uint32 ∷ []
 fields_of schema.Duration = field 1 Single uint64 ∷ field 2 Single nanoseconds ∷ []
+fields_of schema.IpNetwork = field 1 Required (Message schema.IpAddress) ∷ field 2 Single uint32 ∷ []
+-- of a port that has a policy: the protocol, the policy, the name of the Server, who may come in, and routes
+fields_of schema.Server =
+    field 1 Single protocol
+    ∷ field 2 Single policy
+    ∷ field 3 Single Text
+    ∷ field 4 Repeated (Message schema.Authz)
+    ∷ field 5 Repeated (Message schema.HttpRoute)
+    ∷ []
+fields_of schema.Authz =
+    field 1 Single one_of_two
+    ∷ field 2 Single Text
+    ∷ field 3 Repeated (Message schema.Network)
+    ∷ field 4 Required (Message schema.Authn)
+    ∷ []
+fields_of schema.Network = field 1 Required (Message schema.IpNetwork) ∷ field 2 Repeated (Message schema.IpNetwork) ∷ []
+fields_of schema.Authn = field 1 Choice (Message schema.Empty) ∷ field 2 Choice (Message schema.Empty) ∷ field 3 Choice (Message schema.Clients) ∷ []
+fields_of schema.Clients = field 1 Repeated Text ∷ field 2 Repeated Text ∷ field 3 Single bool ∷ []
+fields_of schema.HttpRoute =
+    field 1 Single one_of_two
+    ∷ field 2 Single Text
+    ∷ field 3 Single Text
+    ∷ field 4 Repeated Text
+    ∷ field 5 Repeated (Message schema.RouteRule)
+    ∷ field 6 Repeated (Message schema.Authz)
+    ∷ []
+fields_of schema.RouteRule =
+    field 1 Repeated (Message schema.HttpMatch)
+    ∷ field 2 Repeated (Message schema.Filter)
+    ∷ field 3 Repeated (Message schema.Backend)
+    ∷ field 4 Single (Message schema.Duration)
+    ∷ field 5 Single (Message schema.Duration)
+    ∷ []
+fields_of schema.HttpMatch =
+    field 1 Required (Message schema.PathMatch)
+    ∷ field 2 Repeated (Message schema.NameMatch)
+    ∷ field 3 Repeated (Message schema.NameMatch)
+    ∷ field 4 Single Text
+    ∷ []
+fields_of schema.PathMatch = field 1 Single one_of_three ∷ field 2 Single Text ∷ []
+fields_of schema.NameMatch = field 1 Single Text ∷ field 2 Single Text ∷ field 3 Single bool ∷ []
+fields_of schema.Filter = field 1 Choice (Message schema.HeaderChange) ∷ field 2 Choice (Message schema.Redirect) ∷ []
+fields_of schema.HeaderChange = field 1 Repeated (Message schema.NameValue) ∷ field 2 Repeated (Message schema.NameValue) ∷ field 3 Repeated Text ∷ []
+fields_of schema.NameValue = field 1 Single Text ∷ field 2 Single Text ∷ []
+fields_of schema.Redirect = field 1 Single Text ∷ field 2 Single Text ∷ field 3 Single uint16 ∷ field 4 Single uint16 ∷ []
+fields_of schema.OutboundPolicy =
+    field 1 Choice (Message schema.Empty)
+    ∷ field 2 Choice (Message schema.ServicePolicy)
+    ∷ field 3 Choice (Message schema.Forward)
+    ∷ []
+fields_of schema.ServicePolicy =
+    field 1 Single Text
+    ∷ field 2 Single Text
+    ∷ field 3 Single uint16
+    ∷ field 4 Single bool
+    ∷ field 5 Repeated (Message schema.HttpRoute)
+    ∷ []
+fields_of schema.Forward = field 1 Required (Message schema.WeightedAddr) ∷ field 2 Single bool ∷ []
+fields_of schema.Backend =
+    field 1 Single Text
+    ∷ field 2 Single Text
+    ∷ field 3 Single uint16
+    ∷ field 4 Single uint32
+    ∷ field 5 Single bool
+    ∷ []
 -- what asks for a Service or an address: a scheme, which is passed over, a path and a context token
 fields_of schema.GetDestination = field 1 Single Text ∷ field 2 Single Text ∷ field 3 Single Text ∷ []
+-- what asks for a port of a Pod: its workload, `namespace:pod`, and the port
+fields_of schema.PortSpec = field 1 Single Text ∷ field 2 Single uint16 ∷ []
+-- what asks where traffic goes: a workload, which is passed over, and an address or a target
+fields_of schema.TrafficSpec = field 1 Single Text ∷ field 2 Choice (Message schema.TcpAddress) ∷ field 3 Choice Text ∷ []

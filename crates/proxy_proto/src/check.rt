@@ -1,17 +1,17 @@
 //! Finding the first fault of a message.
 ghost use Rattle.std.specs.Prelude.{◌≡◌, ◌++◌, [], ◌∷◌, map, not, OnOk, Some, Ok, Option, Result};
 ghost use Rattle.proto_wire.specs.Given.{view_record, view_value, view_scan};
-ghost use Rattle.proxy_proto.specs.Faults.{fault_at, record_fault, value_fault, end_fault, whole_fault};
+ghost use Rattle.proxy_proto.specs.Faults.{fault_at, record_fault, value_fault, end_fault};
 ghost use Rattle.proxy_proto.specs.Given.{Checks};
 ghost use Rattle.proxy_proto.specs.MetKeys.{AreMet};
 ghost use Rattle.proxy_proto.specs.NestedFaults.{seen_as, nested_in};
 
-use crate::duration::nanoseconds_in;
 use crate::fault::ProtoFault;
 use crate::field::{absent, find_field, is_one_more, no_choice};
 use crate::look_up::is_string;
 use crate::seen_keys::{Keys, meet};
 use crate::table::{Field, FieldKind, Schema, fields};
+use crate::whole::whole;
 use proto_wire::scan::{RecRef, Scanned, ValueRef, scan};
 use std::alloc::Global;
 use std::collections::BTreeSet;
@@ -31,7 +31,7 @@ pub fn check(alloc: Global, depth: usize, schema: Schema, bytes: &[u8]) -> Resul
         let seen = &found.records[..i];
         check_record(alloc, depth - 1, fields, seen, &mut keys, &found.records[i])?;
     }
-    finish(schema, fields, &found)
+    finish(alloc, schema, fields, &found)
 }
 
 #[cycle(check)]
@@ -101,27 +101,19 @@ fn look<'a>(
     }
 }
 
-/// The fault of a message as a whole, where it is one of a duration.
-fn whole(schema: Schema, records: &[RecRef<'_>]) -> Option<ProtoFault>
-    ensures { result ≡ whole_fault schema (map view_record records.now) }
-{
-    let Schema::Duration = schema else {
-        return None;
-    };
-    if nanoseconds_in(records) < 1 << 63 {
-        return None;
-    }
-    Some(ProtoFault::Range { field: 1 })
-}
-
 /// What is wrong after the records that can be read.
-fn finish(schema: Schema, fields: &[Field], found: &Scanned<'_>) -> Result<(), ProtoFault>
+fn finish(
+    alloc: Global,
+    schema: Schema,
+    fields: &[Field],
+    found: &Scanned<'_>,
+) -> Result<(), ProtoFault>
     ensures { Checks result (end_fault schema fields.now (view_scan found.now)) }
 {
     if let Some(fault) = found.fault {
         return Err(ProtoFault::Wire(fault));
     }
-    if let Some(fault) = whole(schema, &found.records) {
+    if let Some(fault) = whole(alloc, schema, &found.records)? {
         return Err(fault);
     }
     if let Some(fault) = absent(fields, &found.records) {

@@ -1,17 +1,68 @@
 //! Durations: whole seconds, and the nanoseconds over.
-ghost use Rattle.std.specs.Prelude.{◌≡◌, map};
+ghost use Rattle.std.specs.Prelude.{◌≡◌, ◌++◌, map, IfOk, OnOk};
 ghost use Rattle.proto_wire.specs.Given.{view_record};
-ghost use Rattle.proxy_proto.specs.LookUps.{nanoseconds_in};
+ghost use Rattle.proto_wire.specs.Wire.{spelling};
+ghost use Rattle.proxy_proto.specs.FieldRecords.{optional_field};
+ghost use Rattle.proxy_proto.specs.LookUps.{nanoseconds_in, optional_in};
+ghost use Rattle.proxy_proto.specs.ProfileReading.{duration_in};
+ghost use Rattle.proxy_proto.specs.Profiles.{duration_records};
 
-use crate::look_up::number_in;
+use crate::fields::put_number_field;
+use crate::look_up::{body, number_in, records_in, value_at};
+use mesh_base::list::List;
+use mesh_base::memory::Memory;
 use proto_wire::scan::RecRef;
+use proto_wire::writing::put_chunk;
+use std::alloc::Global;
 
 /// How many nanoseconds a second has.
-pub const SECOND: u64 = 1_000_000_000;
+const SECOND: u64 = 1_000_000_000;
+
+/// Writes a duration of nanoseconds that is there.
+#[tactic(auto, using(proto_wire::proofs::Spellings::spellings), unfolding(crate::specs::Profiles::duration_records))]
+pub fn put_duration(
+    alloc: Global,
+    out: &mut List<u8>,
+    field: u32,
+    duration: Option<u64>,
+) -> Result<(), Memory>
+    ensures { OnOk result (out.new ≡ out.old ++ spelling (optional_field field duration_records duration)) }
+{
+    let Some(nanoseconds) = duration else {
+        return Ok(());
+    };
+    let mut inside = List::new(alloc);
+    put_number_field(&mut inside, 1, nanoseconds / SECOND)?;
+    put_number_field(&mut inside, 2, nanoseconds % SECOND)?;
+    put_chunk(out, field, inside.as_slice())
+}
 
 /// A duration in nanoseconds, however long.
 pub fn nanoseconds_in(records: &[RecRef<'_>]) -> u128
     ensures { result ≡ nanoseconds_in (map view_record records.now) }
 {
     number_in(records, 1) as u128 * SECOND as u128 + number_in(records, 2) as u128
+}
+
+#[tactic(auto, unfolding(crate::specs::ProfileReading::duration_in))]
+fn duration_in(records: &[RecRef<'_>]) -> u64
+    ensures { result ≡ duration_in (map view_record records.now) }
+{
+    let whole = nanoseconds_in(records);
+    if whole < 1 << 63 { whole as u64 } else { 0 }
+}
+
+/// The duration in a field, in nanoseconds.
+pub fn read_duration(
+    alloc: Global,
+    records: &[RecRef<'_>],
+    number: u32,
+) -> Result<Option<u64>, Memory>
+    ensures { IfOk result (λ duration. duration ≡ optional_in number duration_in (map view_record records.now)) }
+{
+    let Some(value) = value_at(records, number) else {
+        return Ok(None);
+    };
+    let duration = records_in(alloc, body(value))?;
+    Ok(Some(duration_in(&duration)))
 }

@@ -1,10 +1,11 @@
 //! Fields whose zero is left out.
 ghost use Rattle.std.specs.Prelude.{◌≡◌, ◌++◌, OnOk};
 ghost use Rattle.proto_wire.specs.Wire.{spelling};
-ghost use Rattle.proxy_proto.specs.FieldRecords.{number_field, fixed64_field, bool_field, text_field};
+ghost use Rattle.proxy_proto.specs.FieldRecords.{number_field, fixed64_field, bool_field, text_field, optional_text, optional_number, texts_field};
 
 use mesh_base::list::List;
 use mesh_base::memory::Memory;
+use mesh_base::text::Text;
 use proto_wire::writing::{put_chunk, put_fixed64, put_number};
 
 /// Writes a number, and nothing for 0.
@@ -49,4 +50,41 @@ pub fn put_text_field(out: &mut List<u8>, field: u32, text: &[u8]) -> Result<(),
         return Ok(());
     }
     put_chunk(out, field, text)
+}
+
+/// Writes a text that is there, and nothing for the empty one.
+#[tactic(auto, using(proto_wire::proofs::Spellings::spellings))]
+pub fn put_optional_text(out: &mut List<u8>, field: u32, text: &Option<Text>) -> Result<(), Memory>
+    ensures { OnOk result (out.new ≡ out.old ++ spelling (optional_text field text.now)) }
+{
+    match text {
+        Some(text) => put_text_field(out, field, text.as_bytes()),
+        None => Ok(()),
+    }
+}
+
+/// Writes a number that is there, and nothing for 0.
+#[tactic(auto, using(proto_wire::proofs::Spellings::spellings))]
+pub fn put_optional_number(
+    out: &mut List<u8>,
+    field: u32,
+    number: Option<u16>,
+) -> Result<(), Memory>
+    ensures { OnOk result (out.new ≡ out.old ++ spelling (optional_number field number)) }
+{
+    match number {
+        Some(number) => put_number_field(out, field, number as u64),
+        None => Ok(()),
+    }
+}
+
+/// Writes the texts of a repeated field.
+#[tactic(auto, using(proto_wire::proofs::Spellings::spellings))]
+pub fn put_texts(out: &mut List<u8>, field: u32, texts: &[Text]) -> Result<(), Memory>
+    ensures { OnOk result (out.new ≡ out.old ++ spelling (texts_field field texts.now)) }
+{
+    for text in texts {
+        put_chunk(out, field, text.as_bytes())?;
+    }
+    Ok(())
 }

@@ -7,6 +7,7 @@
 //! records say.
 #![tactic(auto)]
 
+mod authz;
 mod check;
 mod duration;
 mod endpoint;
@@ -17,15 +18,21 @@ mod from_records;
 pub mod laws;
 mod look_up;
 mod part;
+mod policy;
 mod profile;
+mod read_authz;
 mod read_endpoint;
+mod read_policy;
 mod read_profile;
 mod read_request_match;
 mod read_response_match;
+mod read_route;
 pub mod reading;
 pub mod request;
 mod request_match;
 mod response_match;
+mod route;
 mod seen_keys;
 pub mod table;
+mod whole;
 pub mod writing;

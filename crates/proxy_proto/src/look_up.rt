@@ -2,8 +2,9 @@
 ghost use Rattle.std.specs.Prelude.{◌≡◌, map, option_map, Some, IfOk};
 ghost use Rattle.std.specs.Str.{is_utf8};
 ghost use Rattle.proto_wire.specs.Given.{view_record, view_value};
-ghost use Rattle.proxy_proto.specs.LookUps.{records_in, value_at, has, chunk_from, number_below, flag_in, chunk_in, string_from, string_in, inside, fixed64_from, number_from};
+ghost use Rattle.proxy_proto.specs.LookUps.{records_in, value_at, has, chunk_from, number_below, flag_in, chunk_in, string_from, string_in, texts_in, inside, fixed64_from, number_from, some_string, some_number};
 
+use mesh_base::list::List;
 use mesh_base::memory::Memory;
 use mesh_base::text::Text;
 use proto_wire::scan::{RecRef, ValueRef, scan};
@@ -118,6 +119,42 @@ pub fn text_in(alloc: Global, records: &[RecRef<'_>], number: u32) -> Result<Tex
     ensures { IfOk result (λ text. text ≡ string_in number (map view_record records.now)) }
 {
     string_from(alloc, chunk_in(records, number))
+}
+
+/// The string in a field, and none for the empty one.
+pub fn optional_text_in(
+    alloc: Global,
+    records: &[RecRef<'_>],
+    number: u32,
+) -> Result<Option<Text>, Memory>
+    ensures { IfOk result (λ text. text ≡ some_string (string_in number (map view_record records.now))) }
+{
+    let text = text_in(alloc, records, number)?;
+    if text.as_bytes().is_empty() {
+        return Ok(None);
+    }
+    Ok(Some(text))
+}
+
+/// The strings in a repeated field.
+pub fn texts_in(alloc: Global, records: &[RecRef<'_>], number: u32) -> Result<List<Text>, Memory>
+    ensures { IfOk result (λ texts. texts ≡ texts_in number (map view_record records.now)) }
+{
+    let mut texts = List::new(alloc);
+    for record in records {
+        if record.number == number {
+            texts.add(string_from(alloc, body(record.value))?)?;
+        }
+    }
+    Ok(texts)
+}
+
+/// The number in a field, and none for 0.
+pub fn optional_u16_in(records: &[RecRef<'_>], number: u32) -> Option<u16>
+    ensures { result ≡ some_number (number_below 65536 number (map view_record records.now)) }
+{
+    let n = u16_in(records, number);
+    if n == 0 { None } else { Some(n) }
 }
 
 /// The records of the message in a field.

@@ -3,9 +3,9 @@ ghost use Rattle.std.specs.Prelude.{◌≡◌, ◌++◌, [], ◌∷◌, codes, O
 ghost use Rattle.proto_wire.specs.Wire.{spelling};
 ghost use Rattle.proxy_proto.specs.FieldRecords.{chunk, optional_field};
 ghost use Rattle.proxy_proto.specs.Endpoints.{label_records, row_records};
-ghost use Rattle.proxy_proto.specs.Profiles.{class_records, duration_records, route_records, override_records, profile_records};
+ghost use Rattle.proxy_proto.specs.Profiles.{class_records, route_records, override_records, profile_records};
 
-use crate::duration::SECOND;
+use crate::duration::put_duration;
 use crate::fields::{put_bool_field, put_number_field, put_text_field};
 use crate::part::{Part, write_each, write_in};
 use mesh_base::list::List;
@@ -38,19 +38,6 @@ fn put_route_name(alloc: Global, out: &mut List<u8>, name: &Text) -> Result<(), 
     put_chunk(out, 3, inside.as_slice())
 }
 
-#[tactic(auto, using(proto_wire::proofs::Spellings::spellings), unfolding(crate::specs::Profiles::duration_records))]
-fn put_timeout(alloc: Global, out: &mut List<u8>, timeout: Option<u64>) -> Result<(), Memory>
-    ensures { OnOk result (out.new ≡ out.old ++ spelling (optional_field 5 duration_records timeout)) }
-{
-    let Some(nanoseconds) = timeout else {
-        return Ok(());
-    };
-    let mut inside = List::new(alloc);
-    put_number_field(&mut inside, 1, nanoseconds / SECOND)?;
-    put_number_field(&mut inside, 2, nanoseconds % SECOND)?;
-    put_chunk(out, 5, inside.as_slice())
-}
-
 impl Part for ProfileRoute {
     ghost records = { route_records };
 
@@ -60,7 +47,7 @@ impl Part for ProfileRoute {
         write_each(alloc, out, 2, self.classes.as_slice())?;
         put_route_name(alloc, out, &self.name)?;
         put_bool_field(out, 4, self.retryable)?;
-        put_timeout(alloc, out, self.timeout)
+        put_duration(alloc, out, 5, self.timeout)
     }
 }
 

@@ -4,12 +4,13 @@ ghost use Rattle.std.specs.Cmp.Lexicographic.{slice_cmp};
 ghost use Rattle.std.specs.Ordering.{nat_cmp};
 ghost use Rattle.std.specs.FinMap.{get, insert, from_entries};
 ghost use Rattle.proto_wire.specs.Given.{view_record};
-ghost use Rattle.proxy_proto.specs.EndpointReading.{ip_in, pair_in, label_in, labels_in, identity_in, tunnel_in, some_string, row_in};
+ghost use Rattle.proxy_proto.specs.EndpointReading.{ip_in, pair_in, label_in, labels_in, identity_in, tunnel_in, row_in};
 
 use crate::endpoint::HALF;
 use crate::from_records::{FromRecords, read_each, read_in};
 use crate::look_up::{
-    body, fixed64_in, inside, is_there, records_in, text_in, u16_in, u32_in, value_at,
+    body, fixed64_in, inside, is_there, optional_text_in, records_in, text_in, u16_in, u32_in,
+    value_at,
 };
 use mesh_base::labels::Labels;
 use mesh_base::memory::Memory;
@@ -104,11 +105,7 @@ fn read_identity(alloc: Global, records: &[RecRef<'_>]) -> Result<Option<Text>, 
     ensures { IfOk result (λ identity. identity ≡ identity_in (map view_record records.now)) }
 {
     let dns_like = inside(alloc, records, 1)?;
-    let name = text_in(alloc, &dns_like, 1)?;
-    if name.as_bytes().is_empty() {
-        return Ok(None);
-    }
-    Ok(Some(name))
+    optional_text_in(alloc, &dns_like, 1)
 }
 
 #[tactic(auto, unfolding(crate::specs::EndpointReading::tunnel_in))]

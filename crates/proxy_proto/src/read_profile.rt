@@ -3,11 +3,11 @@ ghost use Rattle.std.specs.Prelude.{◌≡◌, map, codes, IfOk};
 ghost use Rattle.proto_wire.specs.Given.{view_record};
 ghost use Rattle.proxy_proto.specs.EndpointReading.{label_in, row_in};
 ghost use Rattle.proxy_proto.specs.LookUps.{each_message, optional_in};
-ghost use Rattle.proxy_proto.specs.ProfileReading.{class_in, duration_in, label_named, route_in, override_in, profile_in};
+ghost use Rattle.proxy_proto.specs.ProfileReading.{class_in, label_named, route_in, override_in, profile_in};
 
-use crate::duration::nanoseconds_in;
+use crate::duration::read_duration;
 use crate::from_records::{FromRecords, read_bytes, read_each};
-use crate::look_up::{body, chunk_in, flag_in, records_in, text_in, u32_in, value_at};
+use crate::look_up::{body, chunk_in, flag_in, text_in, u32_in, value_at};
 use crate::read_request_match::read_request_match;
 use crate::read_response_match::read_response_match;
 use mesh_base::memory::Memory;
@@ -29,24 +29,6 @@ impl FromRecords for RespClass {
             failure: flag_in(records, 2),
         })
     }
-}
-
-#[tactic(auto, unfolding(crate::specs::ProfileReading::duration_in))]
-fn duration_in(records: &[RecRef<'_>]) -> u64
-    ensures { result ≡ duration_in (map view_record records.now) }
-{
-    let whole = nanoseconds_in(records);
-    if whole < 1 << 63 { whole as u64 } else { 0 }
-}
-
-fn read_timeout(alloc: Global, records: &[RecRef<'_>]) -> Result<Option<u64>, Memory>
-    ensures { IfOk result (λ timeout. timeout ≡ optional_in 5 duration_in (map view_record records.now)) }
-{
-    let Some(value) = value_at(records, 5) else {
-        return Ok(None);
-    };
-    let duration = records_in(alloc, body(value))?;
-    Ok(Some(duration_in(&duration)))
 }
 
 fn label_named(alloc: Global, labels: &[(Text, Text)], key: &[u8]) -> Result<Text, Memory>
@@ -78,7 +60,7 @@ impl FromRecords for ProfileRoute {
             condition: read_request_match(alloc, condition.len() + 1, condition)?,
             classes: read_each::<RespClass>(alloc, records, 2)?,
             retryable: flag_in(records, 4),
-            timeout: read_timeout(alloc, records)?,
+            timeout: read_duration(alloc, records, 5)?,
         })
     }
 }

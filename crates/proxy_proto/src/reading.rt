@@ -1,8 +1,8 @@
 //! Reading messages.
-ghost use Rattle.std.specs.Prelude.{◌≡◌, map, IfOk, IsTrue};
+ghost use Rattle.std.specs.Prelude.{◌≡◌, map, IfOk};
 ghost use Rattle.proto_wire.specs.Given.{view_record};
 ghost use Rattle.proxy_proto.specs.Given.{Gives};
-ghost use Rattle.proxy_proto.specs.MessageReading.{is_of_destinations, answer_schema, answer_in, update_in, message_of};
+ghost use Rattle.proxy_proto.specs.MessageReading.{answer_schema, answer_in, update_in, message_of};
 
 use crate::check::check;
 use crate::fault::ProtoFault;
@@ -15,8 +15,9 @@ use proto_wire::scan::RecRef;
 use std::alloc::Global;
 use view_types::endpoint::EndpointRow;
 use view_types::message::Message;
-use view_types::outbound::ProfileView;
+use view_types::outbound::{OutboundView, ProfileView};
 use view_types::query::Method;
+use view_types::server_view::ServerView;
 
 #[tactic(auto, unfolding(crate::specs::MessageReading::update_in))]
 fn read_update(alloc: Global, records: &[RecRef<'_>]) -> Result<Message, Memory>
@@ -39,7 +40,9 @@ fn answer_schema(method: Method) -> Schema
 {
     match method {
         Method::Get => Schema::Update,
-        _ => Schema::DestinationProfile,
+        Method::GetProfile => Schema::DestinationProfile,
+        Method::WatchPort => Schema::Server,
+        Method::Watch => Schema::OutboundPolicy,
     }
 }
 
@@ -48,14 +51,14 @@ fn read_answer(alloc: Global, method: Method, records: &[RecRef<'_>]) -> Result<
 {
     match method {
         Method::Get => read_update(alloc, records),
-        _ => Ok(Message::Profile(ProfileView::read(alloc, records)?)),
+        Method::GetProfile => Ok(Message::Profile(ProfileView::read(alloc, records)?)),
+        Method::WatchPort => Ok(Message::Server(ServerView::read(alloc, records)?)),
+        Method::Watch => Ok(Message::Outbound(OutboundView::read(alloc, records)?)),
     }
 }
 
-/// What a message says that answers the method, or its first fault. It is for Get and GetProfile alone, while the
-/// messages of the policy controller aren't read.
+/// What a message says that answers the method, or its first fault.
 pub fn read_message(alloc: Global, method: Method, bytes: &[u8]) -> Result<Message, ProtoFault>
-    requires { IsTrue (is_of_destinations method) }
     ensures { Gives result (message_of method bytes.now) }
 {
     check(alloc, bytes.len() + 1, answer_schema(method), bytes)?;

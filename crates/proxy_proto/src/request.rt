@@ -1,68 +1,140 @@
 //! Reading requests.
-ghost use Rattle.std.specs.Prelude.{◌≡◌, map, IsTrue};
-ghost use Rattle.mesh_text.specs.Targets.{target_of};
+ghost use Rattle.std.specs.Prelude.{◌≡◌, map, Some};
+ghost use Rattle.mesh_text.specs.Workloads.{workload_of};
 ghost use Rattle.proto_wire.specs.Given.{view_record};
+ghost use Rattle.view_types.specs.declared.query.Method.TheVariants as methods;
 ghost use Rattle.proxy_proto.specs.Given.{Gives};
-ghost use Rattle.proxy_proto.specs.MessageReading.{is_of_destinations};
-ghost use Rattle.proxy_proto.specs.RequestReading.{query_to, query_in, request_of};
+ghost use Rattle.proxy_proto.specs.RequestReading.{endpoints_query, port_query, request_schema, query_in, request_of};
+ghost use Rattle.proxy_proto.specs.LookUps.{chunk_in, number_below};
 
 use crate::check::check;
 use crate::fault::ProtoFault;
-use crate::look_up::{chunk_in, records_in};
+use crate::from_records::read_in;
+use crate::look_up::{chunk_in, is_there, records_in, u16_in};
 use crate::table::Schema;
 use mesh_text::target_text::{TargetFault, read_target};
 use mesh_text::token::read_context;
+use mesh_text::workload_text::read_workload;
+use net_cidr::ip::Ip;
 use proto_wire::scan::RecRef;
 use std::alloc::Global;
 use view_types::config::Config;
 use view_types::query::{Context, Method, Query, Target};
 
-fn query_to(method: Method, target: Target, ctx: Context) -> Result<Query, ProtoFault>
-    requires { IsTrue (is_of_destinations method) }
-    ensures { Gives result (query_to method (Some target) ctx) }
+fn endpoints_query(target: Target, ctx: Context) -> Result<Query, ProtoFault>
+    ensures { Gives result (endpoints_query (Some target) ctx) }
 {
-    match (method, target) {
-        (Method::Get, Target::Service { ns, name, port }) => Ok(Query::Get {
+    match target {
+        Target::Service { ns, name, port } => Ok(Query::Get {
             ns,
             name,
             port,
             ctx,
         }),
-        (Method::Get, Target::Address { .. }) => Err(ProtoFault::BadAuthority),
-        (_, target) => Ok(Query::Profile { target, ctx }),
+        Target::Address { .. } => Err(ProtoFault::BadAuthority),
     }
 }
 
-#[tactic(auto, unfolding(crate::specs::RequestReading::query_in))]
+fn read_endpoints_query(
+    alloc: Global,
+    records: &[RecRef<'_>],
+    config: &Config,
+) -> Result<Query, ProtoFault>
+    ensures { Gives result (query_in config.now methods.Get (map view_record records.now)) }
+{
+    let ctx = read_context(alloc, chunk_in(records, 3))?;
+    match read_target(alloc, chunk_in(records, 2), config) {
+        Ok(target) => endpoints_query(target, ctx),
+        Err(TargetFault::Bad) => Err(ProtoFault::BadAuthority),
+        Err(TargetFault::Memory) => Err(ProtoFault::Memory),
+    }
+}
+
+fn read_profile_query(
+    alloc: Global,
+    records: &[RecRef<'_>],
+    config: &Config,
+) -> Result<Query, ProtoFault>
+    ensures { Gives result (query_in config.now methods.GetProfile (map view_record records.now)) }
+{
+    let ctx = read_context(alloc, chunk_in(records, 3))?;
+    match read_target(alloc, chunk_in(records, 2), config) {
+        Ok(target) => Ok(Query::Profile { target, ctx }),
+        Err(TargetFault::Bad) => Err(ProtoFault::BadAuthority),
+        Err(TargetFault::Memory) => Err(ProtoFault::Memory),
+    }
+}
+
+fn read_port_query(alloc: Global, records: &[RecRef<'_>]) -> Result<Query, ProtoFault>
+    ensures { Gives result (port_query (workload_of (chunk_in 1 (map view_record records.now))) (number_below 65536 2 (map view_record records.now))) }
+{
+    let port = u16_in(records, 2);
+    match read_workload(alloc, chunk_in(records, 1)) {
+        Ok((ns, pod)) => Ok(Query::Port { ns, pod, port }),
+        Err(TargetFault::Bad) => Err(ProtoFault::BadWorkload),
+        Err(TargetFault::Memory) => Err(ProtoFault::Memory),
+    }
+}
+
+/// The address that a request names, which any port may follow, or what its authority leads to.
+#[tactic(auto, unfolding(crate::specs::RequestReading::traffic_target))]
+fn read_traffic_query(
+    alloc: Global,
+    records: &[RecRef<'_>],
+    config: &Config,
+) -> Result<Query, ProtoFault>
+    ensures { Gives result (query_in config.now methods.Watch (map view_record records.now)) }
+{
+    if is_there(records, 2) {
+        let (ip, port) = read_in::<(Ip, u16)>(alloc, records, 2)?;
+        return Ok(Query::Traffic {
+            target: Target::Address { ip, port },
+        });
+    }
+    match read_target(alloc, chunk_in(records, 3), config) {
+        Ok(target) => Ok(Query::Traffic { target }),
+        Err(TargetFault::Bad) => Err(ProtoFault::BadAuthority),
+        Err(TargetFault::Memory) => Err(ProtoFault::Memory),
+    }
+}
+
+fn request_schema(method: Method) -> Schema
+    ensures { result ≡ request_schema method }
+{
+    match method {
+        Method::Get => Schema::GetDestination,
+        Method::GetProfile => Schema::GetDestination,
+        Method::WatchPort => Schema::PortSpec,
+        Method::Watch => Schema::TrafficSpec,
+    }
+}
+
 fn read_query(
     alloc: Global,
     method: Method,
     records: &[RecRef<'_>],
     config: &Config,
 ) -> Result<Query, ProtoFault>
-    requires { IsTrue (is_of_destinations method) }
     ensures { Gives result (query_in config.now method (map view_record records.now)) }
 {
-    let ctx = read_context(alloc, chunk_in(records, 3))?;
-    match read_target(alloc, chunk_in(records, 2), config) {
-        Ok(target) => query_to(method, target, ctx),
-        Err(TargetFault::Bad) => Err(ProtoFault::BadAuthority),
-        Err(TargetFault::Memory) => Err(ProtoFault::Memory),
+    match method {
+        Method::Get => read_endpoints_query(alloc, records, config),
+        Method::GetProfile => read_profile_query(alloc, records, config),
+        Method::WatchPort => read_port_query(alloc, records),
+        Method::Watch => read_traffic_query(alloc, records, config),
     }
 }
 
-/// What a request to the method asks for, or its first fault. It is for Get and GetProfile alone, while the requests of
-/// the policy controller aren't read.
+/// What a request to the method asks for, or its first fault.
 pub fn read_request(
     alloc: Global,
     method: Method,
     bytes: &[u8],
     config: &Config,
 ) -> Result<Query, ProtoFault>
-    requires { IsTrue (is_of_destinations method) }
     ensures { Gives result (request_of config.now method bytes.now) }
 {
-    check(alloc, bytes.len() + 1, Schema::GetDestination, bytes)?;
+    check(alloc, bytes.len() + 1, request_schema(method), bytes)?;
     let records = records_in(alloc, bytes)?;
     read_query(alloc, method, &records, config)
 }

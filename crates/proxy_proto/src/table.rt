@@ -34,7 +34,28 @@ pub enum Schema {
     StatusRange,
     WeightedDst,
     Duration,
+    IpNetwork,
+    Server,
+    Authz,
+    Network,
+    Authn,
+    Clients,
+    HttpRoute,
+    RouteRule,
+    HttpMatch,
+    PathMatch,
+    NameMatch,
+    Filter,
+    HeaderChange,
+    NameValue,
+    Redirect,
+    OutboundPolicy,
+    ServicePolicy,
+    Forward,
+    Backend,
     GetDestination,
+    PortSpec,
+    TrafficSpec,
 }
 
 /// How often a field may come.
@@ -75,6 +96,15 @@ const UINT32: FieldKind = Number(4_294_967_295);
 const UINT16: FieldKind = Number(65_535);
 
 const NANOSECONDS: FieldKind = Number(999_999_999);
+
+/// A place in an enum.
+const PROTOCOL: FieldKind = Number(6);
+
+const POLICY: FieldKind = Number(6);
+
+const ONE_OF_TWO: FieldKind = Number(2);
+
+const ONE_OF_THREE: FieldKind = Number(3);
 
 const UPDATE: [Field; 3] = [
     Field(1, Choice, Message(Schema::WeightedAddrSet)),
@@ -173,10 +203,134 @@ const WEIGHTED_DST: [Field; 2] = [Field(1, Single, Text), Field(2, Single, UINT3
 
 const DURATION: [Field; 2] = [Field(1, Single, UINT64), Field(2, Single, NANOSECONDS)];
 
+const IP_NETWORK: [Field; 2] = [
+    Field(1, Required, Message(Schema::IpAddress)),
+    Field(2, Single, UINT32),
+];
+
+const SERVER: [Field; 5] = [
+    Field(1, Single, PROTOCOL),
+    Field(2, Single, POLICY),
+    Field(3, Single, Text),
+    Field(4, Repeated, Message(Schema::Authz)),
+    Field(5, Repeated, Message(Schema::HttpRoute)),
+];
+
+const AUTHZ: [Field; 4] = [
+    Field(1, Single, ONE_OF_TWO),
+    Field(2, Single, Text),
+    Field(3, Repeated, Message(Schema::Network)),
+    Field(4, Required, Message(Schema::Authn)),
+];
+
+const NETWORK: [Field; 2] = [
+    Field(1, Required, Message(Schema::IpNetwork)),
+    Field(2, Repeated, Message(Schema::IpNetwork)),
+];
+
+const AUTHN: [Field; 3] = [
+    Field(1, Choice, Message(Schema::Empty)),
+    Field(2, Choice, Message(Schema::Empty)),
+    Field(3, Choice, Message(Schema::Clients)),
+];
+
+const CLIENTS: [Field; 3] = [
+    Field(1, Repeated, Text),
+    Field(2, Repeated, Text),
+    Field(3, Single, BOOL),
+];
+
+const HTTP_ROUTE: [Field; 6] = [
+    Field(1, Single, ONE_OF_TWO),
+    Field(2, Single, Text),
+    Field(3, Single, Text),
+    Field(4, Repeated, Text),
+    Field(5, Repeated, Message(Schema::RouteRule)),
+    Field(6, Repeated, Message(Schema::Authz)),
+];
+
+const ROUTE_RULE: [Field; 5] = [
+    Field(1, Repeated, Message(Schema::HttpMatch)),
+    Field(2, Repeated, Message(Schema::Filter)),
+    Field(3, Repeated, Message(Schema::Backend)),
+    Field(4, Single, Message(Schema::Duration)),
+    Field(5, Single, Message(Schema::Duration)),
+];
+
+const HTTP_MATCH: [Field; 4] = [
+    Field(1, Required, Message(Schema::PathMatch)),
+    Field(2, Repeated, Message(Schema::NameMatch)),
+    Field(3, Repeated, Message(Schema::NameMatch)),
+    Field(4, Single, Text),
+];
+
+const PATH_MATCH: [Field; 2] = [Field(1, Single, ONE_OF_THREE), Field(2, Single, Text)];
+
+const NAME_MATCH: [Field; 3] = [
+    Field(1, Single, Text),
+    Field(2, Single, Text),
+    Field(3, Single, BOOL),
+];
+
+const FILTER: [Field; 2] = [
+    Field(1, Choice, Message(Schema::HeaderChange)),
+    Field(2, Choice, Message(Schema::Redirect)),
+];
+
+const HEADER_CHANGE: [Field; 3] = [
+    Field(1, Repeated, Message(Schema::NameValue)),
+    Field(2, Repeated, Message(Schema::NameValue)),
+    Field(3, Repeated, Text),
+];
+
+const NAME_VALUE: [Field; 2] = [Field(1, Single, Text), Field(2, Single, Text)];
+
+const REDIRECT: [Field; 4] = [
+    Field(1, Single, Text),
+    Field(2, Single, Text),
+    Field(3, Single, UINT16),
+    Field(4, Single, UINT16),
+];
+
+const OUTBOUND_POLICY: [Field; 3] = [
+    Field(1, Choice, Message(Schema::Empty)),
+    Field(2, Choice, Message(Schema::ServicePolicy)),
+    Field(3, Choice, Message(Schema::Forward)),
+];
+
+const SERVICE_POLICY: [Field; 5] = [
+    Field(1, Single, Text),
+    Field(2, Single, Text),
+    Field(3, Single, UINT16),
+    Field(4, Single, BOOL),
+    Field(5, Repeated, Message(Schema::HttpRoute)),
+];
+
+const FORWARD: [Field; 2] = [
+    Field(1, Required, Message(Schema::WeightedAddr)),
+    Field(2, Single, BOOL),
+];
+
+const BACKEND: [Field; 5] = [
+    Field(1, Single, Text),
+    Field(2, Single, Text),
+    Field(3, Single, UINT16),
+    Field(4, Single, UINT32),
+    Field(5, Single, BOOL),
+];
+
 const GET_DESTINATION: [Field; 3] = [
     Field(1, Single, Text),
     Field(2, Single, Text),
     Field(3, Single, Text),
+];
+
+const PORT_SPEC: [Field; 2] = [Field(1, Single, Text), Field(2, Single, UINT16)];
+
+const TRAFFIC_SPEC: [Field; 3] = [
+    Field(1, Single, Text),
+    Field(2, Choice, Message(Schema::TcpAddress)),
+    Field(3, Choice, Text),
 ];
 
 /// The fields of a message.
@@ -210,6 +364,27 @@ pub fn fields(schema: Schema) -> &'static [Field]
         Schema::StatusRange => &STATUS_RANGE,
         Schema::WeightedDst => &WEIGHTED_DST,
         Schema::Duration => &DURATION,
+        Schema::IpNetwork => &IP_NETWORK,
+        Schema::Server => &SERVER,
+        Schema::Authz => &AUTHZ,
+        Schema::Network => &NETWORK,
+        Schema::Authn => &AUTHN,
+        Schema::Clients => &CLIENTS,
+        Schema::HttpRoute => &HTTP_ROUTE,
+        Schema::RouteRule => &ROUTE_RULE,
+        Schema::HttpMatch => &HTTP_MATCH,
+        Schema::PathMatch => &PATH_MATCH,
+        Schema::NameMatch => &NAME_MATCH,
+        Schema::Filter => &FILTER,
+        Schema::HeaderChange => &HEADER_CHANGE,
+        Schema::NameValue => &NAME_VALUE,
+        Schema::Redirect => &REDIRECT,
+        Schema::OutboundPolicy => &OUTBOUND_POLICY,
+        Schema::ServicePolicy => &SERVICE_POLICY,
+        Schema::Forward => &FORWARD,
+        Schema::Backend => &BACKEND,
         Schema::GetDestination => &GET_DESTINATION,
+        Schema::PortSpec => &PORT_SPEC,
+        Schema::TrafficSpec => &TRAFFIC_SPEC,
     }
 }

@@ -34,6 +34,8 @@ impl Part for Message {
                 put_chunk(out, 3, inside.as_slice())
             }
             Message::Profile(view) => view.write(alloc, out),
+            Message::Server(view) => view.write(alloc, out),
+            Message::Outbound(view) => view.write(alloc, out),
         }
     }
 }

@@ -14,7 +14,8 @@ use Rattle.view_rules.specs.Same.{same_row}
 use Rattle.view_rules.specs.Endpoints.{pair_cmp, pair_of}
 use Rattle.view_rules.specs.Fold.{RowMap, put_rows, row_map, take_out}
 use Rattle.view_types.specs.declared.endpoint.EndpointRow.{EndpointRow}
-use Rattle.view_rules.proofs.RowMaps.{Pair, IsRising, found, at_pair, first, second, less, found_own, found_there, not_there, only_one, put_none, put_same, put_there, taken, get_rising, either_none}
+use Rattle.view_rules.proofs.Entries.{first, less, second}
+use Rattle.view_rules.proofs.RowMaps.{Pair, IsRising, found, at_pair, found_own, found_there, not_there, only_one, put_none, put_same, put_there, taken, get_rising, either_none}
 use Rattle.view_rules.proofs.SameRow.{row_decides}
 
 -- ---- what is found

@@ -5,5 +5,5 @@ pub mod MessagesFold
 mod OnePass
 pub mod Passed
 mod Pieces
-mod ProfileFolds
 mod Sizes
+mod WholeFolds

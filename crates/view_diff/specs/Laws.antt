@@ -1,16 +1,20 @@
 -- What a batch carries, and what is seen by folding it.
-use Rattle.std.specs.Prelude.{◌≡◌, ◌+◌, ◌<◌, ◌≤◌, ℕ, List, Option, Some, option_map, length, slice_index_or, All, flat_map}
+use Rattle.std.specs.Prelude.{◌≡◌, ◌+◌, ◌<◌, ◌≤◌, ℕ, Bool, List, Option, Some, option_map, length, slice_index_or, All, flat_map}
 use Rattle.mesh_base.specs.declared.limits.Limits.{Limits}
 use Rattle.net_cidr.specs.declared.ip.Ip.{Ip}
 use Rattle.view_types.specs.Objects.{ObjectMap}
 use Rattle.view_types.specs.declared.config.Config.{Config}
 use Rattle.view_types.specs.declared.endpoint.EndpointRow.{EndpointRow}
 use Rattle.view_types.specs.declared.endpoint.EndpointView.{EndpointView}
-use Rattle.view_types.specs.declared.outbound.ProfileView.{ProfileView}
+use Rattle.view_types.specs.declared.message.Message.{Message}
+use Rattle.view_types.specs.declared.message.Message.TheVariants.{Profile as WholeProfile, Server as WholeServer, Outbound as WholeOutbound}
 use Rattle.view_types.specs.declared.query.Query.{Query}
-use Rattle.view_types.specs.declared.view.View.TheVariants.{Endpoints, Profile}
-use Rattle.view_rules.specs.Batch.{IsOrderlyBefore, endpoint_batch, in_pieces, messages_between, profile_batch}
+use Rattle.view_types.specs.declared.view.View.{View}
+use Rattle.view_types.specs.declared.view.View.TheVariants.{Endpoints, Profile, Server, Outbound}
+use Rattle.view_rules.specs.Batch.{IsOrderlyBefore, batch, endpoint_batch, in_pieces, whole_batch}
 use Rattle.view_rules.specs.Fold.{IsOrderly, folded_onto}
+use Rattle.view_rules.specs.Same.{same_profile}
+use Rattle.view_rules.specs.SamePolicies.{same_outbound, same_server}
 use Rattle.view_rules.specs.Views.{view_before, view_of}
 
 -- the items of the pieces are the items
@@ -33,12 +37,21 @@ abbrev pub BatchFolds : Type 0
 BatchFolds = (old : Option EndpointView) (new : EndpointView) (limits : Limits) → 1 ≤ limits.frame_addrs → IsOrderlyBefore old → IsOrderly new
     → folded_onto (option_map Endpoints old) (endpoint_batch old new limits) ≡ Some (Endpoints new)
 
--- so it is for profiles
-abbrev pub ProfileBatchFolds : Type 0
-ProfileBatchFolds = (old : Option ProfileView) (new : ProfileView) → folded_onto (option_map Profile old) (profile_batch old new) ≡ Some (Profile new)
+-- so it is for views that are sent whole
+abbrev pub WholeFolds : {X : Type 0} → (X → View) → (X → X → Bool) → (X → Message) → Type 0
+WholeFolds {X} view same message = (old : Option X) (new : X) → folded_onto (option_map view old) (whole_batch same message old new) ≡ Some (view new)
+
+abbrev pub ProfilesFold : Type 0
+ProfilesFold = WholeFolds Profile same_profile WholeProfile
+
+abbrev pub ServersFold : Type 0
+ServersFold = WholeFolds Server same_server WholeServer
+
+abbrev pub OutboundsFold : Type 0
+OutboundsFold = WholeFolds Outbound same_outbound WholeOutbound
 
 -- Whatever was held when a query's view was last shown, if it was, and whatever is held now, folding the messages of the
 -- query on top of the view then gives the view now.
 abbrev pub MessagesFold : Type 0
 MessagesFold = (config : Config) (before : Option ObjectMap) (held : ObjectMap) (query : Query) (limits : Limits) → 1 ≤ limits.frame_addrs
-    → folded_onto (view_before config query before) (messages_between limits (view_before config query before) (view_of config held query)) ≡ view_of config held query
+    → folded_onto (view_before config query before) (batch (view_before config query before) (view_of config held query) limits) ≡ Some (view_of config held query)

@@ -1,4 +1,4 @@
-ghost use Rattle.view_diff.specs.Laws.{BatchFolds, MessagesFold, PairsAreCut, ProfileBatchFolds, RowsAreCut};
+ghost use Rattle.view_diff.specs.Laws.{BatchFolds, MessagesFold, OutboundsFold, PairsAreCut, ProfilesFold, RowsAreCut, ServersFold};
 
 /// The messages that add rows have as many each as may be, but for the last.
 pub fn rows_are_cut()
@@ -15,9 +15,11 @@ pub fn batch_folds()
     ensures { BatchFolds }
 {}
 
-/// So it does for profiles.
-pub fn profile_batch_folds()
-    ensures { ProfileBatchFolds }
+/// So it does for the views that are sent whole.
+pub fn whole_batches_fold()
+    ensures profiles { ProfilesFold }
+    ensures servers { ServersFold }
+    ensures outbounds { OutboundsFold }
 {}
 
 /// Whatever was held when a query's view was last shown, and whatever is held now, folding the messages of the query on top

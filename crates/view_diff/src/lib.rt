@@ -8,5 +8,5 @@ pub mod batch;
 mod cut;
 pub mod laws;
 mod merge;
-pub mod profile;
 pub mod views;
+pub mod whole;

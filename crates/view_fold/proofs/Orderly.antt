@@ -1,32 +1,23 @@
 -- What is seen by folding is in order.
 use Rattle.std.proofs.Common.{◌≡◌, cond, List, [], ◌∷◌, map, Option, Some, None, refl, sym, ap, subst, ◌∙◌}
-use lib.Dec.{T}
 use Rattle.std.specs.FinMap.{empty, get-empty, same_map, values}
-use Rattle.std.specs.FinMap.Entries.{below_all}
-use Rattle.std.specs.List.{AllByRecursion, list_any}
+use Rattle.std.specs.List.{list_any}
 use Rattle.std.specs.List.Sorted.{IsStrictlySortedBy}
-use Rattle.std.specs.declared.cmp.Ordering.TheVariants.{Less}
-use Rattle.mesh_base.specs.Keyed.{keyed}
+use Rattle.view_rules.proofs.KeptOnce.{keys_rise}
 use Rattle.view_rules.proofs.Pairs.{pairs_exact, pairs_total}
-use Rattle.view_rules.proofs.RowMaps.{Pair, IsOwn, IsRising, either_none, first, less, own_put, own_rows, own_taken, rows_shown, second, taken, values_rise}
+use Rattle.view_rules.proofs.RowMaps.{Pair, IsOwn, IsRising, either_none, own_put, own_rows, own_taken, rows_shown, taken, values_rise}
 use Rattle.view_rules.specs.Batch.{same_pair}
 use Rattle.view_rules.specs.Endpoints.{no_endpoints, pair_cmp, pair_of}
 use Rattle.view_rules.specs.Fold.{IsOrderly, IsOrderlyIfShown, RowMap, folded_onto, put_rows, row_map, seen, shown_after, take_out}
 use Rattle.view_types.specs.declared.endpoint.EndpointRow.{EndpointRow}
 use Rattle.view_types.specs.declared.message.Message.{Message}
-use Rattle.view_types.specs.declared.message.Message.TheVariants.{Add, Remove, NoEndpoints, Profile as WholeProfile}
+use Rattle.view_types.specs.declared.message.Message.TheVariants.{Add, Remove, NoEndpoints, Profile as WholeProfile, Server as WholeServer, Outbound as WholeOutbound}
 use Rattle.view_types.specs.declared.view.View.{View}
 use Rattle.view_types.specs.declared.view.View.TheVariants.{Endpoints, Profile, Server, Outbound}
 use Rattle.view_fold.specs.Laws.{FoldsAreOrderly}
 
-below : (x : EndpointRow) (xs : List EndpointRow) → T (below_all pair_cmp (pair_of x) (keyed pair_cmp pair_of (λ row. row) xs)) → AllByRecursion (λ k. pair_cmp (pair_of x) k ≡ Less) (map pair_of xs)
-below x [] h = tt
-below x (y ∷ ys) h = (less _ (first _ _ h), below x ys (second _ _ h))
-
 rise : (xs : List EndpointRow) → IsRising xs → IsStrictlySortedBy pair_cmp (map pair_of xs)
-unfolding IsStrictlySortedBy
-rise [] h = tt
-rise (x ∷ xs) h = (below x xs (first _ _ h), rise xs (second _ _ h))
+rise = keys_rise pairs_total pairs_exact pair_of
 
 map_rises : (m : RowMap) → IsOwn m → IsStrictlySortedBy pair_cmp (map pair_of (values m))
 map_rises m own = rise (values m) (values_rise m own)
@@ -58,6 +49,8 @@ one_more shown (Remove ps) is = record {
 }
 one_more shown (NoEndpoints exists) is = record { rise = rise [] tt; absent = λ e. refl }
 one_more shown (WholeProfile view) is = tt
+one_more shown (WholeServer view) is = tt
+one_more shown (WholeOutbound view) is = tt
 
 folded_is : (shown : Option View) (messages : List Message) → IsOrderlyIfShown shown → IsOrderlyIfShown (folded_onto shown messages)
 folded_is shown [] is = is

@@ -40,6 +40,8 @@ impl Fold {
                 self.view = Some(View::Endpoints(EndpointView { exists, rows }));
             }
             Message::Profile(view) => self.view = Some(View::Profile(view)),
+            Message::Server(view) => self.view = Some(View::Server(view)),
+            Message::Outbound(view) => self.view = Some(View::Outbound(view)),
         }
         Ok(())
     }

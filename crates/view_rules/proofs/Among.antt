@@ -1,6 +1,6 @@
 -- The items of lists that are made of other lists.
-use Rattle.std.proofs.Common.{◌≡◌, ℕ, zero, suc, ◌<◌, ◌⊎◌, inl, inr, List, [], ◌∷◌, ◌++◌, map, get_or, length, Option, Some, None, refl, sym, ap, subst, ◌∙◌, arith}
-use Rattle.std.specs.List.{Contains, filter_map, cons_option, flat_map}
+use Rattle.std.proofs.Common.{◌≡◌, ℕ, zero, suc, ◌<◌, ◌⊎◌, inl, inr, Bool, true, false, cond, List, [], ◌∷◌, ◌++◌, map, get_or, length, Option, Some, None, refl, sym, ap, subst, ◌∙◌, arith}
+use Rattle.std.specs.List.{Contains, filter, filter_map, cons_option, flat_map}
 
 -- x is an item
 abbrev pub Among : {X : Type 0} → X → List X → Type 0
@@ -80,3 +80,21 @@ from_found h (z ∷ zs) y at = elim (from_cons (h z) (filter_map h zs) y at) [
   | inl is ↦ (z, inl refl, is)
   | inr r ↦ let rest = from_found h zs y r in (rest.0, inr rest.1, rest.2)
 ]
+
+-- ---- items that pass
+
+pub among_kept : {X : Type 0} (p : X → Bool) (xs : List X) (x : X) → Among x xs → p x ≡ true → Among x (filter p xs)
+among_kept p [] x h t = absurd h
+among_kept p (y ∷ ys) x h t =
+    elim (p y) as (λ b. p y ≡ b → Among x (cond b (y ∷ filter p ys) (filter p ys))) [
+      | true ↦ λ e. elim h [ inl is ↦ inl is | inr rest ↦ inr (among_kept p ys x rest t) ]
+      | false ↦ λ e. elim h [ inl is ↦ absurd (let no : false ≡ true = sym e ∙ ap p is ∙ t in cc no) | inr rest ↦ among_kept p ys x rest t ]
+    ] refl
+
+pub from_kept : {X : Type 0} (p : X → Bool) (xs : List X) (x : X) → Among x (filter p xs) → Among x xs × (p x ≡ true)
+from_kept p [] x h = absurd h
+from_kept p (y ∷ ys) x h =
+    elim (p y) as (λ b. p y ≡ b → Among x (cond b (y ∷ filter p ys) (filter p ys)) → Among x (y ∷ ys) × (p x ≡ true)) [
+      | true ↦ λ t h. elim h [ inl is ↦ (inl is, ap p (sym is) ∙ t) | inr rest ↦ let k = from_kept p ys x rest in (inr k.0, k.1) ]
+      | false ↦ λ t h. let k = from_kept p ys x h in (inr k.0, k.1)
+    ] refl h

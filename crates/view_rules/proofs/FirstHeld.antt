@@ -9,17 +9,13 @@ use Rattle.std.specs.declared.cmp.Ordering.TheVariants.{Less, Greater}
 use Rattle.k8s_meta.specs.declared.meta.Meta.{Meta}
 use Rattle.mesh_base.proofs.KeyOrder.{keys_total}
 use Rattle.mesh_base.specs.KeyOrder.{key_cmp}
-use Rattle.mesh_base.specs.declared.key.ObjKey.{ObjKey}
 use Rattle.view_types.specs.Objects.{AtKeys, ObjectMap, key_of}
 use Rattle.view_types.specs.declared.object.Object.{Object}
 use Rattle.view_rules.specs.Laws.{FindsLeast, IsLeastOf, name_cmp}
 use Rattle.view_rules.proofs.Among.{Among}
 use Rattle.view_rules.proofs.Entries.{below_at, entry_at, first, held_somewhere, second, stands}
 use Rattle.view_rules.proofs.Firsts.{passes}
-use Rattle.view_rules.proofs.Slices.{Fits, entries_fit}
-
-abbrev Entry : Type 0
-Entry = ObjKey × Object
+use Rattle.view_rules.proofs.FoundInOrder.{Entry, Fits, entries_fit}
 
 fits_at : (es : List Entry) (e : Entry) → Fits es → Among e es → key_of e.1 ≡ e.0
 fits_at [] e fits at = absurd at

@@ -86,15 +86,34 @@ module _ {X K : Type 0} {R : K → K → Ordering} (o : IsTotalOrder R) (same : 
   once_keyed : (xs : List X) → IsSorted by_key xs → IsKeyed R key (λ z. z) (dedup same_key xs)
   once_keyed xs sorted = strictly_keyed _ (IsStrictlySortedBy-dedup (on_total key o) (λ x y. refl) xs sorted)
 
-  module _ (make : K → X) (made : (k : K) → key (make k) ≡ k) where
-    found_sorted : (xs ys : List X) → IsStable by_key xs ys → (q : K) → find R q (keyed R key (λ z. z) ys) ≡ find R q (keyed R key (λ z. z) xs)
-    found_sorted xs ys stable q =
-        subst (λ k. find R k (keyed R key (λ z. z) ys) ≡ find R k (keyed R key (λ z. z) xs)) (made q)
-        (found_first (make q) ys ∙ ap first_of (stable (make q)) ∙ sym (found_first (make q) xs))
+  -- what is found at a key has that key
+  found_key : (q : K) (xs : List X) (x : X) → find R q (keyed R key (λ z. z) xs) ≡ Some x → q ≡ key x
+  found_key q [] x e = absurd (cc e)
+  found_key q (z ∷ zs) x e =
+      elim (eq_by_cmp R q (key z)) as (λ b. eq_by_cmp R q (key z) ≡ b → cond b (Some z) (find R q (keyed R key (λ z. z) zs)) ≡ Some x → q ≡ key x) [
+        | true ↦ λ t e. let is : z ≡ x = cc e in same q (key z) (equal _ t) ∙ ap key is
+        | false ↦ λ t e. found_key q zs x e
+      ] refl e
 
-    pub first_of_each : (xs ys : List X) → IsSorted by_key ys → IsStable by_key xs ys → dedup same_key ys ≡ fin.values (from_entries {R = R} (keyed R key (λ z. z) xs))
-    first_of_each xs ys sorted stable =
-        let keys = once_keyed ys sorted in
-        sym (items_are_values R key (dedup same_key ys) keys)
-        ∙ ap fin.values (same_map o same (keyed_map R key (λ z. z) (dedup same_key ys)) (from_entries (keyed R key (λ z. z) xs))
-        (λ q. get-from_sorted R _ q keys ∙ found_once ys q ∙ found_sorted xs ys stable q ∙ sym (get-from_entries o (keyed R key (λ z. z) xs) q)))
+  module _ (xs ys : List X) (stable : IsStable by_key xs ys) where
+    found_of : (x : X) (q : K) → q ≡ key x → find R q (keyed R key (λ z. z) ys) ≡ find R q (keyed R key (λ z. z) xs)
+    found_of x q e =
+        subst (λ k. find R k (keyed R key (λ z. z) ys) ≡ find R k (keyed R key (λ z. z) xs)) (sym e)
+        (found_first x ys ∙ ap first_of (stable x) ∙ sym (found_first x xs))
+
+    -- sorted or not, the same is found
+    found_sorted : (q : K) → find R q (keyed R key (λ z. z) ys) ≡ find R q (keyed R key (λ z. z) xs)
+    found_sorted q =
+        let after = find R q (keyed R key (λ z. z) ys) in
+        let before = find R q (keyed R key (λ z. z) xs) in
+        elim after as (λ found. after ≡ found → after ≡ before) [
+          | Some x ↦ λ e. found_of x q (found_key q ys x e)
+          | None ↦ λ e. elim before as (λ found. before ≡ found → after ≡ before) [ Some x ↦ λ t. found_of x q (found_key q xs x t) | None ↦ λ t. e ∙ sym t ] refl
+        ] refl
+
+  pub first_of_each : (xs ys : List X) → IsSorted by_key ys → IsStable by_key xs ys → dedup same_key ys ≡ fin.values (from_entries {R = R} (keyed R key (λ z. z) xs))
+  first_of_each xs ys sorted stable =
+      let keys = once_keyed ys sorted in
+      sym (items_are_values R key (dedup same_key ys) keys)
+      ∙ ap fin.values (same_map o same (keyed_map R key (λ z. z) (dedup same_key ys)) (from_entries (keyed R key (λ z. z) xs))
+      (λ q. get-from_sorted R _ q keys ∙ found_once ys q ∙ found_sorted xs ys stable q ∙ sym (get-from_entries o (keyed R key (λ z. z) xs) q)))

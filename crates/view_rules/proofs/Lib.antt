@@ -1,18 +1,27 @@
 pub mod Among
+pub mod Attached
+pub mod Backends
 pub mod ByAddress
 pub mod Entries
 mod FirstHeld
 pub mod FirstOfEach
 pub mod FirstRows
 mod Firsts
+mod FoundInOrder
 pub mod Given
+pub mod KeptOnce
 mod Least
 pub mod Orderly
 pub mod Pairs
 pub mod RowMaps
+pub mod SamePolicies
 pub mod SameProfile
 pub mod SameRequest
 pub mod SameResponse
 pub mod SameRow
+pub mod Selected
+pub mod ServersOfPorts
+pub mod ShownRows
 mod Slices
+pub mod Strings
 mod Tests

@@ -1,38 +1,21 @@
 -- Rows by their addresses and ports, as a map and as a list in order.
-use Rattle.std.proofs.Common.{◌≡◌, ℕ, Bool, true, false, cond, ◌&&◌, ◌||◌, List, [], ◌∷◌, ◌++◌, map, Option, Some, None, Ordering, refl, sym, ap, subst, ◌∙◌}
+use Rattle.std.proofs.Common.{◌≡◌, ℕ, Bool, true, false, cond, ◌||◌, List, [], ◌∷◌, ◌++◌, map, Option, Some, None, refl, sym, ap, subst, ◌∙◌}
 use lib.Dec.{T}
 use Rattle.std.specs.Cmp.{tied_itself}
 use Rattle.std.specs.FinMap.{empty, entries, entries_sorted, find, get, get-empty, get-entries, get-from_sorted, get-insert, get-remove, insert, is_sorted, remove, same_map, values}
 use Rattle.std.specs.FinMap.Entries.{below_all}
 use Rattle.std.specs.List.{AllByRecursion, list_any}
-use Rattle.std.specs.Ordering.{is_eq, is_lt, ordering_reverse}
-use Rattle.std.specs.declared.cmp.Ordering.TheVariants.{Less, Equal, Greater}
+use Rattle.std.specs.Ordering.{is_eq, ordering_reverse}
+use Rattle.std.specs.declared.cmp.Ordering.TheVariants.{Greater}
 use Rattle.mesh_base.proofs.Keyed.{items_are_values}
 use Rattle.mesh_base.specs.Keyed.{keyed, IsKeyed, keyed_map}
 use Rattle.net_cidr.specs.declared.ip.Ip.{Ip}
+use Rattle.view_rules.proofs.Entries.{equal, first, less, second}
 use Rattle.view_rules.proofs.Pairs.{pairs_exact, pairs_total}
 use Rattle.view_rules.specs.Batch.{has_pair, same_pair}
 use Rattle.view_rules.specs.Endpoints.{pair_cmp, pair_of}
 use Rattle.view_rules.specs.Fold.{RowMap, put_rows, row_map, take_out}
 use Rattle.view_types.specs.declared.endpoint.EndpointRow.{EndpointRow}
-
-pub first : (a b : Bool) → T (a && b) → T a
-first true b p = tt
-first false b p = p
-
-pub second : (a b : Bool) → T (a && b) → T b
-second true b p = p
-second false b p = absurd p
-
-pub less : (r : Ordering) → T (is_lt r) → r ≡ Less
-less Less p = refl
-less Equal p = absurd p
-less Greater p = absurd p
-
-pub equal : (r : Ordering) → is_eq r ≡ true → r ≡ Equal
-equal Less e = cc
-equal Equal e = refl
-equal Greater e = cc
 
 abbrev pub Pair : Type 0
 Pair = Ip × ℕ

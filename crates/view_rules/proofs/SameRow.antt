@@ -6,26 +6,21 @@ use Rattle.std.specs.Cmp.Lexicographic.{pointwise_decides, bytes_decides, slice_
 use Rattle.std.specs.FinMap.{FinMap, entries, same_entries_map}
 use Rattle.std.specs.Ordering.{eq_by_cmp, is_eq, nat_cmp}
 use Rattle.std.specs.Str.{bytes_eq}
-use Rattle.std.specs.declared.cmp.Ordering.{Ordering}
-use Rattle.std.specs.declared.cmp.Ordering.TheVariants.{Less, Equal, Greater}
+use Rattle.std.specs.declared.cmp.Ordering.TheVariants.{Equal}
 use Rattle.std.proofs.lemmas.Bool.Decides.{Decides-and, Decides-eqb, Decides-like}
 use Rattle.net_cidr.specs.Address.{ip_cmp}
 use Rattle.net_cidr.specs.declared.ip.Ip.{Ip}
+use Rattle.view_rules.proofs.Entries.{equal}
 use Rattle.view_rules.proofs.Pairs.{ips_exact, ips_total, pairs_total}
 use Rattle.view_rules.proofs.Tests.{option_decides}
 use Rattle.view_rules.specs.Same.{same_label, same_labels, same_row}
 use Rattle.view_rules.specs.Endpoints.{pair_cmp, pair_of}
 use Rattle.view_types.specs.declared.endpoint.EndpointRow.{EndpointRow}
 
-equal : (r : Ordering) → is_eq r ≡ true → r ≡ Equal
-equal Less e = cc
-equal Equal e = refl
-equal Greater e = cc
-
-ip_decides : (a b : Ip) → Decides (eq_by_cmp ip_cmp a b) (a ≡ b)
+pub ip_decides : (a b : Ip) → Decides (eq_by_cmp ip_cmp a b) (a ≡ b)
 ip_decides a b = (λ e. ips_exact a b (equal _ e), λ e. ap (λ c. is_eq (ip_cmp a c)) (sym e) ∙ ap is_eq (tied_itself ips_total a))
 
-label_decides : (l m : List ℕ × List ℕ) → Decides (same_label l m) (l ≡ m)
+pub label_decides : (l m : List ℕ × List ℕ) → Decides (same_label l m) (l ≡ m)
 label_decides l m = Decides-like (same_label l m) (λ (p : (l.0 ≡ m.0) × (l.1 ≡ m.1)) i. (p.0 i, p.1 i)) (λ e. (ap (λ l. l.0) e, ap (λ l. l.1) e)) (Decides-and (bytes_eq l.0 m.0) (bytes_eq l.1 m.1) (bytes_decides l.0 m.0) (bytes_decides l.1 m.1))
 
 labels_decide : (ls ms : FinMap (slice_cmp nat_cmp) (List ℕ)) → Decides (same_labels ls ms) (ls ≡ ms)

@@ -8,13 +8,16 @@ use Rattle.net_cidr.specs.declared.ip.Ip.{Ip}
 use Rattle.view_types.specs.declared.endpoint.EndpointRow.{EndpointRow}
 use Rattle.view_types.specs.declared.endpoint.EndpointView.{EndpointView}
 use Rattle.view_types.specs.declared.message.Message.{Message}
-use Rattle.view_types.specs.declared.message.Message.TheVariants.{Add, Remove, NoEndpoints, Profile as WholeProfile}
+use Rattle.view_types.specs.declared.message.Message.TheVariants.{Add, Remove, NoEndpoints, Profile as WholeProfile, Server as WholeServer, Outbound as WholeOutbound}
+use Rattle.view_types.specs.declared.outbound.OutboundView.{OutboundView}
 use Rattle.view_types.specs.declared.outbound.ProfileView.{ProfileView}
+use Rattle.view_types.specs.declared.server_view.ServerView.{ServerView}
 use Rattle.view_types.specs.declared.view.View.{View}
-use Rattle.view_types.specs.declared.view.View.TheVariants.{Endpoints, Profile}
+use Rattle.view_types.specs.declared.view.View.TheVariants.{Endpoints, Profile, Server, Outbound}
 use Rattle.view_rules.specs.Endpoints.{pair_cmp, pair_of}
 use Rattle.view_rules.specs.Fold.{IsOrderly}
 use Rattle.view_rules.specs.Same.{same_option, same_profile, same_row}
+use Rattle.view_rules.specs.SamePolicies.{same_outbound, same_server}
 
 -- ---- pieces
 
@@ -78,9 +81,9 @@ messages_to size old exists (r ∷ rs) = messages_to_rows size (rows_before old)
 abbrev pub endpoint_batch : Option EndpointView → EndpointView → Limits → List Message
 endpoint_batch old new limits = messages_to limits.frame_addrs old new.exists new.rows
 
--- a profile is sent whole, unless it was shown before as it is
-abbrev pub profile_batch : Option ProfileView → ProfileView → List Message
-profile_batch old new = if same_option same_profile old (Some new) then [] else WholeProfile new ∷ []
+-- a view that is sent whole, unless it was shown before as it is
+abbrev pub whole_batch : {X : Type 0} → (X → X → Bool) → (X → Message) → Option X → X → List Message
+whole_batch same message old new = if same_option same old (Some new) then [] else message new ∷ []
 
 -- ---- views
 
@@ -94,13 +97,19 @@ abbrev pub profile_in : Option View → Option ProfileView
 profile_in (Some (Profile view)) = Some view
 profile_in _ = None
 
--- from the old view of a query, or from none, to the new one; views of the other methods aren't sent yet
+-- the inbound view that a view is, if it is one
+abbrev pub server_in : Option View → Option ServerView
+server_in (Some (Server view)) = Some view
+server_in _ = None
+
+-- the outbound view that a view is, if it is one
+abbrev pub outbound_in : Option View → Option OutboundView
+outbound_in (Some (Outbound view)) = Some view
+outbound_in _ = None
+
+-- from the old view of a query, or from none, to the new one
 abbrev pub batch : Option View → View → Limits → List Message
 batch old (Endpoints new) limits = endpoint_batch (endpoints_in old) new limits
-batch old (Profile new) limits = profile_batch (profile_in old) new
-batch old _ limits = []
-
--- there may be no new view either
-abbrev pub messages_between : Limits → Option View → Option View → List Message
-messages_between limits old None = []
-messages_between limits old (Some new) = batch old new limits
+batch old (Profile new) limits = whole_batch same_profile WholeProfile (profile_in old) new
+batch old (Server new) limits = whole_batch same_server WholeServer (server_in old) new
+batch old (Outbound new) limits = whole_batch same_outbound WholeOutbound (outbound_in old) new

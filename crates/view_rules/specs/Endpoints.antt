@@ -2,9 +2,8 @@
 use Rattle.std.specs.Prelude.{◌&&◌, ◌==◌, ℕ, Bool, true, false, if◌then◌else◌, List, [], ◌∷◌, Option, Some, None, codes, find, filter_map, flat_map, option_map}
 use Rattle.std.specs.Ordering.{nat_cmp, ordering_then}
 use Rattle.std.specs.Str.{bytes_eq}
-use Rattle.std.specs.FinMap.{from_entries, get, values}
+use Rattle.std.specs.FinMap.{get, values}
 use Rattle.std.specs.declared.cmp.Ordering.{Ordering}
-use Rattle.mesh_base.specs.Keyed.{keyed}
 use Rattle.mesh_base.specs.declared.key.Kind.TheVariants as kind
 use Rattle.mesh_base.specs.declared.key.ObjKey.{ObjKey}
 use Rattle.net_cidr.specs.Address.{ip_cmp}
@@ -21,6 +20,7 @@ use Rattle.view_types.specs.declared.slice.Family.{Family}
 use Rattle.view_types.specs.declared.slice.Family.TheVariants.{V4, V6, Fqdn}
 use Rattle.view_types.specs.declared.endpoint.EndpointRow.{EndpointRow}
 use Rattle.view_types.specs.declared.endpoint.EndpointView.{EndpointView}
+use Rattle.view_rules.specs.InOrder.{in_order_by}
 use Rattle.view_rules.specs.PodRows.{row_for}
 
 -- where a Service is held
@@ -97,7 +97,7 @@ pair_of row = (row.ip, row.port)
 
 -- each pair of address and port once, in order, by the first row of the pair
 abbrev pub first_rows : List EndpointRow → List EndpointRow
-first_rows rows = values (from_entries {R = pair_cmp} (keyed pair_cmp pair_of (λ row. row) rows))
+first_rows rows = in_order_by pair_cmp pair_of rows
 
 -- the rows at the ports of a name
 abbrev pub rows_from : RowFor → List Slice → Option (List ℕ) → List EndpointRow

@@ -6,9 +6,9 @@ use Rattle.net_cidr.specs.declared.ip.Ip.{Ip}
 use Rattle.view_types.specs.declared.endpoint.EndpointRow.{EndpointRow}
 use Rattle.view_types.specs.declared.endpoint.EndpointView.{EndpointView}
 use Rattle.view_types.specs.declared.message.Message.{Message}
-use Rattle.view_types.specs.declared.message.Message.TheVariants.{Add, Remove, NoEndpoints, Profile as WholeProfile}
+use Rattle.view_types.specs.declared.message.Message.TheVariants.{Add, Remove, NoEndpoints, Profile as WholeProfile, Server as WholeServer, Outbound as WholeOutbound}
 use Rattle.view_types.specs.declared.view.View.{View}
-use Rattle.view_types.specs.declared.view.View.TheVariants.{Endpoints, Profile}
+use Rattle.view_types.specs.declared.view.View.TheVariants.{Endpoints, Profile, Server, Outbound}
 use Rattle.view_rules.specs.Endpoints.{no_endpoints, pair_cmp, pair_of}
 
 -- rows by their addresses and ports
@@ -46,6 +46,8 @@ shown_after shown (Add rows) = Endpoints (with_rows rows (seen shown))
 shown_after shown (Remove pairs) = Endpoints (without_pairs pairs (seen shown))
 shown_after shown (NoEndpoints exists) = Endpoints (record { exists = exists; rows = [] })
 shown_after shown (WholeProfile view) = Profile view
+shown_after shown (WholeServer view) = Server view
+shown_after shown (WholeOutbound view) = Outbound view
 
 abbrev pub folded_onto : Option View → List Message → Option View
 folded_onto view [] = view

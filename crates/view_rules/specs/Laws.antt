@@ -15,8 +15,10 @@ use Rattle.view_types.specs.Objects.{AtKeys, ObjectMap}
 use Rattle.view_types.specs.declared.config.Config.{Config}
 use Rattle.view_types.specs.declared.endpoint.EndpointRow.{EndpointRow}
 use Rattle.view_types.specs.declared.object.Object.TheVariants as object
+use Rattle.view_types.specs.declared.outbound.OutboundView.{OutboundView}
 use Rattle.view_types.specs.declared.outbound.ProfileView.{ProfileView}
 use Rattle.view_types.specs.declared.pod.Pod.{Pod}
+use Rattle.view_types.specs.declared.server_view.ServerView.{ServerView}
 use Rattle.view_types.specs.declared.service.NamedPort.{NamedPort}
 use Rattle.view_types.specs.declared.service.Service.{Service}
 use Rattle.view_types.specs.declared.slice.Point.{Point}
@@ -26,6 +28,7 @@ use Rattle.view_rules.specs.Fold.{IsOrderly}
 use Rattle.view_rules.specs.PodRows.{pod_key, row_for}
 use Rattle.view_rules.specs.Profiles.{has_ended, pod_at, service_at}
 use Rattle.view_rules.specs.Same.{same_profile, same_row}
+use Rattle.view_rules.specs.SamePolicies.{same_outbound, same_server}
 
 -- the name of the Service port of the number, where the Service has endpoints
 abbrev pub name_of_port : ℕ → Option Service → Option (List ℕ)
@@ -129,6 +132,12 @@ SameRowDecides = (r s : EndpointRow) → Decides (same_row r s) (r ≡ s)
 
 abbrev pub SameProfileDecides : Type 0
 SameProfileDecides = (v w : ProfileView) → Decides (same_profile v w) (v ≡ w)
+
+abbrev pub SameServerDecides : Type 0
+SameServerDecides = (v w : ServerView) → Decides (same_server v w) (v ≡ w)
+
+abbrev pub SameOutboundDecides : Type 0
+SameOutboundDecides = (v w : OutboundView) → Decides (same_outbound v w) (v ≡ w)
 
 -- ---- whose an address is
 

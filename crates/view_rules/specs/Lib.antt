@@ -1,8 +1,17 @@
 pub mod Batch
 pub mod Endpoints
 pub mod Fold
+pub mod InOrder
+pub mod Inbound
 pub mod Laws
+pub mod Outbound
 pub mod PodRows
+pub mod Policies
+pub mod PolicyLaws
 pub mod Profiles
+pub mod Routes
 pub mod Same
+pub mod SamePolicies
+pub mod Selects
+pub mod Servers
 pub mod Views

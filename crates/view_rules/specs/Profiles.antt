@@ -3,7 +3,7 @@
 use Rattle.std.specs.Prelude.{codes, ◌&&◌, ◌||◌, ℕ, Bool, false, if◌then◌else◌, List, [], Option, Some, None, find, not}
 use Rattle.std.specs.FinMap.{get, values}
 use Rattle.std.specs.List.{list_any}
-use Rattle.std.specs.Option.{option_or}
+use Rattle.std.specs.Option.{option_map, option_or}
 use Rattle.std.specs.Ordering.{eq_by_cmp}
 use Rattle.mesh_base.specs.declared.key.Kind.TheVariants as kind
 use Rattle.mesh_base.specs.declared.key.ObjKey.{ObjKey}
@@ -100,23 +100,20 @@ pod_at held ip = pod_found (find (is_pod_with ip) (values held))
 
 -- ---- the profile of a target
 
--- only whether a port is opaque by default is known of an address that nobody has
+-- the opaque ports of a Pod; the usual ones of an address that nobody has
+abbrev pub pod_ranges : Option Pod → List (ℕ × ℕ)
+pod_ranges None = ranges_from None
+pod_ranges (Some pod) = opaque_ranges pod.meta
+
+-- of an address that nobody has only that is known
 abbrev pub pod_profile : Config → Option Pod → Ip → ℕ → ProfileView
-pod_profile config None ip port =
+pod_profile config found ip port =
     record {
       fqn = [];
-      opaque = is_within (ranges_from None) port;
+      opaque = is_within (pod_ranges found) port;
       routes = [];
       overrides = [];
-      endpoint = None;
-    }
-pod_profile config (Some pod) ip port =
-    record {
-      fqn = [];
-      opaque = is_within (opaque_ranges pod.meta) port;
-      routes = [];
-      overrides = [];
-      endpoint = Some (row_of config (Some pod) ip port);
+      endpoint = option_map (λ pod. row_of config (Some pod) ip port) found;
     }
 
 -- the Service comes before a Pod

@@ -1,20 +1,23 @@
 -- What a subscriber of a query is to see.
-use Rattle.std.specs.Prelude.{Option, Some, None, option_and_then}
+use Rattle.std.specs.Prelude.{Option, option_map}
 use Rattle.view_types.specs.Objects.{ObjectMap}
 use Rattle.view_types.specs.declared.config.Config.{Config}
 use Rattle.view_types.specs.declared.query.Query.{Query}
-use Rattle.view_types.specs.declared.query.Query.TheVariants.{Get, Profile}
+use Rattle.view_types.specs.declared.query.Query.TheVariants.{Get, Profile, Port, Traffic}
 use Rattle.view_types.specs.declared.view.View.{View}
-use Rattle.view_types.specs.declared.view.View.TheVariants.{Endpoints, Profile as TargetProfile}
+use Rattle.view_types.specs.declared.view.View.TheVariants.{Endpoints, Profile as TargetProfile, Server, Outbound}
 use Rattle.view_rules.specs.Endpoints.{endpoints}
+use Rattle.view_rules.specs.Inbound.{inbound}
+use Rattle.view_rules.specs.Outbound.{outbound}
 use Rattle.view_rules.specs.Profiles.{profile}
 
--- the view of a query, where these objects are held; a query that can't be subscribed to yet has none
-abbrev pub view_of : Config → ObjectMap → Query → Option View
-view_of config held (Get ns name port ctx) = Some (Endpoints (endpoints config held ns name port))
-view_of config held (Profile target ctx) = Some (TargetProfile (profile config held target ctx.ns))
-view_of config held _ = None
+-- the view of a query, where these objects are held
+abbrev pub view_of : Config → ObjectMap → Query → View
+view_of config held (Get ns name port ctx) = Endpoints (endpoints config held ns name port)
+view_of config held (Profile target ctx) = TargetProfile (profile config held target ctx.ns)
+view_of config held (Port ns pod port) = Server (inbound config held ns pod port)
+view_of config held (Traffic target) = Outbound (outbound config held target)
 
 -- the view of a query where this was held, if there was a moment at which it was
 abbrev pub view_before : Config → Query → Option ObjectMap → Option View
-view_before config query before = option_and_then (λ held. view_of config held query) before
+view_before config query before = option_map (λ held. view_of config held query) before

@@ -1,4 +1,4 @@
-ghost use Rattle.view_rules.specs.Laws.{EndpointsAreOrderly, FirstRowsAreFirst, PairsAreGiven, PodsAreTheLeast, RowsAreOfTheLeast, SameProfileDecides, SameRowDecides, ServicesAreTheLeast, SlicesByName};
+ghost use Rattle.view_rules.specs.Laws.{EndpointsAreOrderly, FirstRowsAreFirst, PairsAreGiven, PodsAreTheLeast, RowsAreOfTheLeast, SameOutboundDecides, SameProfileDecides, SameRowDecides, SameServerDecides, ServicesAreTheLeast, SlicesByName};
 
 /// A pair of address and port stands in a view exactly where some place gives it.
 pub fn pairs_are_given()
@@ -41,4 +41,14 @@ pub fn same_row_decides()
 /// The test of two profiles is true exactly where they are equal.
 pub fn same_profile_decides()
     ensures { SameProfileDecides }
+{}
+
+/// The test of two inbound views is true exactly where they are equal.
+pub fn same_server_decides()
+    ensures { SameServerDecides }
+{}
+
+/// The test of two outbound views is true exactly where they are equal.
+pub fn same_outbound_decides()
+    ensures { SameOutboundDecides }
 {}

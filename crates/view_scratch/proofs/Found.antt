@@ -1,5 +1,5 @@
 -- Lists that are added up item by item.
-use Rattle.std.proofs.Common.{◌≡◌, ℕ, ◌+◌, ◌<◌, List, [], ◌∷◌, ◌++◌, Some, None, Option, get_or, length, option_to_list, refl, sym, ap, take, ◌∙◌, append-nil}
+use Rattle.std.proofs.Common.{◌≡◌, ℕ, ◌+◌, ◌<◌, List, [], ◌∷◌, ◌++◌, Some, None, Option, get_or, length, map, option_to_list, refl, sym, ap, take, ◌∙◌, append-nil}
 use Rattle.std.proofs.lemmas.List.{flat_map_more, take_more}
 use Rattle.std.specs.List.{filter_map, cons_option, flat_map}
 
@@ -18,3 +18,8 @@ pub flat_more : {X Y : Type 0} (f : X → List Y) (before rows new : List Y) (xs
 flat_more f before rows new xs i x lt at so_far adds =
     adds ∙ ap (λ ys. ys ++ f x) so_far ∙ flat_map_more f before (take i xs) x
     ∙ ap (λ ys. before ++ flat_map f ys) (ap (λ y. take i xs ++ y ∷ []) at ∙ sym (take_more xs i x lt))
+
+-- one function after another
+pub map_through : {X Y Z : Type 0} (f : Y → Z) (g : X → Y) (xs : List X) → map (λ x. f (g x)) xs ≡ map f (map g xs)
+map_through f g [] = refl
+map_through f g (x ∷ xs) = ap (λ zs. f (g x) ∷ zs) (map_through f g xs)

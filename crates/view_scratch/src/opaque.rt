@@ -2,13 +2,14 @@ ghost use Rattle.std.specs.Prelude.{◌≡◌, ◌&&◌, IfOk, nat_le, None};
 ghost use Rattle.std.specs.Option.{option_copied};
 ghost use Rattle.mesh_text.specs.Mesh.{opaque_ranges, ranges_from};
 ghost use Rattle.view_rules.specs.PodRows.{is_within};
-ghost use Rattle.view_rules.specs.Profiles.{service_ranges};
+ghost use Rattle.view_rules.specs.Profiles.{pod_ranges, service_ranges};
 
 use k8s_meta::meta::Meta;
 use k8s_meta::ports::Ports;
 use mesh_base::memory::Memory;
 use mesh_text::mesh::{opaque_ports, usual_ports};
 use std::alloc::Global;
+use view_types::pod::Pod;
 use view_types::service::Service;
 
 /// The port is opaque for the Pod or Service of this metadata.
@@ -36,6 +37,16 @@ pub(crate) fn is_opaque_for(
     match service {
         Some(service) if !service.external => is_opaque(alloc, &service.meta, port),
         _ => is_opaque_by_default(alloc, port),
+    }
+}
+
+/// The port is opaque for the Pod of an address, if one has it.
+pub(crate) fn is_opaque_at(alloc: Global, pod: Option<&Pod>, port: u16) -> Result<bool, Memory>
+    ensures { IfOk result (λ opaque. opaque ≡ is_within (pod_ranges (option_copied pod.entry)) port) }
+{
+    match pod {
+        Some(pod) => is_opaque(alloc, &pod.meta, port),
+        None => is_opaque_by_default(alloc, port),
     }
 }
 

@@ -7,14 +7,14 @@ use crate::opaque::{is_opaque, is_opaque_by_default, is_opaque_for};
 use crate::row::row_of;
 use crate::service::service_held;
 use mesh_base::copied::Copied;
-use mesh_base::key::{Kind, ObjKey};
+use mesh_base::key::Kind;
 use mesh_base::list::List;
 use mesh_base::memory::Memory;
-use mesh_base::steps::Steps;
 use mesh_base::text::Text;
 use mesh_text::mesh::full_name;
 use net_cidr::ip::Ip;
 use object_store::store::Store;
+use policy_rows::held::object_held;
 use std::alloc::Global;
 use view_types::config::Config;
 use view_types::object::Object;
@@ -106,13 +106,8 @@ fn profile_for<'a>(
 fn profile_held<'a>(store: &'a Store, ns: &Text, name: &Text) -> Result<Option<&'a Profile>, Memory>
     ensures { IfOk result (λ found. option_copied found ≡ profile_held store.now.objects ns.now name.now) }
 {
-    let key = ObjKey {
-        kind: Kind::ServiceProfile,
-        ns: ns.copy()?,
-        name: name.copy()?,
-    };
-    let mut steps = Steps::<()>::new();
-    Ok(profile_found(store.get(&key, &mut steps)))
+    let found = object_held(store, Kind::ServiceProfile, ns, name)?;
+    Ok(profile_found(found))
 }
 
 fn profile_found(found: Option<&Object>) -> Option<&Profile>

@@ -4,14 +4,14 @@ ghost use Rattle.std.specs.Option.{option_copied};
 ghost use Rattle.view_rules.specs.PodRows.{as_pod, bare_row, labelled_row, labels_of, meshed_row, pod_found, pod_held, pod_key, row_of};
 
 use crate::opaque::is_opaque;
-use mesh_base::key::{Kind, ObjKey};
+use mesh_base::key::Kind;
 use mesh_base::labels::Labels;
 use mesh_base::memory::Memory;
-use mesh_base::steps::Steps;
 use mesh_base::text::Text;
 use mesh_text::mesh::{identity_of, is_meshed};
 use net_cidr::ip::Ip;
 use object_store::store::Store;
+use policy_rows::held::object_held;
 use std::alloc::Global;
 use view_types::config::Config;
 use view_types::endpoint::EndpointRow;
@@ -31,16 +31,16 @@ pub(crate) fn pod_held<'a>(
     }
 }
 
-fn pod_named<'a>(store: &'a Store, ns: &Text, name: &Text) -> Result<Option<&'a Pod>, Memory>
+/// The Pod of the namespace and name, if it is held.
+pub(crate) fn pod_named<'a>(
+    store: &'a Store,
+    ns: &Text,
+    name: &Text,
+) -> Result<Option<&'a Pod>, Memory>
     ensures { IfOk result (λ pod. option_copied pod ≡ pod_found (get store.now.objects (pod_key ns.now name.now))) }
 {
-    let key = ObjKey {
-        kind: Kind::Pod,
-        ns: ns.copy()?,
-        name: name.copy()?,
-    };
-    let mut steps = Steps::<()>::new();
-    Ok(pod_found(store.get(&key, &mut steps)))
+    let found = object_held(store, Kind::Pod, ns, name)?;
+    Ok(pod_found(found))
 }
 
 pub(crate) fn pod_found(found: Option<&Object>) -> Option<&Pod>

@@ -2,11 +2,11 @@ ghost use Rattle.std.specs.Prelude.{◌≡◌, ◌&&◌, ◌==◌, IfOk, find, o
 ghost use Rattle.std.specs.Option.{option_copied};
 ghost use Rattle.view_rules.specs.Endpoints.{as_service, port_name, service_found, service_held};
 
-use mesh_base::key::{Kind, ObjKey};
+use mesh_base::key::Kind;
 use mesh_base::memory::Memory;
-use mesh_base::steps::Steps;
 use mesh_base::text::Text;
 use object_store::store::Store;
+use policy_rows::held::object_held;
 use view_types::object::Object;
 use view_types::service::{NamedPort, Service};
 
@@ -18,13 +18,8 @@ pub(crate) fn service_held<'a>(
 ) -> Result<Option<&'a Service>, Memory>
     ensures { IfOk result (λ service. option_copied service ≡ service_held store.now.objects ns.now name.now) }
 {
-    let key = ObjKey {
-        kind: Kind::Service,
-        ns: ns.copy()?,
-        name: name.copy()?,
-    };
-    let mut steps = Steps::<()>::new();
-    Ok(service_found(store.get(&key, &mut steps)))
+    let found = object_held(store, Kind::Service, ns, name)?;
+    Ok(service_found(found))
 }
 
 pub(crate) fn service_found(found: Option<&Object>) -> Option<&Service>

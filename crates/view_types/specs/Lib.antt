@@ -1,3 +1,4 @@
 pub mod Defaults
 pub mod Lawful
+pub mod Numbers
 pub mod Objects

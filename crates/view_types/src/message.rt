@@ -1,7 +1,8 @@
 ghost use Rattle.std.specs.Prelude.{◌≡◌, IfOk};
 
 use crate::endpoint::EndpointRow;
-use crate::outbound::ProfileView;
+use crate::outbound::{OutboundView, ProfileView};
+use crate::server_view::ServerView;
 use mesh_base::copied::Copied;
 use mesh_base::list::List;
 use mesh_base::memory::Memory;
@@ -19,6 +20,10 @@ pub enum Message {
     NoEndpoints(bool),
     /// The whole profile of a target.
     Profile(ProfileView),
+    /// The whole inbound view of a port of a Pod.
+    Server(ServerView),
+    /// The whole outbound view of a target.
+    Outbound(OutboundView),
 }
 
 impl Copied for Message {
@@ -28,6 +33,8 @@ impl Copied for Message {
             Message::Remove(list) => Ok(Message::Remove(list.copy(alloc)?)),
             Message::NoEndpoints(exists) => Ok(Message::NoEndpoints(*exists)),
             Message::Profile(view) => Ok(Message::Profile(view.copy(alloc)?)),
+            Message::Server(view) => Ok(Message::Server(view.copy(alloc)?)),
+            Message::Outbound(view) => Ok(Message::Outbound(view.copy(alloc)?)),
         }
     }
 }

@@ -29,7 +29,7 @@ use Rattle.view_types.specs.declared.query.Query.{Query}
 use Rattle.view_types.specs.declared.query.Query.TheVariants as queries
 use Rattle.watch_events.specs.Controls.{query_of}
 use Rattle.watch_events.specs.Lawful.{IsLawfulQuery, IsLawfulTarget}
-use Rattle.watch_events.specs.Queries.{get_at, profile_at, target_at}
+use Rattle.watch_events.specs.Queries.{get_at, port_at, profile_at, target_at, traffic_at}
 use Rattle.watch_events.specs.Reading.{of_query}
 
 same : {A : Type 0} (x y : A) → Some x ≡ Some y → x ≡ y
@@ -91,14 +91,14 @@ to_bracketed (address ∷ []) target e = absurd cc
 to_bracketed (address ∷ after ∷ []) target e = to_v6 (ip_of address) (port_after after) target (each_fits address) (after_within after) e
 to_bracketed (address ∷ after ∷ more ∷ rest) target e = absurd cc
 
-to_service : (domain host : List ℕ) (port : ℕ) (ps : List (List ℕ)) (target : Target) → service_target port (names_of domain host ps) ≡ Some target → IsLawfulTarget target
-to_service domain host port [] target e = absurd cc
-to_service domain host port (name ∷ []) target e = absurd cc
-to_service domain host port (name ∷ ns ∷ []) target e = absurd cc
-to_service domain host port (name ∷ ns ∷ zone ∷ more) target e = cases (is_dotless name) (is_dotless ns) refl refl (pointwise nat_eq host (full_name name ns domain)) e
+to_service : (domain host : List ℕ) (port : ℕ) (ps : List (List ℕ)) (target : Target) → port < 65536 → service_target port (names_of domain host ps) ≡ Some target → IsLawfulTarget target
+to_service domain host port [] target small e = absurd cc
+to_service domain host port (name ∷ []) target small e = absurd cc
+to_service domain host port (name ∷ ns ∷ []) target small e = absurd cc
+to_service domain host port (name ∷ ns ∷ zone ∷ more) target small e = cases (is_dotless name) (is_dotless ns) refl refl (pointwise nat_eq host (full_name name ns domain)) e
   where
     cases : (a b : Bool) → is_dotless name ≡ a → is_dotless ns ≡ b → (c : Bool) → service_target port (if a && b && c then Some (name, ns) else None) ≡ Some target → IsLawfulTarget target
-    cases true true name_is ns_is true e = subst IsLawfulTarget (same _ target e) (dotless_utf8 ns ns_is, dotless_utf8 name name_is)
+    cases true true name_is ns_is true e = subst IsLawfulTarget (same _ target e) (record { ns_text = dotless_utf8 ns ns_is; name_text = dotless_utf8 name name_is; small = small })
     cases true true name_is ns_is false e = absurd cc
     cases true false name_is ns_is c e = absurd cc
     cases false b name_is ns_is c e = absurd cc
@@ -106,8 +106,8 @@ to_service domain host port (name ∷ ns ∷ zone ∷ more) target e = cases (is
 to_host : (domain host : List ℕ) (port : ℕ) (address : Option Ip) (target : Target) → ((ip : Ip) → address ≡ Some ip → FitsIp ip) → port < 65536
     → host_target domain host port address ≡ Some target → IsLawfulTarget target
 to_host domain host port (Some (V4 n)) target fits small e = subst IsLawfulTarget (same _ target e) (fits (V4 n) refl, small)
-to_host domain host port (Some (V6 n)) target fits small e = to_service domain host port (pieces 46 host) target e
-to_host domain host port None target fits small e = to_service domain host port (pieces 46 host) target e
+to_host domain host port (Some (V6 n)) target fits small e = to_service domain host port (pieces 46 host) target small e
+to_host domain host port None target fits small e = to_service domain host port (pieces 46 host) target small e
 
 to_port : (domain host : List ℕ) (port : Option ℕ) (target : Target) → ((n : ℕ) → port ≡ Some n → n < 65536) → with_port domain host port ≡ Some target → IsLawfulTarget target
 to_port domain host None target small e = absurd cc
@@ -147,6 +147,16 @@ profile_gives config s =
     after IsLawfulQuery _ _ (λ target is. after IsLawfulQuery _ _ (λ ctx _. last IsLawfulQuery (queries.Profile target ctx)
     (required_gives IsLawfulTarget (target_at config) (target_gives config) (s · keys.Path) target is)))
 
+port_gives : GivesOnly IsLawfulQuery port_at
+unfolding port_at
+port_gives s = after IsLawfulQuery _ _ (λ pod _. after IsLawfulQuery _ _ (λ port _. last IsLawfulQuery (queries.Port pod.0 pod.1 port) tt))
+
+traffic_gives : (config : Config) → GivesOnly IsLawfulQuery (traffic_at config)
+unfolding traffic_at
+traffic_gives config s =
+    after IsLawfulQuery _ _ (λ target is. last IsLawfulQuery (queries.Traffic target)
+    (required_gives IsLawfulTarget (target_at config) (target_gives config) (s · keys.Path) target is))
+
 query_read : (r : Result Query ReadFault) (query : Query) → of_query r ≡ Ok query → r ≡ Ok query
 query_read (Ok x) query e = cc
 query_read (Err fault) query e = absurd cc
@@ -154,5 +164,5 @@ query_read (Err fault) query e = absurd cc
 pub query_gives : (config : Config) (method : Method) (s : Spot) (query : Query) → query_of config method s ≡ Ok query → IsLawfulQuery query
 query_gives config methods.Get s query e = get_gives config s query (query_read _ query e)
 query_gives config methods.GetProfile s query e = profile_gives config s query (query_read _ query e)
-query_gives config methods.WatchPort s query e = absurd cc
-query_gives config methods.Watch s query e = absurd cc
+query_gives config methods.WatchPort s query e = port_gives s query (query_read _ query e)
+query_gives config methods.Watch s query e = traffic_gives config s query (query_read _ query e)

@@ -8,7 +8,7 @@ use Rattle.view_types.specs.declared.config.Config.{Config}
 use Rattle.view_types.specs.declared.query.Method.{Method}
 use Rattle.view_types.specs.declared.query.Method.TheVariants as methods
 use Rattle.view_types.specs.declared.query.Query.{Query}
-use Rattle.watch_events.specs.Queries.{get_at, method_of, profile_at}
+use Rattle.watch_events.specs.Queries.{get_at, method_of, port_at, profile_at, traffic_at}
 use Rattle.watch_events.specs.Reading.{of_query, ◌>>=◌}
 use Rattle.watch_events.specs.declared.control.ControlWord.{ControlWord}
 use Rattle.watch_events.specs.declared.control.ControlWord.TheVariants as words
@@ -17,11 +17,11 @@ use Rattle.watch_events.specs.declared.line.Line.TheVariants as lines
 use Rattle.watch_events.specs.declared.line.LineFault.{LineFault}
 use Rattle.watch_events.specs.declared.line.LineFault.TheVariants as faults
 
--- The methods of policies aren't accepted yet.
 abbrev pub query_of : Config → Method → Spot → Result Query LineFault
 query_of config methods.Get q = of_query (get_at config q)
 query_of config methods.GetProfile q = of_query (profile_at config q)
-query_of config _ q = Err faults.NotBuilt
+query_of config methods.WatchPort q = of_query (port_at q)
+query_of config methods.Watch q = of_query (traffic_at config q)
 
 unfoldable pub subscription_of : Config → Spot → Result Line LineFault
 subscription_of config s = do

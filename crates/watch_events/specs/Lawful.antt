@@ -34,14 +34,21 @@ IsLawfulEvent (Delete key) = Unit {0}
 IsLawfulEvent (Relist kind items) = IsListOf kind items × AllByRecursion IsLawful items
 IsLawfulEvent Bookmark = Unit {0}
 
--- The names of a Service are in UTF-8, and an address and its port are within their types.
+-- a Service and a port of it: its names are in UTF-8, and the port is within its type
+pub record IsLawfulServicePort (ns name : List ℕ) (port : ℕ) : Type 0 where
+  pub ns_text : IsUtf8 ns
+  pub name_text : IsUtf8 name
+  pub small : port < 65536
+
+-- An address, too, is within its type.
 abbrev pub IsLawfulTarget : Target → Type 0
-IsLawfulTarget (targets.Service ns name port) = IsUtf8 ns × IsUtf8 name
+IsLawfulTarget (targets.Service ns name port) = IsLawfulServicePort ns name port
 IsLawfulTarget (targets.Address ip port) = FitsIp ip × (port < 65536)
 
--- what of a query stands in messages
+-- What of a query stands in messages. That is nothing of a Pod's port, whose messages tell its Server.
 abbrev pub IsLawfulQuery : Query → Type 0
 IsLawfulQuery (queries.Profile target ctx) = IsLawfulTarget target
+IsLawfulQuery (queries.Traffic target) = IsLawfulTarget target
 IsLawfulQuery _ = Unit {0}
 
 abbrev pub IsLawfulLine : Line → Type 0

@@ -1,5 +1,6 @@
 -- The members of a subscription's query.
 use Rattle.std.specs.Prelude.{ℕ, List, Option, Some, None, Result, Ok, bytes_eq, codes, option_and_then, if◌then◌else◌}
+use Rattle.k8s_meta.specs.Scalars.{number}
 use Rattle.k8s_meta.specs.Spots.{Spot, ◌·◌, ◌>>=◌}
 use Rattle.k8s_meta.specs.Words.{default, required, text, valid}
 use Rattle.k8s_meta.specs.declared.fault.ReadFault.{ReadFault}
@@ -7,6 +8,7 @@ use Rattle.k8s_meta.specs.declared.fault.What.TheVariants as what
 use Rattle.k8s_meta.specs.declared.key.Key.TheVariants as keys
 use Rattle.mesh_text.specs.Contexts.{context_of}
 use Rattle.mesh_text.specs.Targets.{target_of}
+use Rattle.mesh_text.specs.Workloads.{workload_of}
 use Rattle.view_types.specs.declared.config.Config.{Config}
 use Rattle.view_types.specs.declared.query.Context.{Context}
 use Rattle.view_types.specs.declared.query.Method.{Method}
@@ -17,7 +19,8 @@ use Rattle.view_types.specs.declared.query.Target.{Target}
 use Rattle.view_types.specs.declared.query.Target.TheVariants.{Service, Address}
 use Rattle.watch_events.specs.declared.query.ServicePort.{ServicePort}
 
-abbrev pub method_of : List ℕ → Option Method
+-- the words for methods
+unfoldable pub method_of : List ℕ → Option Method
 method_of t =
     if bytes_eq t (codes "Get") then Some methods.Get else
     if bytes_eq t (codes "GetProfile") then Some methods.GetProfile else
@@ -36,6 +39,10 @@ target_at config s = text s >>= λ t. valid s.at what.Choice (target_of config t
 -- a target that is a port of a Service
 unfoldable pub service_port_at : Config → Spot → Result ServicePort ReadFault
 service_port_at config s = text s >>= λ t. valid s.at what.Choice (option_and_then service_port (target_of config t))
+
+-- the namespace and the name of a Pod
+unfoldable pub workload_at : Spot → Result (List ℕ × List ℕ) ReadFault
+workload_at s = text s >>= λ t. valid s.at what.Choice (workload_of t)
 
 unfoldable pub context_at : Spot → Result Context ReadFault
 context_at s = text s >>= λ t. Ok (context_of t)
@@ -56,3 +63,16 @@ profile_at config q = do
   target ← required (target_at config) (q · keys.Path)
   ctx ← default no_context context_at (q · keys.Token)
   Ok (queries.Profile target ctx)
+
+-- what holds for a port of a Pod
+unfoldable pub port_at : Spot → Result Query ReadFault
+port_at q = do
+  pod ← required workload_at (q · keys.Workload)
+  port ← required (number 1 65535) (q · keys.Port)
+  Ok (queries.Port pod.0 pod.1 port)
+
+-- where traffic to a target goes
+unfoldable pub traffic_at : Config → Spot → Result Query ReadFault
+traffic_at config q = do
+  target ← required (target_at config) (q · keys.Path)
+  Ok (queries.Traffic target)

@@ -12,7 +12,8 @@ ghost use Rattle.watch_events.specs.declared.line.LineFault.TheVariants.{BadQuer
 
 use crate::fault::query_fault;
 use crate::line::{Line, LineFault};
-use crate::query::{MethodWord, read_get, read_profile};
+use crate::method::MethodWord;
+use crate::query::{read_get, read_port, read_profile, read_traffic};
 use k8s_meta::choice::Choice;
 use k8s_meta::key::Key;
 use k8s_meta::place::Place;
@@ -87,7 +88,8 @@ fn read_query<'a>(config: &Config, method: Method, query: &'a Place<'a>) -> Resu
     let read = match method {
         Method::Get => read_get(config, query),
         Method::GetProfile => read_profile(config, query),
-        _ => return Err(LineFault::NotBuilt),
+        Method::WatchPort => read_port(query),
+        Method::Watch => read_traffic(config, query),
     };
     match read {
         Ok(query) => Ok(query),

@@ -15,6 +15,7 @@ pub mod laws;
 pub mod line;
 mod line_text;
 mod list;
+pub mod method;
 mod object;
 mod query;
 pub mod read;

@@ -3,44 +3,22 @@ ghost use Rattle.k8s_meta.specs.Spots.{Reads, ◌·◌, seen};
 ghost use Rattle.k8s_meta.specs.Words.{default};
 ghost use Rattle.k8s_meta.specs.declared.key.Key.TheVariants as keys;
 ghost use Rattle.mesh_text.specs.Targets.{target_of};
-ghost use Rattle.watch_events.specs.Queries.{context_at, get_at, method_of, no_context, profile_at, service_port, service_port_at, target_at};
+ghost use Rattle.mesh_text.specs.Workloads.{workload_of};
+ghost use Rattle.watch_events.specs.Queries.{context_at, get_at, no_context, port_at, profile_at, service_port, service_port_at, target_at, traffic_at, workload_at};
 
-use k8s_meta::choice::Word;
 use k8s_meta::fault::{ReadFault, What};
 use k8s_meta::key::Key;
 use k8s_meta::place::Place;
 use k8s_meta::reader::Reader;
+use k8s_meta::words::PORT;
 use mesh_base::memory::Memory;
 use mesh_base::text::Text;
 use mesh_text::target_text::{TargetFault, read_target};
 use mesh_text::token::read_context;
+use mesh_text::workload_text::read_workload;
 use std::alloc::Global;
 use view_types::config::Config;
-use view_types::query::{Context, Method, Query, Target};
-
-/// The words for methods.
-#[derive(Clone, Copy)]
-pub struct MethodWord;
-
-impl Word for MethodWord {
-    type Meaning = Method;
-
-    ghost meaning = { λ _. method_of };
-
-    fn meaning_of(&self, text: &str) -> Option<Method> {
-        if text == "Get" {
-            Some(Method::Get)
-        } else if text == "GetProfile" {
-            Some(Method::GetProfile)
-        } else if text == "WatchPort" {
-            Some(Method::WatchPort)
-        } else if text == "Watch" {
-            Some(Method::Watch)
-        } else {
-            None
-        }
-    }
-}
+use view_types::query::{Context, Query, Target};
 
 /// A port of a Service.
 #[derive(Drop)]
@@ -56,6 +34,17 @@ fn target_of(alloc: Global, config: &Config, text: &str) -> Result<Option<Target
 {
     match read_target(alloc, text.as_bytes(), config) {
         Ok(target) => Ok(Some(target)),
+        Err(TargetFault::Bad) => Ok(None),
+        Err(TargetFault::Memory) => Err(Memory),
+    }
+}
+
+/// The namespace and the name of the Pod that a string names, if it is a workload.
+fn workload_of(alloc: Global, text: &str) -> Result<Option<(Text, Text)>, Memory>
+    ensures { IfOk result (λ pod. pod ≡ workload_of text.now) }
+{
+    match read_workload(alloc, text.as_bytes()) {
+        Ok(pod) => Ok(Some(pod)),
         Err(TargetFault::Bad) => Ok(None),
         Err(TargetFault::Memory) => Err(Memory),
     }
@@ -104,6 +93,22 @@ impl Reader for ServiceTarget<'_> {
         let text = place.text()?;
         let target = target_of(place.alloc(), self.config, text)?;
         place.valid(What::Choice, service_port(target))
+    }
+}
+
+/// A Pod.
+#[derive(Clone, Copy)]
+struct Workload;
+
+impl Reader for Workload {
+    type Made = (Text, Text);
+
+    ghost reading = { λ _. workload_at };
+
+    #[tactic(auto, unfolding(k8s_meta::specs::Spots::then, crate::specs::Queries::workload_at))]
+    fn read<'a>(&self, place: &'a Place<'a>) -> Result<(Text, Text), ReadFault> {
+        let text = place.text()?;
+        place.valid(What::Choice, workload_of(place.alloc(), text)?)
     }
 }
 
@@ -157,4 +162,23 @@ pub fn read_get<'a>(config: &Config, query: &'a Place<'a>) -> Result<Query, Read
         port: target.port,
         ctx,
     })
+}
+
+/// What holds for a port of a Pod, as a query asks for it.
+#[tactic(auto, unfolding(k8s_meta::specs::Spots::then, crate::specs::Queries::port_at))]
+pub fn read_port<'a>(query: &'a Place<'a>) -> Result<Query, ReadFault>
+    ensures { Reads result (port_at (seen query.now)) }
+{
+    let (ns, pod) = query.required(Key::Workload, &Workload)?;
+    let port = query.required(Key::Port, &PORT)?;
+    Ok(Query::Port { ns, pod, port })
+}
+
+/// Where traffic to a target goes, as a query asks for it.
+#[tactic(auto, unfolding(k8s_meta::specs::Spots::then, crate::specs::Queries::traffic_at))]
+pub fn read_traffic<'a>(config: &Config, query: &'a Place<'a>) -> Result<Query, ReadFault>
+    ensures { Reads result (traffic_at config.now (seen query.now)) }
+{
+    let target = query.required(Key::Path, &AnyTarget { config })?;
+    Ok(Query::Traffic { target })
 }

@@ -1,7 +1,9 @@
 mod cases;
 mod drains;
 mod folds;
+mod inbound;
 mod lines;
+mod outbound;
 mod pods;
 mod profiles;
 mod rows;

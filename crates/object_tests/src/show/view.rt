@@ -2,7 +2,6 @@ use super::{Page, Show};
 use object_store::change::Change;
 use view_types::endpoint::{EndpointRow, EndpointView};
 use view_types::message::Message;
-use view_types::outbound::ProfileView;
 
 impl Show for EndpointRow {
     fn show(&self, page: &mut Page) {
@@ -23,23 +22,13 @@ impl Show for EndpointView {
     }
 }
 
-impl Show for ProfileView {
-    fn show(&self, page: &mut Page) {
-        page.first("fqn", &self.fqn);
-        page.next("opaque", &self.opaque);
-        page.next("routes", &self.routes);
-        page.next("overrides", &self.overrides);
-        page.last("endpoint", &self.endpoint);
-    }
-}
-
 impl Show for Message {
     fn show(&self, page: &mut Page) {
         match self {
             Message::Add(rows) => page.variant("Add", rows),
             Message::Remove(pairs) => page.variant("Remove", pairs),
             Message::NoEndpoints(exists) => page.variant("NoEndpoints", exists),
-            Message::Profile(view) => page.variant("Profile", view),
+            _ => page.put("a whole view"),
         }
     }
 }

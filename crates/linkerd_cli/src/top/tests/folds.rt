@@ -29,7 +29,25 @@ GetProfile, two profiles: frame 1 000000000520012a0161|frame 1 00000000032a0162 
 GetProfile, the empty profile: frame 1 0000000000 => view 1 0000000000
 GetProfile, a route without a condition: frame 1 00000000080a000a001a020a00 => refused 1 Absent 1
 GetProfile, a name that isn't UTF-8: frame 1 00000000032a01ff => refused 1 NotUtf8 5
-GetProfile, an endpoint without an address: frame 1 00000000023200 => refused 1 Absent 1";
+GetProfile, an endpoint without an address: frame 1 00000000023200 => refused 1 Absent 1
+WatchPort, a Server: frame 1 0000000009080110051a03776562 => view 1 0000000009080110051a03776562
+WatchPort, the last message is the view: frame 1 0000000009080110051a03776562|frame 1 000000000408011001|frame 1 0000000000 => view 1 0000000000
+WatchPort, a Server after none: frame 1 0000000000|frame 1 0000000009080110051a03776562 => view 1 0000000009080110051a03776562
+WatchPort, the empty message alone: frame 1 0000000000 => view 1 0000000000
+WatchPort, fields in another order: frame 1 00000000091a0377656210050801 => view 1 0000000009080110051a03776562
+WatchPort, a message without a protocol: frame 1 0000000009080110051a03776562|frame 1 000000000710051a03776562 => view 1 0000000000
+WatchPort, a message without a policy: frame 1 0000000009080110051a03776562|frame 1 00000000020801|frame 1 000000000408011001 => refused 2 Range 2
+WatchPort, an unknown protocol: frame 1 000000000408071001 => refused 1 Range 1
+WatchPort, a network with host bits, and an empty name: frame 1 000000001b08011005221508011a0b0a090a050d0302010a1008120022020a00 => view 1 000000001908011005221308011a0b0a090a050d0000000a100822020a00
+WatchPort, no frame of the id: frame 2 0000000000|verdict 3 not-found|refused 4 Pattern app/r1 0 0|oversize 1 9 => nothing
+WatchPort, verdicts between the frames: frame 1 000000000408011001|verdict 3 allowed default deny|frame 1 0000000009080110051a03776562|verdict 5 no-workload => view 1 0000000009080110051a03776562
+WatchPort, no bytes at all: frame 1  => refused 1 NotLine
+Watch, absent: frame 1 00000000020a00 => view 1 00000000020a00
+Watch, the last message is the view of Watch: frame 1 00000000020a00|frame 1 000000000e120c0a0361707012037765621850|frame 1 0000000010120e0a03617070120377656218502001|frame 1 00000000121a100a0e0a090a050d0909090a105018904e|frame 1 000000000e120c0a0361707012037765621850 => view 1 000000000e120c0a0361707012037765621850
+Watch, an address: frame 1 00000000121a100a0e0a090a050d0909090a105018904e => view 1 00000000121a100a0e0a090a050d0909090a105018904e
+Watch, the empty message is none of Watch: frame 1 000000000e120c0a0361707012037765621850|frame 1 0000000000 => refused 2 NoChoice
+Watch, a message of WatchPort: frame 1 000000000408011001 => refused 1 WrongWire 1
+Watch, a message of Get is no address to forward to: frame 1 00000000041a020801 => refused 1 WrongWire 1";
 
 // Lines, and why each is refused.
 const REFUSED: &str = " => NotLine
@@ -109,7 +127,10 @@ line=9 message=2 addrs=1 | Get, a long line of another id: frame 2 zz => refused
 line=99 message=36 addrs=2 | Get, a message of the greatest length: frame 1 00000000240a220a0f0a0a0a050d0302010a10903f18904e0a0f0a0a0a050d0402010a10903f18904e => view 1 00000000240a220a0f0a0a0a050d0302010a10903f18904e0a0f0a0a0a050d0402010a10903f18904e
 line=99 message=35 addrs=2 | Get, a message that is longer by a byte: frame 1 00000000240a220a0f0a0a0a050d0302010a10903f18904e0a0f0a0a0a050d0402010a10903f18904e => oversize 1 36
 line=99 message=19 addrs=1 | Get, two messages: frame 1 00000000240a220a0f0a0a0a050d0302010a10903f18904e0a0f0a0a0a050d0402010a10903f18904e => view 1 00000000130a110a0f0a0a0a050d0302010a10903f18904e|view 1 00000000130a110a0f0a0a0a050d0402010a10903f18904e
-line=99 message=18 addrs=1 | Get, two messages that are longer by a byte: frame 1 00000000240a220a0f0a0a0a050d0302010a10903f18904e0a0f0a0a0a050d0402010a10903f18904e => oversize 1 19";
+line=99 message=18 addrs=1 | Get, two messages that are longer by a byte: frame 1 00000000240a220a0f0a0a0a050d0302010a10903f18904e0a0f0a0a0a050d0402010a10903f18904e => oversize 1 19
+message=9 | WatchPort, a view of the greatest length: frame 1 0000000009080110051a03776562 => view 1 0000000009080110051a03776562
+message=8 | WatchPort, a view that is longer by a byte: frame 1 000000000408011001|frame 1 0000000009080110051a03776562 => oversize 1 9
+message=2 | Watch, a longer message before the last one: frame 1 0000000010120e0a03617070120377656218502001|frame 1 00000000020a00 => view 1 00000000020a00";
 
 // The parts of a line as lines of their own.
 fn as_lines(alloc: Global, parts: &str) -> Result<String, Fail> {
@@ -196,8 +217,9 @@ fold --id  --method Get => usage
 fold --id +1 --method Get => usage
 fold --id x --method Get => usage
 fold --id 1 --method get => usage
-fold --id 1 --method WatchPort => usage
-fold --id 1 --method Watch => usage
+fold --id 7 --method WatchPort => nothing
+fold --id 7 --method Watch => nothing
+fold --id 1 --method watch => usage
 fold --id=1 --method=Get => usage
 fold --method Get --id 1 => usage
 fold --id 1 --method => usage

@@ -1,5 +1,5 @@
-use Rattle.std.proofs.Common.{Some, sym, ap, subst, ◌∙◌}
-use Rattle.view_types.specs.declared.view.View.TheVariants.{Endpoints, Profile}
+use Rattle.std.proofs.Common.{sym, ap, subst, ◌∙◌}
+use Rattle.view_types.specs.declared.view.View.TheVariants.{Endpoints, Profile, Server, Outbound}
 use Rattle.view_rules.proofs.Orderly.{endpoints_are_orderly}
 use Rattle.view_rules.specs.Fold.{IsOrderly}
 use Rattle.view_rules.specs.Views.{view_of}
@@ -7,11 +7,19 @@ use Rattle.view_scratch.proofs.scratch.scratch.Goals as goal
 
 pub returns-in_ok-view-in-Get-clause-value : goal.returns-in_ok-view-in-Get-clause-value
 returns-in_ok-view-in-Get-clause-value c =
-    ap (λ view. Some (Endpoints view)) c.in_ok-view-in-Get.ensures ∙ ap (view_of c.args.config.now c.args.store.now.objects) (sym c.in-Get.is)
+    ap Endpoints c.in_ok-view-in-Get.ensures ∙ ap (view_of c.args.config.now c.args.store.now.objects) (sym c.in-Get.is)
 
 pub returns-in_ok-view-in-Get-clause-orderly : goal.returns-in_ok-view-in-Get-clause-orderly
 returns-in_ok-view-in-Get-clause-orderly c = subst IsOrderly (sym c.in_ok-view-in-Get.ensures) (endpoints_are_orderly c.args.config.now _ _ _ _)
 
 pub returns-in_ok-view-in-Profile-clause-value : goal.returns-in_ok-view-in-Profile-clause-value
 returns-in_ok-view-in-Profile-clause-value c =
-    ap (λ view. Some (Profile view)) c.in_ok-view-in-Profile.ensures ∙ ap (view_of c.args.config.now c.args.store.now.objects) (sym c.in-Profile.is)
+    ap Profile c.in_ok-view-in-Profile.ensures ∙ ap (view_of c.args.config.now c.args.store.now.objects) (sym c.in-Profile.is)
+
+pub returns-in_ok-view-in-Port-clause-value : goal.returns-in_ok-view-in-Port-clause-value
+returns-in_ok-view-in-Port-clause-value c =
+    ap Server c.in_ok-view-in-Port.ensures ∙ ap (view_of c.args.config.now c.args.store.now.objects) (sym c.in-Port.is)
+
+pub returns-in_ok-view-in-Traffic-clause-value : goal.returns-in_ok-view-in-Traffic-clause-value
+returns-in_ok-view-in-Traffic-clause-value c =
+    ap Outbound c.in_ok-view-in-Traffic.ensures ∙ ap (view_of c.args.config.now c.args.store.now.objects) (sym c.in-Traffic.is)

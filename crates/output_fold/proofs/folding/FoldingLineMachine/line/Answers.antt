@@ -9,7 +9,6 @@ use Rattle.output_fold.proofs.folding.FoldingLineMachine.line.Goals as goal
 pub invariant_of-self : goal.invariant_of-self
 invariant_of-self c =
     let old = c.args.self.now in record {
-      of_destinations = old.of_destinations;
       some_addresses = old.some_addresses;
       orderly = taken_is c.take.result old.fold c.take.new.self c.in-Ok-Some.message c.take.ensures.ok c.take.ensures.err old.orderly;
     }

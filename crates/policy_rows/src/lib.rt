@@ -1,0 +1,18 @@
+//! What a view shows of the policies and routes that are held: rows of authorizations, the Server of a port, the routes that
+//! are attached to a Server or a Service, in order, and a route's row.
+//!
+//! Stands on view_rules and object_store. The contracts cite `Servers`, `Policies` and `Routes` of view_rules over the
+//! objects of the store, and every way of finding those objects shares the rows.
+#![tactic(auto)]
+
+mod clients;
+pub mod held;
+mod in_order;
+pub mod parent;
+mod refs;
+pub mod route_row;
+pub mod routes;
+pub mod rows;
+mod selects;
+pub mod server;
+pub mod subject;

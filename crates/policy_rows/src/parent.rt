@@ -1,0 +1,64 @@
+ghost use Rattle.std.specs.Prelude.{◌≡◌, ◌&&◌, Bool, not};
+ghost use Rattle.std.specs.Str.{bytes_eq};
+ghost use Rattle.view_types.specs.declared.route.Parent.{Parent as Written};
+ghost use Rattle.view_rules.specs.Routes.{is_port_or_none, is_server, is_server_parent, is_service_parent};
+
+use mesh_base::text::Text;
+use view_types::route::{Parent, ParentKind};
+
+/// What routes are attached to: it tells whether a parent of a route is that.
+pub trait Attachment {
+    ghost is_parent: { Self → Written → Bool };
+
+    fn is_parent(&self, parent: &Parent) -> bool
+        ensures { result ≡ is_parent self.now parent.now };
+}
+
+/// The Server of a name.
+#[derive(Clone, Copy)]
+pub struct ServerNamed<'a> {
+    pub name: &'a Text,
+}
+
+/// The Service of a name, at a port.
+#[derive(Clone, Copy)]
+pub struct ServiceAt<'a> {
+    pub name: &'a Text,
+    pub port: u16,
+}
+
+impl<'a> Attachment for ServerNamed<'a> {
+    ghost is_parent = { λ server. is_server_parent server.name.now };
+
+    fn is_parent(&self, parent: &Parent) -> bool {
+        is_server(parent.kind) && parent.name == *self.name
+    }
+}
+
+impl<'a> Attachment for ServiceAt<'a> {
+    ghost is_parent = { λ service. is_service_parent service.name.now service.port };
+
+    fn is_parent(&self, parent: &Parent) -> bool {
+        !is_server(parent.kind)
+            && parent.name == *self.name
+            && is_port_or_none(self.port, parent.port)
+    }
+}
+
+fn is_server(kind: ParentKind) -> bool
+    ensures { result ≡ is_server kind }
+{
+    match kind {
+        ParentKind::Server => true,
+        ParentKind::Service => false,
+    }
+}
+
+fn is_port_or_none(port: u16, asked: Option<u16>) -> bool
+    ensures { result ≡ is_port_or_none port asked }
+{
+    match asked {
+        Some(asked) => asked == port,
+        None => true,
+    }
+}

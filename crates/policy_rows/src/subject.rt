@@ -1,0 +1,111 @@
+ghost use Rattle.std.specs.Prelude.{◌≡◌, Bool, IfOk};
+ghost use Rattle.view_types.specs.Objects.{ObjectMap};
+ghost use Rattle.view_types.specs.declared.object.Object.{Object as Held};
+ghost use Rattle.view_rules.specs.Policies.{applies_to_route, applies_to_server, authorizes, is_on_route, is_on_server, is_route_kind, names_server, policy_applies};
+
+use crate::refs::{is_complete, ns_of};
+use crate::selects::selects;
+use mesh_base::key::{Kind, ObjKey};
+use mesh_base::memory::Memory;
+use mesh_base::text::Text;
+use object_store::store::Store;
+use view_types::authn::{AuthzPolicy, RefKind, ServerAuthz, ServerRef};
+use view_types::object::Object;
+use view_types::server::ServerSpec;
+
+/// What authorizations apply to: a Server, or the route of a key.
+pub trait Subject {
+    /// An object applies to it.
+    ghost applies: { ObjectMap → Self → Held → Bool };
+
+    fn applies(&self, store: &Store, object: &Object) -> Result<bool, Memory>
+        ensures { IfOk result (λ does. does ≡ applies store.now.objects self.now object.now) };
+}
+
+impl Subject for ServerSpec {
+    ghost applies = { applies_to_server };
+
+    fn applies(&self, store: &Store, object: &Object) -> Result<bool, Memory> {
+        match object {
+            Object::ServerAuthorization(authz) => Ok(authorizes(authz.get(), self)),
+            Object::AuthorizationPolicy(policy) => {
+                let target = &policy.get().target;
+                let is_target = is_on_server(self, target.kind, &target.name);
+                policy_applies(store, &self.meta.ns, is_target, policy.get())
+            }
+            _ => Ok(false),
+        }
+    }
+}
+
+impl Subject for ObjKey {
+    ghost applies = { applies_to_route };
+
+    fn applies(&self, store: &Store, object: &Object) -> Result<bool, Memory> {
+        match object {
+            Object::AuthorizationPolicy(policy) => {
+                let target = &policy.get().target;
+                let is_target = is_on_route(self, target.kind, &target.name);
+                policy_applies(store, &self.ns, is_target, policy.get())
+            }
+            _ => Ok(false),
+        }
+    }
+}
+
+/// The policy and its target are in the namespace, the target is what is asked for, and the policy is complete.
+fn policy_applies(
+    store: &Store,
+    ns: &Text,
+    is_target: bool,
+    policy: &AuthzPolicy,
+) -> Result<bool, Memory>
+    ensures { IfOk result (λ applies. applies ≡ policy_applies store.now.objects ns.now (λ kind name. is_target) policy.now) }
+{
+    let own = &policy.meta.ns;
+    if *own == *ns && *ns_of(own, &policy.target) == *ns && is_target {
+        return is_complete(store, policy);
+    }
+    Ok(false)
+}
+
+fn is_on_server(server: &ServerSpec, kind: RefKind, name: &Text) -> bool
+    ensures { result ≡ is_on_server server.now kind name.now }
+{
+    match kind {
+        RefKind::Server => *name == server.meta.name,
+        RefKind::Namespace => *name == server.meta.ns,
+        _ => false,
+    }
+}
+
+fn is_on_route(route: &ObjKey, kind: RefKind, name: &Text) -> bool
+    ensures { result ≡ is_on_route route.now kind name.now }
+{
+    is_route_kind(route.kind, kind) && *name == route.name
+}
+
+fn authorizes(authz: &ServerAuthz, server: &ServerSpec) -> bool
+    ensures { result ≡ authorizes authz.now server.now }
+{
+    authz.meta.ns == server.meta.ns && names_server(&authz.server, server)
+}
+
+fn names_server(reference: &ServerRef, server: &ServerSpec) -> bool
+    ensures { result ≡ names_server reference.now server.now }
+{
+    match reference {
+        ServerRef::Named(name) => *name == server.meta.name,
+        ServerRef::Chosen(selector) => selects(selector, &server.meta.labels),
+    }
+}
+
+fn is_route_kind(kind: Kind, target: RefKind) -> bool
+    ensures { result ≡ is_route_kind kind target }
+{
+    match (kind, target) {
+        (Kind::LinkerdRoute, RefKind::LinkerdRoute) => true,
+        (Kind::GatewayRoute, RefKind::GatewayRoute) => true,
+        _ => false,
+    }
+}

@@ -1,0 +1,7 @@
+use Rattle.std.proofs.Common.{◌≡◌, map, take}
+use Rattle.view_rules.specs.Inbound.{inbound_route}
+use Rattle.view_scratch.proofs.inbound.route_rows.Given as goal
+
+-- the rows of the routes so far
+abbrev pub invariant-loop-route : goal.invariant-loop-route
+invariant-loop-route l = l.rows ≡ map (λ route. inbound_route l.config l.store.objects route.now) (take l.route-index l.routes)

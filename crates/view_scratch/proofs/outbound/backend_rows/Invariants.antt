@@ -1,0 +1,7 @@
+use Rattle.std.proofs.Common.{◌≡◌, map, take}
+use Rattle.view_rules.specs.Outbound.{backend_row}
+use Rattle.view_scratch.proofs.outbound.backend_rows.Given as goal
+
+-- the rows of the backends so far
+abbrev pub invariant-loop-backend : goal.invariant-loop-backend
+invariant-loop-backend l = l.rows ≡ map (backend_row l.store.objects) (take l.backend-index l.backends)

@@ -1,0 +1,190 @@
+ghost use Rattle.std.specs.Prelude.{◌≡◌, IfOk, codes, map, option_and_then};
+ghost use Rattle.std.specs.FinMap.{get};
+ghost use Rattle.std.specs.Option.{option_copied};
+ghost use Rattle.view_rules.specs.Inbound.{default_policy, default_protocol, default_row, inbound, inbound_route, inbound_routes, inbound_rule, port_row, server_row};
+ghost use Rattle.mesh_text.specs.PolicyWords.{policy_of};
+
+use crate::opaque::is_opaque;
+use crate::row::pod_named;
+use k8s_meta::choice::Word;
+use mesh_base::copied::Copied;
+use mesh_base::list::List;
+use mesh_base::memory::Memory;
+use mesh_base::text::Text;
+use mesh_text::policy_word::PolicyWord;
+use object_store::store::Store;
+use policy_rows::parent::ServerNamed;
+use policy_rows::route_row::{route_key, route_row};
+use policy_rows::routes::attached_routes;
+use policy_rows::rows::authz_rows;
+use policy_rows::server::chosen_server;
+use std::alloc::Global;
+use view_types::config::Config;
+use view_types::pod::Pod;
+use view_types::policy::{Policy, Protocol};
+use view_types::route::{Route, Rule};
+use view_types::server::ServerSpec;
+use view_types::server_view::{RouteRow, RuleRow, ServerRow, ServerView};
+
+/// What holds for a port of the Pod of the namespace and name, by what is held.
+pub fn inbound(
+    alloc: Global,
+    config: &Config,
+    store: &Store,
+    ns: &Text,
+    name: &Text,
+    port: u16,
+) -> Result<ServerView, Memory>
+    ensures { IfOk result (λ view. view ≡ inbound config.now store.now.objects ns.now name.now port) }
+{
+    match pod_named(store, ns, name)? {
+        Some(pod) => {
+            let server = chosen_server(store, ns, pod, port);
+            let row = port_row(alloc, config, store, pod, port, server)?;
+            Ok(ServerView::Present(row))
+        }
+        None => Ok(ServerView::Absent),
+    }
+}
+
+fn port_row(
+    alloc: Global,
+    config: &Config,
+    store: &Store,
+    pod: &Pod,
+    port: u16,
+    server: Option<&ServerSpec>,
+) -> Result<ServerRow, Memory>
+    ensures { IfOk result (λ row. row ≡ port_row config.now store.now.objects pod.now port (option_copied server.entry)) }
+{
+    match server {
+        Some(server) => server_row(alloc, config, store, server),
+        None => default_row(alloc, config, pod, port),
+    }
+}
+
+fn default_row(alloc: Global, config: &Config, pod: &Pod, port: u16) -> Result<ServerRow, Memory>
+    ensures { IfOk result (λ row. row ≡ default_row config.now pod.now port) }
+{
+    Ok(ServerRow {
+        protocol: default_protocol(alloc, pod, port)?,
+        policy: default_policy(config, pod),
+        server: None,
+        authz: List::new(alloc),
+        routes: List::new(alloc),
+    })
+}
+
+fn default_protocol(alloc: Global, pod: &Pod, port: u16) -> Result<Protocol, Memory>
+    ensures { IfOk result (λ protocol. protocol ≡ default_protocol pod.now port) }
+{
+    if is_opaque(alloc, &pod.meta, port)? {
+        return Ok(Protocol::Opaque);
+    }
+    Ok(Protocol::Unknown)
+}
+
+fn default_policy(config: &Config, pod: &Pod) -> Policy
+    ensures { result ≡ default_policy config.now pod.now }
+{
+    match annotated_policy(pod) {
+        Some(policy) => policy,
+        None => config.default_policy,
+    }
+}
+
+fn annotated_policy(pod: &Pod) -> Option<Policy>
+    ensures { result ≡ option_and_then policy_of (get pod.now.meta.notes (codes "config.linkerd.io/default-inbound-policy")) }
+{
+    match pod
+        .meta
+        .notes
+        .get(b"config.linkerd.io/default-inbound-policy")
+    {
+        Some(word) => PolicyWord.meaning_of(word.as_str()),
+        None => None,
+    }
+}
+
+fn server_row(
+    alloc: Global,
+    config: &Config,
+    store: &Store,
+    server: &ServerSpec,
+) -> Result<ServerRow, Memory>
+    ensures { IfOk result (λ row. row ≡ server_row config.now store.now.objects server.now) }
+{
+    Ok(ServerRow {
+        protocol: server.protocol,
+        policy: server.policy,
+        server: Some(server.meta.name.copy()?),
+        authz: authz_rows(alloc, config, store, server)?,
+        routes: inbound_routes(alloc, config, store, server)?,
+    })
+}
+
+fn inbound_routes(
+    alloc: Global,
+    config: &Config,
+    store: &Store,
+    server: &ServerSpec,
+) -> Result<List<RouteRow>, Memory>
+    ensures { IfOk result (λ rows. rows ≡ inbound_routes config.now store.now.objects server.now) }
+{
+    let attachment = ServerNamed {
+        name: &server.meta.name,
+    };
+    let routes = attached_routes(alloc, store, &server.meta.ns, &attachment)?;
+    route_rows(alloc, config, store, routes.as_slice())
+}
+
+fn route_rows(
+    alloc: Global,
+    config: &Config,
+    store: &Store,
+    routes: &[&Route],
+) -> Result<List<RouteRow>, Memory>
+    ensures { IfOk result (λ rows. rows ≡ map (λ route. inbound_route config.now store.now.objects route.now) routes.now) }
+{
+    let mut rows = List::new(alloc);
+    for route in routes {
+        rows.add(inbound_route(alloc, config, store, route)?)?;
+    }
+    Ok(rows)
+}
+
+fn inbound_route(
+    alloc: Global,
+    config: &Config,
+    store: &Store,
+    route: &Route,
+) -> Result<RouteRow, Memory>
+    ensures { IfOk result (λ row. row ≡ inbound_route config.now store.now.objects route.now) }
+{
+    let rules = inbound_rules(alloc, route.rules.as_slice())?;
+    let authz = authz_rows(alloc, config, store, &route_key(route)?)?;
+    route_row(alloc, route, rules, authz)
+}
+
+fn inbound_rules(alloc: Global, rules: &[Rule]) -> Result<List<RuleRow>, Memory>
+    ensures { IfOk result (λ rows. rows ≡ map inbound_rule rules.now) }
+{
+    let mut rows = List::new(alloc);
+    for rule in rules {
+        rows.add(inbound_rule(alloc, rule)?)?;
+    }
+    Ok(rows)
+}
+
+/// Backends and timeouts are for those who send.
+fn inbound_rule(alloc: Global, rule: &Rule) -> Result<RuleRow, Memory>
+    ensures { IfOk result (λ row. row ≡ inbound_rule rule.now) }
+{
+    Ok(RuleRow {
+        matches: rule.matches.copy(alloc)?,
+        filters: rule.filters.copy(alloc)?,
+        backends: List::new(alloc),
+        request_timeout: None,
+        backend_timeout: None,
+    })
+}
