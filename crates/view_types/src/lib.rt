@@ -25,4 +25,5 @@ pub mod server;
 pub mod server_view;
 pub mod service;
 pub mod slice;
+pub mod verdict;
 pub mod view;

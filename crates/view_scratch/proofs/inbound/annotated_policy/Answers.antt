@@ -1,4 +1,4 @@
-use Rattle.std.proofs.Common.{codes, option_and_then, sym, ap, ◌∙◌}
+use Rattle.std.proofs.Common.{option_and_then, sym, ap, ◌∙◌}
 use Rattle.std.specs.Option.{option_copied}
 use Rattle.mesh_text.specs.PolicyWords.{policy_of}
 use Rattle.view_scratch.proofs.inbound.annotated_policy.Goals as goal
