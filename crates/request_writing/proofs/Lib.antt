@@ -1,0 +1,4 @@
+mod AskRound
+mod QueryRound
+mod TargetTexts
+mod TextBytes

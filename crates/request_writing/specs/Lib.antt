@@ -1,0 +1,4 @@
+pub mod Asks
+pub mod Meanings
+pub mod Queries
+pub mod Sendable

@@ -1,0 +1,33 @@
+-- Which asks can be sent, and read again: strings are in UTF-8, numbers are of their types, and the length fits 64 bits.
+use Rattle.std.specs.Prelude.{◌<◌, ◌^◌, IsUtf8, length}
+use Rattle.k8s_meta.specs.Lawful.{IsPort}
+use Rattle.net_cidr.specs.Texts.{FitsIp}
+use Rattle.request_writing.specs.declared.ask.Ask.{Ask}
+use Rattle.request_writing.specs.declared.ask.Ask.TheVariants.{Get, GetProfile, WatchPort, Watch}
+use Rattle.request_writing.specs.declared.ask.GetDestination.{GetDestination}
+use Rattle.request_writing.specs.declared.ask.PortSpec.{PortSpec}
+use Rattle.request_writing.specs.declared.ask.TrafficSpec.{TrafficSpec}
+use Rattle.request_writing.specs.declared.ask.TrafficSpec.TheVariants.{Addr, Authority}
+use Rattle.request_writing.specs.Asks.{canonical_ask}
+
+pub record IsSendableDestination (destination : GetDestination) : Type 0 where
+  pub path : IsUtf8 destination.path
+  pub token : IsUtf8 destination.token
+
+pub record IsSendablePort (spec : PortSpec) : Type 0 where
+  pub workload : IsUtf8 spec.workload
+  pub port : IsPort spec.port
+
+abbrev pub IsSendableTraffic : TrafficSpec → Type 0
+IsSendableTraffic (Addr ip port) = FitsIp ip × IsPort port
+IsSendableTraffic (Authority authority) = IsUtf8 authority
+
+abbrev pub AreSendableContents : Ask → Type 0
+AreSendableContents (Get destination) = IsSendableDestination destination
+AreSendableContents (GetProfile destination) = IsSendableDestination destination
+AreSendableContents (WatchPort spec) = IsSendablePort spec
+AreSendableContents (Watch spec) = IsSendableTraffic spec
+
+pub record IsSendableAsk (ask : Ask) : Type 0 where
+  pub contents : AreSendableContents ask
+  pub short : length (canonical_ask ask) < 2 ^ 64
