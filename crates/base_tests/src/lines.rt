@@ -23,6 +23,12 @@ impl LineMachine for Echo {
 
     ghost begins = { λ start now past text refused stands. stands };
 
+    ghost keeps = { λ earlier now. Unit {0} };
+
+    ghost keeps_itself = { λ machine. tt };
+
+    ghost keeps_on = { λ first second third on further. tt };
+
     ghost pieces_left = { λ echo. echo.pieces };
 
     fn line(

@@ -33,7 +33,7 @@ pub record Come {M : Type 0} (stands : M → List Row → List ℕ → Bool → 
   pub rows : (more : List ℕ) → past_of limit (taken ++ more) ≡ past_from past (rows_of limit (uncut ++ more))
 
 -- The run stopped: what the sink took since it held `held` is a front of what the machine says of these rows.
-pub record Stopped {M : Type 0} (stands ending ended : M → List Row → List ℕ → Bool → Type 0) (held held_now : Option (List ℕ)) (rows : List Row) : Type 0 where
+pub record Stopped {M : Type 0} (stands ending ended : M → List Row → List ℕ → Bool → Type 0) (kept : M → Type 0) (held held_now : Option (List ℕ)) (rows : List Row) : Type 0 where
   pub sent : List ℕ
   pub written : Appends held held_now sent
-  pub front : IsFront stands ending ended rows sent
+  pub front : IsFront stands ending ended kept rows sent

@@ -44,6 +44,7 @@ impl Feeder {
         ensures stands { OnOk result ((start : M) (past : List Row) (sent : List ℕ) → self.old.lines ≡ length past
             → M.stands start machine.old past (sent ++ self.old.out.items) self.old.refused
             → M.stands start machine.new (row_of limit self.old.cutter.part.items ∷ past) (sent ++ self.new.out.items) self.new.refused) }
+        ensures keeps { M.keeps machine.old machine.new }
     {
         self.lines += 1;
         let row = self.cutter.row(limit);
@@ -67,7 +68,8 @@ impl Feeder {
             → Says (M.stands start) held (row_of limit self.old.cutter.part.items ∷ past) (now_of machine.new (K.held sink.new) self.new)) }
         ensures stopped { OnErr result ((start : M) (held : Option (List ℕ)) (past rest : List Row) → self.old.lines ≡ length past
             → Says (M.stands start) held past (now_of machine.old (K.held sink.old) self.old)
-            → Stopped (M.stands start) (M.ending start) (M.ended start) held (K.held sink.new) (past_from past (row_of limit self.old.cutter.part.items ∷ rest))) }
+            → Stopped (M.stands start) (M.ending start) (M.ended start) (λ there. M.keeps there machine.new) held (K.held sink.new) (past_from past (row_of limit self.old.cutter.part.items ∷ rest))) }
+        ensures keeps { M.keeps machine.old machine.new }
         ensures cause { FailsByCause (K.faults sink.old) (K.faults sink.new) result }
     {
         let Ok(()) = self.tell(limit, machine) else {
@@ -95,7 +97,8 @@ impl Feeder {
             → Come (M.stands start) limit held (taken ++ block.now) self.new.cutter.part.items (now_of machine.new (K.held sink.new) self.new)) }
         ensures stopped { OnErr result ((start : M) (held : Option (List ℕ)) (taken more : List ℕ)
             → Come (M.stands start) limit held taken self.old.cutter.part.items (now_of machine.old (K.held sink.old) self.old)
-            → Stopped (M.stands start) (M.ending start) (M.ended start) held (K.held sink.new) (past_of limit ((taken ++ block.now) ++ more))) }
+            → Stopped (M.stands start) (M.ending start) (M.ended start) (λ there. M.keeps there machine.new) held (K.held sink.new) (past_of limit ((taken ++ block.now) ++ more))) }
+        ensures keeps { M.keeps machine.old machine.new }
         ensures cause { FailsByCause (K.faults sink.old) (K.faults sink.new) result }
     {
         let mut rest = block;
@@ -125,7 +128,8 @@ impl Feeder {
             → Says (M.stands start) held (past_of limit taken) (now_of machine.new (K.held sink.new) self.new)) }
         ensures stopped { OnErr result ((start : M) (held : Option (List ℕ)) (taken : List ℕ)
             → Come (M.stands start) limit held taken self.old.cutter.part.items (now_of machine.old (K.held sink.old) self.old)
-            → Stopped (M.stands start) (M.ending start) (M.ended start) held (K.held sink.new) (past_of limit taken)) }
+            → Stopped (M.stands start) (M.ending start) (M.ended start) (λ there. M.keeps there machine.new) held (K.held sink.new) (past_of limit taken)) }
+        ensures keeps { M.keeps machine.old machine.new }
         ensures cause { FailsByCause (K.faults sink.old) (K.faults sink.new) result }
     {
         if self.cutter.has_last() {
@@ -148,8 +152,9 @@ impl Feeder {
             → Says (M.ended start) held past (now_of machine.new (K.held sink.new) self.new) }
         ensures stopped { OnErr result ((start : M) (held : Option (List ℕ)) (past : List Row)
             → Says (M.ending start) held past (now_of machine.old (K.held sink.old) self.old)
-            → Stopped (M.stands start) (M.ending start) (M.ended start) held (K.held sink.new) past) }
+            → Stopped (M.stands start) (M.ending start) (M.ended start) (λ there. M.keeps there machine.new) held (K.held sink.new) past) }
         ensures fewer { result ≡ Ok true → M.pieces_left machine.new < M.pieces_left machine.old }
+        ensures keeps { M.keeps machine.old machine.new }
         ensures cause { FailsByCause (K.faults sink.old) (K.faults sink.new) result }
     {
         let Ok(more) = machine.end(&mut self.out) else {
@@ -171,7 +176,8 @@ impl Feeder {
             → Says (M.ended start) held past (now_of machine.new (K.held sink.new) self.new)) }
         ensures stopped { OnErr result ((start : M) (held : Option (List ℕ)) (past : List Row)
             → Says (M.ending start) held past (now_of machine.old (K.held sink.old) self.old)
-            → Stopped (M.stands start) (M.ending start) (M.ended start) held (K.held sink.new) past) }
+            → Stopped (M.stands start) (M.ending start) (M.ended start) (λ there. M.keeps there machine.new) held (K.held sink.new) past) }
+        ensures keeps { M.keeps machine.old machine.new }
         ensures cause { FailsByCause (K.faults sink.old) (K.faults sink.new) result }
     {
         'pieces: while self.next_piece(machine, sink)? {}
@@ -194,7 +200,8 @@ impl Feeder {
             → Says (M.ended start) held (past_of limit taken) (now_of machine.new (K.held sink.new) self.new)) }
         ensures stopped { OnErr result ((start : M) (held : Option (List ℕ)) (taken : List ℕ)
             → Come (M.stands start) limit held taken self.old.cutter.part.items (now_of machine.old (K.held sink.old) self.old)
-            → Stopped (M.stands start) (M.ending start) (M.ended start) held (K.held sink.new) (past_of limit taken)) }
+            → Stopped (M.stands start) (M.ending start) (M.ended start) (λ there. M.keeps there machine.new) held (K.held sink.new) (past_of limit taken)) }
+        ensures keeps { M.keeps machine.old machine.new }
         ensures cause { FailsByCause (K.faults sink.old) (K.faults sink.new) result }
     {
         self.give_last(limit, machine, sink)?;

@@ -59,8 +59,10 @@ pub fn run_lines<M: LineMachine, S: Source, K: Sink>(
     // Read to the end: what was written is what the machine says of all the rows, and whether a line was refused.
     ensures whole { OnEnd result (λ refused. Whole (M.ended machine.old) limits.line limits.input (S.left source.old) (K.held sink.old) (K.held sink.new) machine.new refused) }
 
-    // Else it is a front of that.
-    ensures part { OnStop result (Part (M.stands machine.old) (M.ending machine.old) (M.ended machine.old) limits.line (S.left source.old) (K.held sink.old) (K.held sink.new)) }
+    // Else it is a front of that, and the machine there leads to the machine now.
+    ensures part { OnStop result (Part (M.stands machine.old) (M.ending machine.old) (M.ended machine.old) (λ there. M.keeps there machine.new) limits.line (S.left source.old) (K.held sink.old) (K.held sink.new)) }
+
+    ensures keeps { M.keeps machine.old machine.new }
 
     ensures read { result ≡ Status.ReadFault → Rose (S.faults source.old) (S.faults source.new) }
     ensures write { result ≡ Status.WriteFault → Rose (K.faults sink.old) (K.faults sink.new) }
@@ -118,7 +120,8 @@ fn end<M: LineMachine, K: Sink>(
         → Says (M.ended start) held (past_of limit taken) (now_of machine.new (K.held sink.new) feeder.new)) }
     ensures part { OnStop result ((start : M) (held : Option (List ℕ)) (taken : List ℕ)
         → Come (M.stands start) limit held taken feeder.old.cutter.part.items (now_of machine.old (K.held sink.old) feeder.old)
-        → Stopped (M.stands start) (M.ending start) (M.ended start) held (K.held sink.new) (past_of limit taken)) }
+        → Stopped (M.stands start) (M.ending start) (M.ended start) (λ there. M.keeps there machine.new) held (K.held sink.new) (past_of limit taken)) }
+    ensures keeps { M.keeps machine.old machine.new }
     ensures write { result ≡ Status.WriteFault → Rose (K.faults sink.old) (K.faults sink.new) }
     ensures others { (result ≢ Status.ReadFault) × (result ≢ Status.InputTooLong) }
     ensures write_later { K.faults sink.old ≤ K.faults sink.new }

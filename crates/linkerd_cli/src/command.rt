@@ -1,5 +1,4 @@
 ghost use Rattle.std.specs.Prelude.{◌≡◌, ◌≢◌, ◌↔◌, ◌<◌, ◌^◌, ◌&&◌, IfSome, IsTrue, bytes_eq, codes};
-ghost use Rattle.watch_events.specs.Queries.{method_of};
 ghost use Rattle.linkerd_cli.specs.Command.{IsReplay, both_asked, fold_asked, id_of};
 
 use line_run::Status;

@@ -20,7 +20,8 @@ use line_run::Status;
 use mesh_base::limits::Limits;
 use mesh_base::memory::Memory;
 use mesh_hub::hub::Hub;
-use mesh_outside::{ReadSource, SurePatterns, WriteSink};
+use mesh_outside::{ReadSource, WriteSink};
+use regex_patterns::RegexPatterns;
 use std::alloc::Global;
 use std::io::IsTerminal;
 use std::process::ExitCode;
@@ -49,7 +50,7 @@ fn run(rt: &HostRuntime) -> Report {
         &mut hub,
         &mut input,
         &mut out,
-        &mut SurePatterns,
+        &mut RegexPatterns::new(rt.alloc()),
     );
     Report {
         status,

@@ -7,7 +7,6 @@ use Rattle.std.specs.declared.cmp.Ordering.TheVariants.{Less, Equal, Greater}
 use Rattle.mesh_base.specs.KeyOrder.{key_cmp}
 use Rattle.mesh_base.proofs.KeyOrder.{keys_exact}
 use Rattle.mesh_base.specs.declared.key.ObjKey.{ObjKey}
-use Rattle.line_run.specs.Rows.{Row}
 use Rattle.view_types.specs.declared.object.Object.{Object}
 use Rattle.view_types.specs.Lawful.{IsLawful}
 use Rattle.view_types.specs.Objects.{key_of}
@@ -23,6 +22,7 @@ use Rattle.mesh_hub.specs.History.{State, after, refusal_after}
 use Rattle.mesh_hub.specs.Lawful.{HeldAreLawful, HeldAtKeys, QueriesAreLawful}
 use Rattle.mesh_hub.specs.Live.{asked_by, live_at, meets_too_long}
 use Rattle.mesh_hub.specs.LookBack.{told_by, last_told, held_at}
+use Rattle.mesh_hub.specs.Marks.{MarkedRow}
 use Rattle.mesh_hub.specs.Program.{Program, reading}
 use Rattle.mesh_hub.proofs.Lives.{live_by_the_last}
 use Rattle.mesh_hub.proofs.Telling.{AreLawful, ReadsLawfully, row_lawful, told_by_the_last}
@@ -65,6 +65,7 @@ told_right (Ok lines.Blank) key object lawful is = absurd (cc is)
 told_right (Ok (lines.Subscribe id query)) key object lawful is = absurd (cc is)
 told_right (Ok (lines.Cancel id)) key object lawful is = absurd (cc is)
 told_right (Ok (lines.Drain id)) key object lawful is = absurd (cc is)
+told_right (Ok (lines.Simulate request)) key object lawful is = absurd (cc is)
 told_right (Ok lines.Stop) key object lawful is = absurd (cc is)
 told_right (Err fault) key object lawful is = absurd (cc is)
 
@@ -74,7 +75,7 @@ told_or_before (Some refusal) told before x is = inr is
 told_or_before None None before x is = inr is
 told_or_before None (Some told) before x is = inl (ap Some is)
 
-right : (program : Program) → ReadsLawfully program → (past : List Row) (key : ObjKey) (object : Object) → held_at program past key ≡ Some object → IsRight key object
+right : (program : Program) → ReadsLawfully program → (past : List MarkedRow) (key : ObjKey) (object : Object) → held_at program past key ≡ Some object → IsRight key object
 right program reads [] key object is = absurd (cc is)
 right program reads (row ∷ past) key object is = elim (told_or_before (refusal_after program past row) (told_by (reading program row) key) (held_at program past key) object is) [
   | inl told ↦ told_right (reading program row) key object (row_lawful program reads row) told
@@ -104,10 +105,11 @@ asked_right program now (Ok (lines.Cancel asked)) id query lawful is = absurd (n
 asked_right program now (Ok (lines.Drain asked)) id query lawful is = absurd (none_asked (eqb asked.0 id && meets_too_long program now id) query is)
 asked_right program now (Ok (lines.Event event)) id query lawful is = absurd (cc is)
 asked_right program now (Ok lines.Blank) id query lawful is = absurd (cc is)
+asked_right program now (Ok (lines.Simulate request)) id query lawful is = absurd (cc is)
 asked_right program now (Ok lines.Stop) id query lawful is = absurd (cc is)
 asked_right program now (Err fault) id query lawful is = absurd (cc is)
 
-live_right : (program : Program) → ReadsLawfully program → (past : List Row) (id : ℕ) (query : Query) → live_at program past id ≡ Some query → IsLawfulQuery query
+live_right : (program : Program) → ReadsLawfully program → (past : List MarkedRow) (id : ℕ) (query : Query) → live_at program past id ≡ Some query → IsLawfulQuery query
 live_right program reads [] id query is = absurd (cc is)
 live_right program reads (row ∷ past) id query is = elim (told_or_before (refusal_after program past row) (asked_by program (after program past) (reading program row) id) (live_at program past id) query is) [
   | inl told ↦ asked_right program (after program past) (reading program row) id query (row_lawful program reads row) told

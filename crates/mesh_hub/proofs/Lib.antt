@@ -15,5 +15,6 @@ mod SendableProfiles
 mod SendableRoutes
 mod SendableRows
 pub mod Sent
+pub mod Simulating
 pub mod Telling
 pub mod Told

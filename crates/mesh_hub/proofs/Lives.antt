@@ -3,12 +3,12 @@ use Rattle.std.proofs.Common.{◌≡◌, ℕ, ◌<◌, ◌≤◌, Bool, true, fa
 use Rattle.std.specs.Prelude.{Result, Ok, Err, is_some, length, nat_lt, ◌==◌, ◌&&◌, option_and_then, option_map, if◌then◌else◌}
 use Rattle.std.specs.List.{AllByRecursion}
 use Rattle.std.proofs.lemmas.Bool.{ltb-true}
-use Rattle.line_run.specs.Rows.{Row}
 use Rattle.view_types.specs.declared.query.Query.{Query}
 use Rattle.watch_events.specs.declared.line.Line.{Line}
 use Rattle.watch_events.specs.declared.line.Line.TheVariants as lines
 use Rattle.watch_events.specs.declared.line.LineFault.{LineFault}
 use Rattle.mesh_base.specs.declared.sub_id.SubId.{SubId}
+use Rattle.request_sim.specs.declared.fault.SimFault.{SimFault}
 use Rattle.mesh_hub.specs.declared.refusal.HubFault.{HubFault}
 use Rattle.mesh_hub.specs.declared.refusal.HubFault.TheVariants.{IdOrder}
 use Rattle.mesh_hub.specs.declared.refusal.Refusal.{Refusal}
@@ -18,6 +18,7 @@ use Rattle.mesh_hub.specs.History.{Asked, State, after, after_line, asked_at, hu
 use Rattle.mesh_hub.specs.Ids.{ended, in_place, room_refusal, subscribe_refusal, unless_refused}
 use Rattle.mesh_hub.specs.Live.{Ascend, IsLiveByTheLast, LastIsGreatest, LiveIdsAscend, accepted_ids, asked_by, greatest, id_accepted, max_with, meets_too_long, query_at}
 use Rattle.mesh_hub.specs.LookBack.{last_told}
+use Rattle.mesh_hub.specs.Marks.{MarkedRow}
 use Rattle.mesh_hub.specs.Program.{Program, reading}
 use Rattle.mesh_hub.proofs.Lists.{all_joined, all_weaker}
 use Rattle.mesh_hub.proofs.Places.{KeepsIds, all_in_place, ascend_in_place, ended_keeps, first_of, found_in_place, found_with, then_at, told_keeps}
@@ -52,8 +53,8 @@ not_refused true (Some fault) is = absurd cc
 not_refused false fault is = absurd cc
 
 -- an accepted subscription's id is above the greatest accepted one
-pub above_last : (program : Program) (now : State) (id : SubId) (query : Query) → refusal_of program now (Ok (lines.Subscribe id query)) ≡ None → IsAbove now.last id.0
-above_last program now id query is =
+pub above_last : (program : Program) (now : State) (met : Option SimFault) (id : SubId) (query : Query) → refusal_of program now met (Ok (lines.Subscribe id query)) ≡ None → IsAbove now.last id.0
+above_last program now met id query is =
     above program.limits.subs now.last (length now.subs) id.0 (not_refused (program.has_place (lines.Subscribe id query)) (hub_refusal program now (lines.Subscribe id query)) is)
 
 -- an id above the greatest accepted one is above all that live
@@ -86,20 +87,21 @@ ordered_in_place now id f keeps ordered = record { ascend = ascend_in_place id f
     by_last None none = ap (in_place id_of id f) none
     by_last (Some last) within = all_in_place id f keeps (λ n. n ≤ last) now.subs within
 
-ordered_step : (program : Program) (now : State) (line : Result Line LineFault) (refusal : Option Refusal) → refusal_of program now line ≡ refusal → IsOrdered now
+ordered_step : (program : Program) (now : State) (met : Option SimFault) (line : Result Line LineFault) (refusal : Option Refusal) → refusal_of program now met line ≡ refusal → IsOrdered now
     → IsOrdered (unless_refused refusal now (after_line program now line))
-ordered_step program now line (Some refusal) is ordered = ordered
-ordered_step program now (Err fault) None is ordered = ordered
-ordered_step program now (Ok lines.Blank) None is ordered = ordered
-ordered_step program now (Ok lines.Stop) None is ordered = ordered
-ordered_step program now (Ok (lines.Event event)) None is ordered = record { ascend = ordered.ascend; within = ordered.within }
-ordered_step program now (Ok (lines.Subscribe id query)) None is ordered = ordered_more now (record { id = id; query = query; told = None }) ordered (above_last program now id query is)
-ordered_step program now (Ok (lines.Cancel id)) None is ordered = ordered_in_place now id.0 ended ended_keeps ordered
-ordered_step program now (Ok (lines.Drain id)) None is ordered = ordered_in_place now id.0 (told_now program now.objects) (told_keeps program now.objects) ordered
+ordered_step program now met line (Some refusal) is ordered = ordered
+ordered_step program now met (Err fault) None is ordered = ordered
+ordered_step program now met (Ok lines.Blank) None is ordered = ordered
+ordered_step program now met (Ok (lines.Simulate request)) None is ordered = ordered
+ordered_step program now met (Ok lines.Stop) None is ordered = ordered
+ordered_step program now met (Ok (lines.Event event)) None is ordered = record { ascend = ordered.ascend; within = ordered.within }
+ordered_step program now met (Ok (lines.Subscribe id query)) None is ordered = ordered_more now (record { id = id; query = query; told = None }) ordered (above_last program now met id query is)
+ordered_step program now met (Ok (lines.Cancel id)) None is ordered = ordered_in_place now id.0 ended ended_keeps ordered
+ordered_step program now met (Ok (lines.Drain id)) None is ordered = ordered_in_place now id.0 (told_now program now.objects) (told_keeps program now.objects) ordered
 
-pub ordered : (program : Program) (past : List Row) → IsOrdered (after program past)
+pub ordered : (program : Program) (past : List MarkedRow) → IsOrdered (after program past)
 ordered program [] = record { ascend = tt; within = refl }
-ordered program (row ∷ past) = ordered_step program (after program past) (reading program row) (refusal_after program past row) refl (ordered program past)
+ordered program (row ∷ past) = ordered_step program (after program past) row.1 (reading program row) (refusal_after program past row) refl (ordered program past)
 
 pub live_ids_ascend : (program : Program) → LiveIdsAscend program
 live_ids_ascend program past = (ordered program past).ascend
@@ -140,37 +142,39 @@ drained_query program now drained id ordered =
     by_id true (Some asked) = by_length asked (too_long_for program now.objects asked)
     by_id false found = refl
 
-asked_step : (program : Program) (now : State) (line : Result Line LineFault) (refusal : Option Refusal) (id : ℕ) → refusal_of program now line ≡ refusal → IsOrdered now
+asked_step : (program : Program) (now : State) (met : Option SimFault) (line : Result Line LineFault) (refusal : Option Refusal) (id : ℕ) → refusal_of program now met line ≡ refusal → IsOrdered now
     → query_at id (unless_refused refusal now (after_line program now line)).subs ≡ last_told refusal (asked_by program now line id) (query_at id now.subs)
-asked_step program now line (Some refusal) id is ordered = refl
-asked_step program now (Err fault) None id is ordered = refl
-asked_step program now (Ok lines.Blank) None id is ordered = refl
-asked_step program now (Ok lines.Stop) None id is ordered = refl
-asked_step program now (Ok (lines.Event event)) None id is ordered = refl
-asked_step program now (Ok (lines.Subscribe asked query)) None id is ordered = subscribed_query now (record { id = asked; query = query; told = None }) id ordered (above_last program now asked query is)
-asked_step program now (Ok (lines.Cancel asked)) None id is ordered = cancelled_query now asked.0 id ordered
-asked_step program now (Ok (lines.Drain asked)) None id is ordered = drained_query program now asked.0 id ordered
+asked_step program now met line (Some refusal) id is ordered = refl
+asked_step program now met (Err fault) None id is ordered = refl
+asked_step program now met (Ok lines.Blank) None id is ordered = refl
+asked_step program now met (Ok (lines.Simulate request)) None id is ordered = refl
+asked_step program now met (Ok lines.Stop) None id is ordered = refl
+asked_step program now met (Ok (lines.Event event)) None id is ordered = refl
+asked_step program now met (Ok (lines.Subscribe asked query)) None id is ordered = subscribed_query now (record { id = asked; query = query; told = None }) id ordered (above_last program now met asked query is)
+asked_step program now met (Ok (lines.Cancel asked)) None id is ordered = cancelled_query now asked.0 id ordered
+asked_step program now met (Ok (lines.Drain asked)) None id is ordered = drained_query program now asked.0 id ordered
 
 pub live_by_the_last : (program : Program) → IsLiveByTheLast program
 live_by_the_last program [] id = refl
 live_by_the_last program (row ∷ past) id =
     let now = after program past in
     let refusal = refusal_after program past row in
-    asked_step program now (reading program row) refusal id refl (ordered program past) ∙ ap (last_told refusal (asked_by program now (reading program row) id)) (live_by_the_last program past id)
+    asked_step program now row.1 (reading program row) refusal id refl (ordered program past) ∙ ap (last_told refusal (asked_by program now (reading program row) id)) (live_by_the_last program past id)
 
 -- ---- the greatest accepted id
 
-last_step : (program : Program) (now : State) (line : Result Line LineFault) (refusal : Option Refusal) (ids : List ℕ) → refusal_of program now line ≡ refusal → now.last ≡ greatest ids
+last_step : (program : Program) (now : State) (met : Option SimFault) (line : Result Line LineFault) (refusal : Option Refusal) (ids : List ℕ) → refusal_of program now met line ≡ refusal → now.last ≡ greatest ids
     → (unless_refused refusal now (after_line program now line)).last ≡ greatest (id_accepted refusal line ++ ids)
-last_step program now line (Some refusal) ids is so_far = so_far
-last_step program now (Err fault) None ids is so_far = so_far
-last_step program now (Ok lines.Blank) None ids is so_far = so_far
-last_step program now (Ok lines.Stop) None ids is so_far = so_far
-last_step program now (Ok (lines.Cancel id)) None ids is so_far = so_far
-last_step program now (Ok (lines.Drain id)) None ids is so_far = so_far
-last_step program now (Ok (lines.Event event)) None ids is so_far = so_far
-last_step program now (Ok (lines.Subscribe asked query)) None ids is so_far =
-    ap Some (sym (most (greatest ids) asked.0 (subst (λ (last : Option ℕ). IsAbove last asked.0) so_far (above_last program now asked query is))))
+last_step program now met line (Some refusal) ids is so_far = so_far
+last_step program now met (Err fault) None ids is so_far = so_far
+last_step program now met (Ok lines.Blank) None ids is so_far = so_far
+last_step program now met (Ok (lines.Simulate request)) None ids is so_far = so_far
+last_step program now met (Ok lines.Stop) None ids is so_far = so_far
+last_step program now met (Ok (lines.Cancel id)) None ids is so_far = so_far
+last_step program now met (Ok (lines.Drain id)) None ids is so_far = so_far
+last_step program now met (Ok (lines.Event event)) None ids is so_far = so_far
+last_step program now met (Ok (lines.Subscribe asked query)) None ids is so_far =
+    ap Some (sym (most (greatest ids) asked.0 (subst (λ (last : Option ℕ). IsAbove last asked.0) so_far (above_last program now met asked query is))))
   where
     most : (last : Option ℕ) (id : ℕ) → IsAbove last id → max_with id last ≡ id
     most None id lt = refl
@@ -179,4 +183,4 @@ last_step program now (Ok (lines.Subscribe asked query)) None ids is so_far =
 pub last_is_greatest : (program : Program) → LastIsGreatest program
 last_is_greatest program [] = refl
 last_is_greatest program (row ∷ past) =
-    last_step program (after program past) (reading program row) (refusal_after program past row) (accepted_ids program past) refl (last_is_greatest program past)
+    last_step program (after program past) row.1 (reading program row) (refusal_after program past row) (accepted_ids program past) refl (last_is_greatest program past)

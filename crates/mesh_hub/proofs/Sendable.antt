@@ -7,7 +7,6 @@ use Rattle.std.specs.Str.{chars, is_utf8}
 use Rattle.std.proofs.lemmas.Bool.{ltb-false}
 use Rattle.std.proofs.lemmas.Str.{IsUtf8-from_is_utf8}
 use Rattle.net_cidr.specs.declared.ip.Ip.{Ip}
-use Rattle.line_run.specs.Rows.{Row}
 use Rattle.view_rules.specs.Batch.{batch, changed_rows, gone_pairs, has_pair, has_row, in_pieces, is_news, messages_to, outbound_in, pieces_up_to, profile_in, rows_before, server_in, whole_batch}
 use Rattle.view_rules.specs.Views.{view_before, view_of}
 use Rattle.view_rules.specs.Endpoints.{endpoints, pair_of}
@@ -26,6 +25,7 @@ use Rattle.proxy_proto.proofs.Round.{message_back}
 use Rattle.mesh_hub.specs.Drains.{too_long}
 use Rattle.mesh_hub.specs.History.{Asked, State, after, asked_at, messages_due, too_long_for}
 use Rattle.mesh_hub.specs.Lawful.{HeldAreLawful, QueriesAreLawful}
+use Rattle.mesh_hub.specs.Marks.{MarkedRow}
 use Rattle.mesh_hub.specs.Program.{Program}
 use Rattle.mesh_hub.specs.Sendable.{HasLimit, IsLawfulConfig, MessagesAreSendable, MessagesReadBack}
 use Rattle.mesh_hub.specs.Sent.{sent_if_live, sent_now, sent_unless}
@@ -111,10 +111,10 @@ IsLawfulTold None = Unit {0}
 IsLawfulTold (Some held) = AreLawfulHeld held
 
 module _ (program : Program) (lawful : HeldAreLawful program) (asked_lawful : QueriesAreLawful program) (usual : IsLawfulConfig program.config) where
-  told_is_lawful : (past : List Row) (id : ℕ) (asked : Asked) → asked_at id (after program past).subs ≡ Some asked → IsLawfulTold asked.told
+  told_is_lawful : (past : List MarkedRow) (id : ℕ) (asked : Asked) → asked_at id (after program past).subs ≡ Some asked → IsLawfulTold asked.told
   told_is_lawful past id asked found = subst IsLawfulTold (sym (told_at_last_drain program past id asked found)) (at_drain (last_drain program past id))
     where
-      at_drain : (last : Option (List Row)) → IsLawfulTold (option_map (λ rows. (after program rows).objects) last)
+      at_drain : (last : Option (List MarkedRow)) → IsLawfulTold (option_map (λ rows. (after program rows).objects) last)
       at_drain None = tt
       at_drain (Some rows) = lawful rows
 
@@ -137,7 +137,7 @@ module _ (program : Program) (lawful : HeldAreLawful program) (asked_lawful : Qu
           whole_is_sendable same_outbound WholeOutbound (outbound_in (view_before program.config (queries.Traffic target) before)) (outbound program.config held target)
           (outbound_is_sendable held now program.config usual target lawful)
 
-  sent_are_sendable : HasLimit program → (past : List Row) (id : ℕ) → AllByRecursion IsSendable (sent_now program (after program past) id)
+  sent_are_sendable : HasLimit program → (past : List MarkedRow) (id : ℕ) → AllByRecursion IsSendable (sent_now program (after program past) id)
   sent_are_sendable small past id = by_found (asked_at id now.subs) refl
     where
       now : State

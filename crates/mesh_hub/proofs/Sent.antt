@@ -4,7 +4,6 @@ use Rattle.std.specs.Prelude.{Result, Ok, Err, ◌==◌, if◌then◌else◌}
 use Rattle.std.specs.FinMap.{same_map}
 use Rattle.std.proofs.lemmas.Bool.Decides.{eqb_tells}
 use Rattle.mesh_base.proofs.KeyOrder.{keys_exact, keys_total}
-use Rattle.line_run.specs.Rows.{Row}
 use Rattle.view_types.specs.Objects.{ObjectMap}
 use Rattle.view_types.specs.declared.message.Message.{Message}
 use Rattle.view_types.specs.declared.query.Query.{Query}
@@ -15,10 +14,12 @@ use Rattle.view_diff.specs.Laws.{MessagesFold}
 use Rattle.watch_events.specs.declared.line.Line.{Line}
 use Rattle.watch_events.specs.declared.line.Line.TheVariants as lines
 use Rattle.watch_events.specs.declared.line.LineFault.{LineFault}
+use Rattle.request_sim.specs.declared.fault.SimFault.{SimFault}
 use Rattle.mesh_hub.specs.declared.refusal.Refusal.{Refusal}
 use Rattle.mesh_hub.specs.History.{Asked, State, after, after_line, asked_at, id_of, messages_due, refusal_after, refusal_of, told_now, too_long_for}
 use Rattle.mesh_hub.specs.Ids.{ended, in_place, unless_refused}
 use Rattle.mesh_hub.specs.Output.{line_text, lines_if_live, lines_unless, row_piece, sub_lines}
+use Rattle.mesh_hub.specs.Marks.{MarkedRow}
 use Rattle.mesh_hub.specs.Program.{Program, reading}
 use Rattle.mesh_hub.specs.Sent.{DrainWritesWhatIsSent, EndFoldsToView, EndWritesWhatIsSent, FoldsToLastShown, FoldsToView, SameObjectsSameView, frame_lines, sent_by, sent_if_live, sent_now, sent_to, sent_unless}
 use Rattle.mesh_hub.proofs.Lives.{IsAbove, IsOrdered, above_last, below, ordered}
@@ -105,24 +106,25 @@ module _ (program : Program) (folds : MessagesFold) (one : 1 ≤ program.limits.
             ∙ ap (λ (one : Asked). view_before program.config one.query one.told) (sym drain.becomes)
         by_id asked false is = ap fold (append-nil sent) ∙ so_far.shown asked is
 
-  shown_step : (now : State) (line : Result Line LineFault) (refusal : Option Refusal) (id : ℕ) (sent : List Message) → refusal_of program now line ≡ refusal → IsOrdered now → IsShown now id sent
+  shown_step : (now : State) (met : Option SimFault) (line : Result Line LineFault) (refusal : Option Refusal) (id : ℕ) (sent : List Message) → refusal_of program now met line ≡ refusal → IsOrdered now → IsShown now id sent
       → IsShown (unless_refused refusal now (after_line program now line)) id (sent ++ sent_by program now refusal line id)
-  shown_step now line (Some refusal) id sent is ordered so_far = still now id sent so_far
-  shown_step now (Err fault) None id sent is ordered so_far = still now id sent so_far
-  shown_step now (Ok lines.Blank) None id sent is ordered so_far = still now id sent so_far
-  shown_step now (Ok lines.Stop) None id sent is ordered so_far = still now id sent so_far
-  shown_step now (Ok (lines.Event event)) None id sent is ordered so_far =
+  shown_step now met line (Some refusal) id sent is ordered so_far = still now id sent so_far
+  shown_step now met (Err fault) None id sent is ordered so_far = still now id sent so_far
+  shown_step now met (Ok lines.Blank) None id sent is ordered so_far = still now id sent so_far
+  shown_step now met (Ok (lines.Simulate request)) None id sent is ordered so_far = still now id sent so_far
+  shown_step now met (Ok lines.Stop) None id sent is ordered so_far = still now id sent so_far
+  shown_step now met (Ok (lines.Event event)) None id sent is ordered so_far =
       let after = after_line program now (Ok (lines.Event event)) in still after id sent (record { shown = so_far.shown; unsent = so_far.unsent })
-  shown_step now (Ok (lines.Subscribe asked query)) None id sent is ordered so_far =
+  shown_step now met (Ok (lines.Subscribe asked query)) None id sent is ordered so_far =
       let new : Asked = record { id = asked; query = query; told = None } in
-      still (after_line program now (Ok (lines.Subscribe asked query))) id sent (subscribed_shown now id sent ordered so_far new refl (above_last program now asked query is))
-  shown_step now (Ok (lines.Cancel asked)) None id sent is ordered so_far =
+      still (after_line program now (Ok (lines.Subscribe asked query))) id sent (subscribed_shown now id sent ordered so_far new refl (above_last program now met asked query is))
+  shown_step now met (Ok (lines.Cancel asked)) None id sent is ordered so_far =
       still (after_line program now (Ok (lines.Cancel asked))) id sent (cancelled_shown now id sent ordered so_far asked.0)
-  shown_step now (Ok (lines.Drain asked)) None id sent is ordered so_far = drained_shown now id sent ordered so_far asked.0
+  shown_step now met (Ok (lines.Drain asked)) None id sent is ordered so_far = drained_shown now id sent ordered so_far asked.0
 
-  all_shown : (past : List Row) (id : ℕ) → IsShown (after program past) id (sent_to program past id)
+  all_shown : (past : List MarkedRow) (id : ℕ) → IsShown (after program past) id (sent_to program past id)
   all_shown [] id = record { shown = λ asked found. absurd (cc found); unsent = λ above. refl }
-  all_shown (row ∷ past) id = shown_step (after program past) (reading program row) (refusal_after program past row) id (sent_to program past id) refl (ordered program past) (all_shown past id)
+  all_shown (row ∷ past) id = shown_step (after program past) row.1 (reading program row) (refusal_after program past row) id (sent_to program past id) refl (ordered program past) (all_shown past id)
 
 pub folds_to_last_shown : (program : Program) → MessagesFold → FoldsToLastShown program
 folds_to_last_shown program folds one past id asked found = (all_shown program folds one past id).shown asked found
@@ -156,8 +158,8 @@ pub drain_writes_what_is_sent : (program : Program) → DrainWritesWhatIsSent pr
 drain_writes_what_is_sent program past row asked accepted reads drained =
     let now = after program past in
     let id = asked.id.0 in
-    ap (λ (refusal : Option Refusal). row_piece (length past + 1) refusal (line_text program now (reading program row))) accepted
-    ∙ ap (line_text program now) reads
+    ap (λ (refusal : Option Refusal). row_piece (length past + 1) refusal (line_text program (length past + 1) now (reading program row))) accepted
+    ∙ ap (line_text program (length past + 1) now) reads
     ∙ ap (lines_if_live program now.objects) drained.0
     ∙ end_writes_what_is_sent program past asked drained
     ∙ ap (λ (b : Bool). frame_lines id (cond b (sent_now program now id) [])) (sym (same_id id id refl))

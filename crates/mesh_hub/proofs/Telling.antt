@@ -12,6 +12,7 @@ use Rattle.view_types.specs.Objects.{key_of}
 use Rattle.object_store.specs.Relisted.{is_of, item_at}
 use Rattle.object_store.proofs.PutAll as put_all
 use Rattle.watch_events.specs.Lawful.{IsLawfulLine}
+use Rattle.watch_events.specs.Lines.{row_says}
 use Rattle.watch_events.specs.declared.event.Event.TheVariants.{Set, Delete, Relist, Bookmark}
 use Rattle.watch_events.specs.declared.line.Line.{Line}
 use Rattle.watch_events.specs.declared.line.Line.TheVariants as lines
@@ -20,6 +21,7 @@ use Rattle.mesh_hub.specs.declared.refusal.Refusal.{Refusal}
 use Rattle.mesh_hub.specs.History.{State, refusal_after, after_line, step, after}
 use Rattle.mesh_hub.specs.Ids.{unless_refused}
 use Rattle.mesh_hub.specs.LookBack.{told_by, last_told, IsToldByTheLast, RefusedChangesNothing}
+use Rattle.mesh_hub.specs.Marks.{MarkedRow}
 use Rattle.mesh_hub.specs.Program.{Program, reading}
 
 chosen : (b : Bool) (told before : Option Object) → cond b told before ≡ last_told None (cond b (Some told) None) before
@@ -37,6 +39,7 @@ told_step program now (Ok lines.Blank) None key lawful = refl
 told_step program now (Ok (lines.Subscribe id query)) None key lawful = refl
 told_step program now (Ok (lines.Cancel id)) None key lawful = refl
 told_step program now (Ok (lines.Drain id)) None key lawful = refl
+told_step program now (Ok (lines.Simulate request)) None key lawful = refl
 told_step program now (Ok lines.Stop) None key lawful = refl
 told_step program now (Ok (lines.Event Bookmark)) None key lawful = refl
 told_step program now (Ok (lines.Event (Relist kind items))) None key lawful = put_all.relisted_by_key now.objects kind items lawful.0 key ∙ chosen (is_of kind key) (item_at key items) (get now.objects key)
@@ -47,13 +50,16 @@ told_step program now (Ok (lines.Event (Delete gone))) None key lawful = get-rem
 abbrev pub ReadsLawfully : Program → Type 0
 ReadsLawfully program = (bytes : List ℕ) (line : Line) → program.reads bytes ≡ Ok line → IsLawfulLine line
 
-pub row_lawful : (program : Program) → ReadsLawfully program → (row : Row) → AreLawful (reading program row)
-row_lawful program reads None = tt
-row_lawful program reads (Some bytes) = by_value (program.reads bytes) refl
+pub row_lawful : (program : Program) → ReadsLawfully program → (row : MarkedRow) → AreLawful (reading program row)
+row_lawful program reads row = by_row row.0
   where
-    by_value : (line : Result Line LineFault) → program.reads bytes ≡ line → AreLawful line
-    by_value (Ok line) is = reads bytes line is
-    by_value (Err fault) is = tt
+    by_value : (bytes : List ℕ) (line : Result Line LineFault) → program.reads bytes ≡ line → AreLawful line
+    by_value bytes (Ok line) is = reads bytes line is
+    by_value bytes (Err fault) is = tt
+
+    by_row : (row : Row) → AreLawful (row_says program.reads row)
+    by_row None = tt
+    by_row (Some bytes) = by_value bytes (program.reads bytes) refl
 
 pub told_by_the_last : (program : Program) → ReadsLawfully program → IsToldByTheLast program
 told_by_the_last program reads [] key = get-empty key_cmp key

@@ -1,4 +1,4 @@
--- What a list of rows leads to: the objects held, the live subscriptions and the greatest accepted id.
+-- What a list of marked rows leads to: the objects held, the live subscriptions and the greatest accepted id.
 --
 -- The list has the newest row first. What a row leads to is told by what the rows before it led to: there the row is
 -- refused and changes nothing, or it does what it says. That is how a program goes on from row to row. Of a
@@ -10,7 +10,6 @@
 use Rattle.std.specs.Prelude.{ℕ, List, [], ◌∷◌, ◌++◌, length, if◌then◌else◌, Option, Some, None, Result, Ok, Err, option_map, flat_map}
 use Rattle.std.specs.FinMap as map
 use Rattle.mesh_base.specs.declared.sub_id.SubId.{SubId}
-use Rattle.line_run.specs.Rows.{Row}
 use Rattle.view_types.specs.Objects.{ObjectMap}
 use Rattle.view_types.specs.declared.message.Message.{Message}
 use Rattle.view_types.specs.declared.query.Query.{Query}
@@ -19,9 +18,11 @@ use Rattle.view_rules.specs.Views.{view_before, view_of}
 use Rattle.watch_events.specs.declared.line.Line.{Line}
 use Rattle.watch_events.specs.declared.line.Line.TheVariants as lines
 use Rattle.watch_events.specs.declared.line.LineFault.{LineFault}
+use Rattle.request_sim.specs.declared.fault.SimFault.{SimFault}
 use Rattle.mesh_hub.specs.Drains.{too_long, unless_too_long}
 use Rattle.mesh_hub.specs.Events.{event_refusal, objects_after}
 use Rattle.mesh_hub.specs.Ids.{at_id, ended, in_place, subscribe_refusal, unknown_refusal, unless_refused}
+use Rattle.mesh_hub.specs.Marks.{MarkedRow}
 use Rattle.mesh_hub.specs.Program.{Program, reading}
 use Rattle.mesh_hub.specs.declared.refusal.HubFault.{HubFault}
 use Rattle.mesh_hub.specs.declared.refusal.Refusal.{Refusal}
@@ -71,12 +72,23 @@ hub_refusal program now (lines.Event event) = event_refusal program.limits.objec
 hub_refusal program now (lines.Subscribe id query) = subscribe_refusal program.limits.subs now.last (length now.subs) id.0
 hub_refusal program now (lines.Cancel id) = unknown_refusal id.0 (asked_at id.0 now.subs)
 hub_refusal program now (lines.Drain id) = unknown_refusal id.0 (asked_at id.0 now.subs)
+hub_refusal program now (lines.Simulate request) = None
 hub_refusal program now lines.Stop = None
 
+-- A simulation is refused for the fault that it met, and each other line by what it asks for.
+abbrev pub line_refusal : Program → State → Option SimFault → Line → Option Refusal
+line_refusal program now met (lines.Simulate request) = option_map refusals.Sim met
+line_refusal program now met lines.Blank = None
+line_refusal program now met (lines.Event event) = option_map refusals.Hub (hub_refusal program now (lines.Event event))
+line_refusal program now met (lines.Subscribe id query) = option_map refusals.Hub (hub_refusal program now (lines.Subscribe id query))
+line_refusal program now met (lines.Cancel id) = option_map refusals.Hub (hub_refusal program now (lines.Cancel id))
+line_refusal program now met (lines.Drain id) = option_map refusals.Hub (hub_refusal program now (lines.Drain id))
+line_refusal program now met lines.Stop = None
+
 -- Why a line is refused: it doesn't read, it has no place in the program, or what it says can't be done.
-abbrev pub refusal_of : Program → State → Result Line LineFault → Option Refusal
-refusal_of program now (Err fault) = Some (refusals.Line fault)
-refusal_of program now (Ok line) = if program.has_place line then option_map refusals.Hub (hub_refusal program now line) else Some refusals.NotHere
+abbrev pub refusal_of : Program → State → Option SimFault → Result Line LineFault → Option Refusal
+refusal_of program now met (Err fault) = Some (refusals.Line fault)
+refusal_of program now met (Ok line) = if program.has_place line then line_refusal program now met line else Some refusals.NotHere
 
 -- what an accepted line leads to
 abbrev pub after_line : Program → State → Result Line LineFault → State
@@ -86,23 +98,24 @@ after_line program now (Ok (lines.Event event)) = record now { objects = objects
 after_line program now (Ok (lines.Subscribe id query)) = record { objects = now.objects; subs = now.subs ++ record { id = id; query = query; told = None } ∷ []; last = Some id.0 }
 after_line program now (Ok (lines.Cancel id)) = record now { subs = in_place id_of id.0 ended now.subs }
 after_line program now (Ok (lines.Drain id)) = record now { subs = in_place id_of id.0 (told_now program now.objects) now.subs }
+after_line program now (Ok (lines.Simulate request)) = now
 after_line program now (Ok lines.Stop) = now
 
 -- why a row is refused
-abbrev pub row_refusal : Program → State → Row → Option Refusal
-row_refusal program now row = refusal_of program now (reading program row)
+abbrev pub row_refusal : Program → State → MarkedRow → Option Refusal
+row_refusal program now row = refusal_of program now row.1 (reading program row)
 
 -- what a row leads to
-abbrev pub step : Program → State → Row → State
+abbrev pub step : Program → State → MarkedRow → State
 step program now row = unless_refused (row_refusal program now row) now (after_line program now (reading program row))
 
 -- what the rows lead to
-abbrev pub after : Program → List Row → State
+abbrev pub after : Program → List MarkedRow → State
 after program [] = nothing
 after program (row ∷ past) = step program (after program past) row
 
 -- why a row is refused after those before it
-abbrev pub refusal_after : Program → List Row → Row → Option Refusal
+abbrev pub refusal_after : Program → List MarkedRow → MarkedRow → Option Refusal
 refusal_after program past row = row_refusal program (after program past) row
 
 -- what the end of the input leads to: each live subscription is drained

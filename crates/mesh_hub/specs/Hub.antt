@@ -9,7 +9,13 @@ use Rattle.view_types.specs.declared.message.Message.{Message}
 use Rattle.view_types.specs.declared.query.Query.{Query}
 use Rattle.view_rules.specs.Batch.{batch}
 use Rattle.view_rules.specs.Views.{view_of}
+use Rattle.view_types.specs.declared.request.Request.{Request}
+use Rattle.view_types.specs.declared.verdict.Verdict.{Verdict}
 use Rattle.watch_events.specs.declared.event.Event.{Event}
+use Rattle.route_match.specs.Matching.{Pat}
+use Rattle.request_sim.specs.Faults.{Simulated}
+use Rattle.request_sim.specs.declared.fault.SimFault.{SimFault}
+use Rattle.request_sim.specs.declared.fault.SimFault.TheVariants as sim
 use Rattle.mesh_hub.specs.Drains.{frames_within, too_long, unless_too_long}
 use Rattle.mesh_hub.specs.Events.{event_refusal, objects_after}
 use Rattle.mesh_hub.specs.Ids.{at_id, ended, in_place, subscribe_refusal, unless_refused}
@@ -118,3 +124,20 @@ shown_now now sub = unless_too_long (too_long now.limits.message (messages_for n
 
 abbrev pub drained : HubState → ℕ → HubState
 drained now id = record now { subs = in_place id_of id (shown_now now) now.subs }
+
+-- ---- simulations
+
+-- The hub stays as it is.
+pub record Rests (old : HubState) (new : HubState) : Type 0 where
+  pub going : old.spent ≡ false
+  pub same : new ≡ old
+
+abbrev pub RestsUnlessMemory : {T : Type 0} → HubState → Result T SimFault → HubState → Type 0
+RestsUnlessMemory old (Ok value) new = Rests old new
+RestsUnlessMemory old (Err (sim.Pattern route rule item)) new = Rests old new
+RestsUnlessMemory old (Err sim.Memory) new = Spends old new
+
+-- A simulation answers what comes of the request, or meets a pattern that is refused, and changes nothing. A spent hub can't.
+pub record Simulates (tells : Option Pat) (refuses : Option (List ℕ → Bool)) (request : Request) (result : Result Verdict SimFault) (old new : HubState) : Type 0 where
+  pub answer : Simulated old.config old.objects tells refuses request result
+  pub state : RestsUnlessMemory old result new

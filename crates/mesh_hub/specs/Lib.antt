@@ -1,12 +1,14 @@
 pub mod Begins
 pub mod Drains
 pub mod Events
+pub mod Fair
 pub mod History
 pub mod Hub
 pub mod Ids
 pub mod Lawful
 pub mod Live
 pub mod LookBack
+pub mod Marks
 pub mod Optional
 pub mod Orderly
 pub mod Output
@@ -17,5 +19,7 @@ pub mod Seen
 pub mod Sendable
 pub mod Sending
 pub mod Sent
+pub mod Simulating
 pub mod Text
 pub mod Told
+pub mod VerdictText

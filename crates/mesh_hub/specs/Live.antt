@@ -2,11 +2,11 @@
 -- greatest accepted id is the greatest of those of all accepted subscriptions.
 use Rattle.std.specs.Prelude.{◌≡◌, ◌<◌, ℕ, ◌==◌, ◌&&◌, Bool, List, [], ◌∷◌, ◌++◌, Option, Some, None, Result, Ok, Err, if◌then◌else◌, is_some, max, option_and_then, option_map}
 use Rattle.std.specs.List.{AllByRecursion}
-use Rattle.line_run.specs.Rows.{Row}
 use Rattle.view_types.specs.declared.query.Query.{Query}
 use Rattle.watch_events.specs.declared.line.Line.{Line}
 use Rattle.watch_events.specs.declared.line.Line.TheVariants as lines
 use Rattle.watch_events.specs.declared.line.LineFault.{LineFault}
+use Rattle.mesh_hub.specs.Marks.{MarkedRow}
 use Rattle.mesh_hub.specs.Program.{Program, reading}
 use Rattle.mesh_hub.specs.declared.refusal.Refusal.{Refusal}
 use Rattle.mesh_hub.specs.History.{Asked, State, after, asked_at, refusal_after, too_long_for}
@@ -24,11 +24,12 @@ asked_by program now (Ok (lines.Cancel asked)) id = if asked.0 == id then Some N
 asked_by program now (Ok (lines.Drain asked)) id = if (asked.0 == id) && meets_too_long program now id then Some None else None
 asked_by program now (Ok (lines.Event event)) id = None
 asked_by program now (Ok lines.Blank) id = None
+asked_by program now (Ok (lines.Simulate request)) id = None
 asked_by program now (Ok lines.Stop) id = None
 asked_by program now (Err fault) id = None
 
 -- the query that is live under an id, looking back through the rows
-abbrev pub live_at : Program → List Row → ℕ → Option Query
+abbrev pub live_at : Program → List MarkedRow → ℕ → Option Query
 live_at program [] id = None
 live_at program (row ∷ past) id = last_told (refusal_after program past row) (asked_by program (after program past) (reading program row) id) (live_at program past id)
 
@@ -37,7 +38,7 @@ abbrev pub query_at : ℕ → List Asked → Option Query
 query_at id subs = option_map (λ asked. asked.query) (asked_at id subs)
 
 abbrev pub IsLiveByTheLast : Program → Type 0
-IsLiveByTheLast program = (past : List Row) (id : ℕ) → query_at id (after program past).subs ≡ live_at program past id
+IsLiveByTheLast program = (past : List MarkedRow) (id : ℕ) → query_at id (after program past).subs ≡ live_at program past id
 
 -- each id is below those that follow it
 abbrev pub Ascend : List Asked → Type 0
@@ -45,7 +46,7 @@ Ascend [] = Unit {0}
 Ascend (sub ∷ subs) = AllByRecursion (λ (later : Asked). sub.id.0 < later.id.0) subs × Ascend subs
 
 abbrev pub LiveIdsAscend : Program → Type 0
-LiveIdsAscend program = (past : List Row) → Ascend (after program past).subs
+LiveIdsAscend program = (past : List MarkedRow) → Ascend (after program past).subs
 
 -- the ids under which rows that were accepted subscribe
 abbrev pub id_accepted : Option Refusal → Result Line LineFault → List ℕ
@@ -55,10 +56,11 @@ id_accepted None (Ok (lines.Event event)) = []
 id_accepted None (Ok lines.Blank) = []
 id_accepted None (Ok (lines.Cancel id)) = []
 id_accepted None (Ok (lines.Drain id)) = []
+id_accepted None (Ok (lines.Simulate request)) = []
 id_accepted None (Ok lines.Stop) = []
 id_accepted None (Err fault) = []
 
-abbrev pub accepted_ids : Program → List Row → List ℕ
+abbrev pub accepted_ids : Program → List MarkedRow → List ℕ
 accepted_ids program [] = []
 accepted_ids program (row ∷ past) = id_accepted (refusal_after program past row) (reading program row) ++ accepted_ids program past
 
@@ -71,4 +73,4 @@ greatest [] = None
 greatest (n ∷ ns) = Some (max_with n (greatest ns))
 
 abbrev pub LastIsGreatest : Program → Type 0
-LastIsGreatest program = (past : List Row) → (after program past).last ≡ greatest (accepted_ids program past)
+LastIsGreatest program = (past : List MarkedRow) → (after program past).last ≡ greatest (accepted_ids program past)

@@ -4,7 +4,6 @@ use Rattle.std.specs.Ordering.{eq_by_cmp}
 use Rattle.std.specs.FinMap.{get}
 use Rattle.mesh_base.specs.KeyOrder.{key_cmp}
 use Rattle.mesh_base.specs.declared.key.ObjKey.{ObjKey}
-use Rattle.line_run.specs.Rows.{Row}
 use Rattle.view_types.specs.declared.object.Object.{Object}
 use Rattle.view_types.specs.Objects.{key_of}
 use Rattle.object_store.specs.Relisted.{is_of, item_at}
@@ -12,6 +11,7 @@ use Rattle.watch_events.specs.declared.event.Event.TheVariants.{Set, Delete, Rel
 use Rattle.watch_events.specs.declared.line.Line.{Line}
 use Rattle.watch_events.specs.declared.line.Line.TheVariants as lines
 use Rattle.watch_events.specs.declared.line.LineFault.{LineFault}
+use Rattle.mesh_hub.specs.Marks.{MarkedRow}
 use Rattle.mesh_hub.specs.Program.{Program, reading}
 use Rattle.mesh_hub.specs.declared.refusal.Refusal.{Refusal}
 use Rattle.mesh_hub.specs.History.{refusal_after, after}
@@ -26,6 +26,7 @@ told_by (Ok lines.Blank) key = None
 told_by (Ok (lines.Subscribe id query)) key = None
 told_by (Ok (lines.Cancel id)) key = None
 told_by (Ok (lines.Drain id)) key = None
+told_by (Ok (lines.Simulate request)) key = None
 told_by (Ok lines.Stop) key = None
 told_by (Err fault) key = None
 
@@ -36,14 +37,14 @@ last_told None None before = before
 last_told None (Some told) before = told
 
 -- the object at a key, looking back through the rows
-abbrev pub held_at : Program → List Row → ObjKey → Option Object
+abbrev pub held_at : Program → List MarkedRow → ObjKey → Option Object
 held_at program [] key = None
 held_at program (row ∷ past) key = last_told (refusal_after program past row) (told_by (reading program row) key) (held_at program past key)
 
 abbrev pub IsToldByTheLast : Program → Type 0
-IsToldByTheLast program = (past : List Row) (key : ObjKey) → get (after program past).objects key ≡ held_at program past key
+IsToldByTheLast program = (past : List MarkedRow) (key : ObjKey) → get (after program past).objects key ≡ held_at program past key
 
 -- A refused row leads to nothing: what comes after it, however many rows, leads where it leads without it.
 abbrev pub RefusedChangesNothing : Program → Type 0
-RefusedChangesNothing program = (past : List Row) (row : Row) (refusal : Refusal) → refusal_after program past row ≡ Some refusal
-    → (later : List Row) → after program (later ++ row ∷ past) ≡ after program (later ++ past)
+RefusedChangesNothing program = (past : List MarkedRow) (row : MarkedRow) (refusal : Refusal) → refusal_after program past row ≡ Some refusal
+    → (later : List MarkedRow) → after program (later ++ row ∷ past) ≡ after program (later ++ past)

@@ -1,16 +1,18 @@
 -- What is written for a list of rows: the piece of each row, and at the end what each live subscription is sent.
 use Rattle.std.specs.Prelude.{ℕ, ◌+◌, Bool, false, ◌||◌, List, [], ◌∷◌, ◌++◌, length, Option, Some, None, Result, Ok, Err, is_some}
 use Rattle.std.specs.List.{flat_map}
-use Rattle.line_run.specs.Rows.{Row, past_of}
 use Rattle.view_types.specs.Objects.{ObjectMap}
 use Rattle.view_types.specs.declared.message.Message.{Message}
 use Rattle.watch_events.specs.declared.line.Line.{Line}
 use Rattle.watch_events.specs.declared.line.Line.TheVariants as lines
 use Rattle.watch_events.specs.declared.line.LineFault.{LineFault}
+use Rattle.request_rules.specs.Verdicts.{verdict}
 use Rattle.mesh_hub.specs.Drains.{frames_of, too_long}
 use Rattle.mesh_hub.specs.History.{Asked, State, after, asked_at, messages_due, refusal_after, row_refusal}
+use Rattle.mesh_hub.specs.Marks.{MarkedRow}
 use Rattle.mesh_hub.specs.Program.{Program, reading}
 use Rattle.mesh_hub.specs.Text.{frame_line, oversize_line, refused_line}
+use Rattle.mesh_hub.specs.VerdictText.{verdict_line}
 use Rattle.mesh_hub.specs.declared.refusal.Refusal.{Refusal}
 
 -- ---- what a subscription is sent
@@ -44,44 +46,41 @@ end_lines program now = flat_map (sub_lines program now.objects) now.subs
 
 -- ---- what is written for rows
 
--- what an accepted line writes
-abbrev pub line_text : Program → State → Result Line LineFault → List ℕ
-line_text program now (Ok (lines.Drain id)) = drain_lines program now id.0
-line_text program now (Ok (lines.Subscribe id query)) = []
-line_text program now (Ok (lines.Cancel id)) = []
-line_text program now (Ok (lines.Event event)) = []
-line_text program now (Ok lines.Blank) = []
-line_text program now (Ok lines.Stop) = []
-line_text program now (Err fault) = []
+-- what an accepted line of this number writes
+abbrev pub line_text : Program → ℕ → State → Result Line LineFault → List ℕ
+line_text program number now (Ok (lines.Drain id)) = drain_lines program now id.0
+line_text program number now (Ok (lines.Subscribe id query)) = []
+line_text program number now (Ok (lines.Cancel id)) = []
+line_text program number now (Ok (lines.Event event)) = []
+line_text program number now (Ok lines.Blank) = []
+line_text program number now (Ok (lines.Simulate request)) = verdict_line number request.ns (verdict program.config now.objects program.matches request)
+line_text program number now (Ok lines.Stop) = []
+line_text program number now (Err fault) = []
 
 -- the piece of the row of this number: a refused one's fault, or what an accepted one writes
 abbrev pub row_piece : ℕ → Option Refusal → List ℕ → List ℕ
 row_piece number None text = text
 row_piece number (Some refusal) text = refused_line number refusal
 
-abbrev pub piece_at : Program → ℕ → State → Row → List ℕ
-piece_at program number now row = row_piece number (row_refusal program now row) (line_text program now (reading program row))
+abbrev pub piece_at : Program → ℕ → State → MarkedRow → List ℕ
+piece_at program number now row = row_piece number (row_refusal program now row) (line_text program number now (reading program row))
 
-abbrev pub piece_of : Program → List Row → Row → List ℕ
+abbrev pub piece_of : Program → List MarkedRow → MarkedRow → List ℕ
 piece_of program past row = piece_at program (length past + 1) (after program past) row
 
 -- the pieces of the rows in their order, where a row's piece is told by the rows before it and the row
-abbrev pub pieces : (List Row → Row → List ℕ) → List Row → List ℕ
+abbrev pub pieces : (List MarkedRow → MarkedRow → List ℕ) → List MarkedRow → List ℕ
 pieces piece [] = []
 pieces piece (row ∷ past) = pieces piece past ++ piece past row
 
-abbrev pub written_after : Program → List Row → List ℕ
+abbrev pub written_after : Program → List MarkedRow → List ℕ
 written_after program past = pieces (piece_of program) past
 
 -- some row was refused
-abbrev pub refused_after : Program → List Row → Bool
+abbrev pub refused_after : Program → List MarkedRow → Bool
 refused_after program [] = false
 refused_after program (row ∷ past) = refused_after program past || is_some (refusal_after program past row)
 
 -- the output of rows
-abbrev pub output_after : Program → List Row → List ℕ
+abbrev pub output_after : Program → List MarkedRow → List ℕ
 output_after program past = written_after program past ++ end_lines program (after program past)
-
--- the output of an input
-abbrev pub output_of : Program → List ℕ → List ℕ
-output_of program bytes = output_after program (past_of program.limits.line bytes)

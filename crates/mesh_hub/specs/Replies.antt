@@ -1,6 +1,9 @@
 -- What a call adds to the replies of a machine that tells them, and what a call may answer at all.
 use Rattle.std.specs.Prelude.{◌≡◌, ℕ, List, [], ◌∷◌, Result, Ok, Err}
 use Rattle.mesh_base.specs.declared.sub_id.SubId.{SubId}
+use Rattle.view_types.specs.declared.verdict.Verdict.{Verdict}
+use Rattle.request_sim.specs.declared.fault.SimFault.{SimFault}
+use Rattle.request_sim.specs.declared.fault.SimFault.TheVariants as sim
 use Rattle.mesh_hub.specs.declared.refusal.HubFault.{HubFault}
 use Rattle.mesh_hub.specs.declared.refusal.HubFault.TheVariants.{Memory, Full, TooManySubs, IdOrder, NoSuchId, Oversize}
 use Rattle.mesh_hub.specs.declared.machine.Reply.{Reply}
@@ -25,6 +28,12 @@ drain_reply id (Err (Full held)) = replies.Refused (Full held) ∷ []
 drain_reply id (Err (TooManySubs live)) = replies.Refused (TooManySubs live) ∷ []
 drain_reply id (Err (IdOrder last)) = replies.Refused (IdOrder last) ∷ []
 drain_reply id (Err (NoSuchId unknown)) = replies.Refused (NoSuchId unknown) ∷ []
+
+-- that of a simulation
+abbrev pub sim_reply : Result Verdict SimFault → List Reply
+sim_reply (Ok found) = replies.Verdict found ∷ []
+sim_reply (Err (sim.Pattern route rule item)) = replies.Pattern (sim.Pattern route rule item) ∷ []
+sim_reply (Err sim.Memory) = []
 
 -- ---- the faults that a call may answer
 

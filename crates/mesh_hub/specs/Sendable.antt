@@ -1,13 +1,13 @@
 -- Each message that is sent can be read again, and says what was sent.
 use Rattle.std.specs.Prelude.{◌≡◌, ◌<◌, ◌^◌, ℕ, List, Ok, IsUtf8}
 use Rattle.std.specs.List.{AllByRecursion}
-use Rattle.line_run.specs.Rows.{Row}
 use Rattle.view_types.specs.declared.config.Config.{Config}
 use Rattle.view_types.specs.declared.message.Message.{Message}
 use Rattle.proxy_proto.specs.MessageReading.{message_of}
 use Rattle.proxy_proto.specs.Messages.{canonical}
 use Rattle.proxy_proto.specs.Sendable.{IsSendable, method_of}
 use Rattle.mesh_hub.specs.History.{after}
+use Rattle.mesh_hub.specs.Marks.{MarkedRow}
 use Rattle.mesh_hub.specs.Program.{Program}
 use Rattle.mesh_hub.specs.Sent.{sent_now}
 
@@ -23,9 +23,9 @@ HasLimit program = program.limits.message < 2 ^ 32
 
 -- Each message that a drain sends, after any rows and at the end, can be read again.
 abbrev pub MessagesAreSendable : Program → Type 0
-MessagesAreSendable program = IsLawfulConfig program.config → HasLimit program → (past : List Row) (id : ℕ)
+MessagesAreSendable program = IsLawfulConfig program.config → HasLimit program → (past : List MarkedRow) (id : ℕ)
     → AllByRecursion IsSendable (sent_now program (after program past) id)
 
 abbrev pub MessagesReadBack : Program → Type 0
-MessagesReadBack program = IsLawfulConfig program.config → HasLimit program → (past : List Row) (id : ℕ)
+MessagesReadBack program = IsLawfulConfig program.config → HasLimit program → (past : List MarkedRow) (id : ℕ)
     → AllByRecursion (λ (message : Message). message_of (method_of message) (canonical message) ≡ Ok message) (sent_now program (after program past) id)

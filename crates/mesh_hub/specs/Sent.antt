@@ -2,7 +2,6 @@
 use Rattle.std.specs.Prelude.{◌≡◌, ◌≤◌, ℕ, ◌==◌, List, [], ◌∷◌, ◌++◌, Option, Some, None, Result, Ok, Err, if◌then◌else◌, flat_map}
 use Rattle.std.specs.FinMap.{get}
 use Rattle.mesh_base.specs.declared.key.ObjKey.{ObjKey}
-use Rattle.line_run.specs.Rows.{Row}
 use Rattle.view_types.specs.Objects.{ObjectMap}
 use Rattle.view_types.specs.declared.message.Message.{Message}
 use Rattle.view_rules.specs.Fold.{fold}
@@ -13,6 +12,7 @@ use Rattle.watch_events.specs.declared.line.LineFault.{LineFault}
 use Rattle.mesh_hub.specs.Drains.{frames_of}
 use Rattle.mesh_hub.specs.History.{Asked, State, after, asked_at, messages_due, refusal_after, too_long_for}
 use Rattle.mesh_hub.specs.Output.{piece_of, sub_lines}
+use Rattle.mesh_hub.specs.Marks.{MarkedRow}
 use Rattle.mesh_hub.specs.Program.{Program, reading}
 use Rattle.mesh_hub.specs.Text.{frame_line}
 use Rattle.mesh_hub.specs.declared.refusal.Refusal.{Refusal}
@@ -40,23 +40,24 @@ sent_by program now None (Ok (lines.Subscribe asked query)) id = []
 sent_by program now None (Ok (lines.Cancel asked)) id = []
 sent_by program now None (Ok (lines.Event event)) id = []
 sent_by program now None (Ok lines.Blank) id = []
+sent_by program now None (Ok (lines.Simulate request)) id = []
 sent_by program now None (Ok lines.Stop) id = []
 sent_by program now None (Err fault) id = []
 
 -- all that the subscriber of an id was sent by the rows
-abbrev pub sent_to : Program → List Row → ℕ → List Message
+abbrev pub sent_to : Program → List MarkedRow → ℕ → List Message
 sent_to program [] id = []
 sent_to program (row ∷ past) id = sent_to program past id ++ sent_by program (after program past) (refusal_after program past row) (reading program row) id
 
 -- and by the end of the input too
-abbrev pub sent_in_all : Program → List Row → ℕ → List Message
+abbrev pub sent_in_all : Program → List MarkedRow → ℕ → List Message
 sent_in_all program past id = sent_to program past id ++ sent_now program (after program past) id
 
 -- ---- what is seen
 
 -- A live subscriber that folds what it was sent sees the view over what was held when it was last drained, or none.
 abbrev pub FoldsToLastShown : Program → Type 0
-FoldsToLastShown program = 1 ≤ program.limits.frame_addrs → (past : List Row) (id : ℕ) (asked : Asked) → asked_at id (after program past).subs ≡ Some asked
+FoldsToLastShown program = 1 ≤ program.limits.frame_addrs → (past : List MarkedRow) (id : ℕ) (asked : Asked) → asked_at id (after program past).subs ≡ Some asked
     → fold (sent_to program past id) ≡ view_before program.config asked.query asked.told
 
 -- A live subscriber is owed nothing: its view is what it was last shown.
@@ -65,21 +66,21 @@ IsOwedNothing program now asked = view_before program.config asked.query asked.t
 
 -- Whenever a live subscriber is owed nothing, folding what it was sent gives the view that filters over what is held give.
 abbrev pub FoldsToView : Program → Type 0
-FoldsToView program = 1 ≤ program.limits.frame_addrs → (past : List Row) (id : ℕ) (asked : Asked) → asked_at id (after program past).subs ≡ Some asked
+FoldsToView program = 1 ≤ program.limits.frame_addrs → (past : List MarkedRow) (id : ℕ) (asked : Asked) → asked_at id (after program past).subs ≡ Some asked
     → IsOwedNothing program (after program past) asked → fold (sent_to program past id) ≡ Some (view_of program.config (after program past).objects asked.query)
 
 -- the last drain of a live subscription, at the end of the input, meets no message that is too long
-abbrev pub IsDrained : Program → List Row → ℕ → Asked → Type 0
+abbrev pub IsDrained : Program → List MarkedRow → ℕ → Asked → Type 0
 IsDrained program past id asked = (asked_at id (after program past).subs ≡ Some asked) × (too_long_for program (after program past).objects asked ≡ None)
 
 -- So it is at the end of the input.
 abbrev pub EndFoldsToView : Program → Type 0
-EndFoldsToView program = 1 ≤ program.limits.frame_addrs → (past : List Row) (id : ℕ) (asked : Asked) → IsDrained program past id asked
+EndFoldsToView program = 1 ≤ program.limits.frame_addrs → (past : List MarkedRow) (id : ℕ) (asked : Asked) → IsDrained program past id asked
     → fold (sent_in_all program past id) ≡ Some (view_of program.config (after program past).objects asked.query)
 
 -- Where two lists of rows end in the same objects, one query ends in the same view after both.
 abbrev pub SameObjectsSameView : Program → Type 0
-SameObjectsSameView program = 1 ≤ program.limits.frame_addrs → (past other : List Row)
+SameObjectsSameView program = 1 ≤ program.limits.frame_addrs → (past other : List MarkedRow)
     → ((key : ObjKey) → get (after program past).objects key ≡ get (after program other).objects key)
     → (id other_id : ℕ) (asked other_asked : Asked) → IsDrained program past id asked → IsDrained program other other_id other_asked → asked.query ≡ other_asked.query
     → fold (sent_in_all program past id) ≡ fold (sent_in_all program other other_id)
@@ -92,10 +93,10 @@ frame_lines id messages = flat_map (frame_line id) (frames_of messages)
 
 -- An accepted drain that meets no message that is too long writes what it sends.
 abbrev pub DrainWritesWhatIsSent : Program → Type 0
-DrainWritesWhatIsSent program = (past : List Row) (row : Row) (asked : Asked) → refusal_after program past row ≡ None → reading program row ≡ Ok (lines.Drain asked.id)
+DrainWritesWhatIsSent program = (past : List MarkedRow) (row : MarkedRow) (asked : Asked) → refusal_after program past row ≡ None → reading program row ≡ Ok (lines.Drain asked.id)
     → IsDrained program past asked.id.0 asked → piece_of program past row ≡ frame_lines asked.id.0 (sent_by program (after program past) None (reading program row) asked.id.0)
 
 -- And so does the end.
 abbrev pub EndWritesWhatIsSent : Program → Type 0
-EndWritesWhatIsSent program = (past : List Row) (asked : Asked) → IsDrained program past asked.id.0 asked
+EndWritesWhatIsSent program = (past : List MarkedRow) (asked : Asked) → IsDrained program past asked.id.0 asked
     → sub_lines program (after program past).objects asked ≡ frame_lines asked.id.0 (sent_now program (after program past) asked.id.0)

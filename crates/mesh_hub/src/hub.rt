@@ -1,7 +1,9 @@
+ghost use Rattle.mesh_outside.specs.Causes.{Rose};
 ghost use Rattle.std.specs.Prelude.{◌≡◌, ◌==◌, ◌≤◌, ◌<◌, false, None, IfOk, MatchOption, Some, length};
 ghost use Rattle.std.specs.List.{position_from};
 ghost use Rattle.view_types.specs.Objects.{IsListOf};
 ghost use Rattle.view_rules.specs.Fold.{IsOrderlyIfShown};
+ghost use Rattle.request_sim.specs.Faults.{MetPattern, Simulated};
 ghost use Rattle.mesh_hub.specs.Orderly.{AreOrderly, AreOrderly-prop};
 
 use crate::frames::frames_within;
@@ -14,15 +16,21 @@ use mesh_base::list::List;
 use mesh_base::memory::Memory;
 use mesh_base::steps::Steps;
 use mesh_base::sub_id::SubId;
+use mesh_outside::Patterns;
 use object_store::change::StoreFault;
 use object_store::store::Store;
+use request_sim::decide::decide;
+use request_sim::fault::SimFault;
 use std::alloc::Global;
 use std::mem;
 use view_diff::views::batch;
+use view_scratch::inbound::inbound;
 use view_scratch::scratch::scratch;
 use view_types::config::Config;
 use view_types::object::Object;
 use view_types::query::Query;
+use view_types::request::Request;
+use view_types::verdict::Verdict;
 use view_types::view::View;
 use watch_events::event::Event;
 
@@ -68,7 +76,7 @@ impl Drop for Hub {
 }
 
 impl Hub {
-    ghost use Rattle.mesh_hub.specs.Hub.{Answers, Cancels, answer_of, applied, apply_refusal, drained, frames_at, fresh, id_of, is_live, new_refusal, state_of, sub_at, subscribed};
+    ghost use Rattle.mesh_hub.specs.Hub.{Answers, Cancels, answer_of, applied, apply_refusal, drained, frames_at, fresh, id_of, is_live, new_refusal, state_of, sub_at, subscribed, Simulates};
     ghost use Rattle.mesh_hub.specs.Replies.{MayApply, MayDrain, MaySubscribe};
     ghost use Rattle.mesh_hub.specs.Ids.{StandsAt};
     ghost use Rattle.mesh_hub.specs.Sending.{Ends, IsDueOrTooLong, Shows};
@@ -152,6 +160,58 @@ impl Hub {
             return Err(HubFault::NoSuchId { id: id.0 });
         };
         self.send(id, at)
+    }
+
+    /// What comes of a request to a port of a Pod, by the policy that is held. It changes no view and no subscription. `Pattern` comes
+    /// only where a pattern was refused in this call.
+    pub fn simulate<P: Patterns, L>(
+        &mut self,
+        request: &Request,
+        patterns: &mut P,
+        _steps: &mut Steps<L>,
+    ) -> Result<Verdict, SimFault>
+        ensures answers { Simulates (P.tells patterns.old) (P.refuses patterns.old) request.now result (state_of self.old) (state_of self.new) }
+        ensures cause { MetPattern result → Rose (P.refusals patterns.old) (P.refusals patterns.new) }
+        ensures later { P.refusals patterns.old ≤ P.refusals patterns.new }
+        ensures tells_same { P.tells patterns.new ≡ P.tells patterns.old }
+        ensures refuses_same { P.refuses patterns.new ≡ P.refuses patterns.old }
+    {
+        if self.spent {
+            return Err(SimFault::Memory);
+        }
+        match self.verdict(request, patterns) {
+            Ok(verdict) => Ok(verdict),
+            Err(SimFault::Pattern { route, rule, item }) => {
+                Err(SimFault::Pattern { route, rule, item })
+            }
+            Err(SimFault::Memory) => {
+                self.spent = true;
+                Err(SimFault::Memory)
+            }
+        }
+    }
+
+    // What comes of a request, by the view of its port.
+    fn verdict<P: Patterns>(&self, request: &Request, patterns: &mut P) -> Result<Verdict, SimFault>
+        ensures simulated { Simulated self.now.config self.now.store.objects (P.tells patterns.old) (P.refuses patterns.old) request.now result }
+        ensures cause { MetPattern result → Rose (P.refusals patterns.old) (P.refusals patterns.new) }
+        ensures later { P.refusals patterns.old ≤ P.refusals patterns.new }
+        ensures tells_same { P.tells patterns.new ≡ P.tells patterns.old }
+        ensures refuses_same { P.refuses patterns.new ≡ P.refuses patterns.old }
+    {
+        // `all` tells that each object stands at its own key, which the decision rests on.
+        let _held = self.store.all();
+        let Ok(view) = inbound(
+            self.alloc,
+            &self.config,
+            &self.store,
+            &request.ns,
+            &request.pod,
+            request.port,
+        ) else {
+            return Err(SimFault::Memory);
+        };
+        decide(self.alloc, &view, request, &self.config, patterns)
     }
 
     /// Whether a subscription is live under the id.
@@ -349,5 +409,14 @@ impl Machine for Hub {
 
     fn drain(&mut self, id: SubId) -> Result<List<Bytes>, HubFault> {
         Hub::drain(self, id)
+    }
+
+    fn simulate<P: Patterns, L>(
+        &mut self,
+        request: &Request,
+        patterns: &mut P,
+        steps: &mut Steps<L>,
+    ) -> Result<Verdict, SimFault> {
+        Hub::simulate(self, request, patterns, steps)
     }
 }

@@ -1,4 +1,5 @@
 ghost use Rattle.mesh_base.specs.declared.limits.Limits.{Limits};
+ghost use Rattle.route_match.specs.Matching.{Pat};
 ghost use Rattle.view_types.specs.Defaults.{usual_config};
 ghost use Rattle.view_types.specs.declared.config.Config.{Config};
 ghost use Rattle.mesh_hub.specs.Lawful.{HeldAreLawful, HeldAtKeys};
@@ -7,6 +8,7 @@ ghost use Rattle.mesh_hub.specs.LookBack.{IsToldByTheLast, RefusedChangesNothing
 ghost use Rattle.mesh_hub.specs.Program.{Program, replay_of};
 ghost use Rattle.mesh_hub.specs.Sendable.{IsLawfulConfig, MessagesAreSendable, MessagesReadBack};
 ghost use Rattle.mesh_hub.specs.Sent.{DrainWritesWhatIsSent, EndFoldsToView, EndWritesWhatIsSent, FoldsToLastShown, FoldsToView, SameObjectsSameView};
+ghost use Rattle.mesh_hub.specs.Simulating.{MarksChangeNothing, SimulationsChangeNothing, UnrisenMarksNone, VerdictsArePolicys};
 ghost use Rattle.mesh_hub.specs.Told.{IsToldAtLastDrain};
 
 use view_diff::laws::messages_fold;
@@ -14,7 +16,7 @@ use watch_events::laws::lines_are_lawful;
 
 /// What is held at a key is told by the last accepted line that speaks of it.
 pub fn held_is_told_by_the_last()
-    ensures { (config : Config) (limits : Limits) → IsToldByTheLast (replay_of config limits) }
+    ensures { (config : Config) (limits : Limits) (pat : Pat) → IsToldByTheLast (replay_of config limits pat) }
 {
     lines_are_lawful();
 }
@@ -46,14 +48,14 @@ pub fn told_at_the_last_drain()
 
 /// Each object that is held is as its reader gives it.
 pub fn held_are_lawful()
-    ensures { (config : Config) (limits : Limits) → HeldAreLawful (replay_of config limits) }
+    ensures { (config : Config) (limits : Limits) (pat : Pat) → HeldAreLawful (replay_of config limits pat) }
 {
     lines_are_lawful();
 }
 
 /// Each object that is held stands at its own key.
 pub fn held_at_their_keys()
-    ensures { (config : Config) (limits : Limits) → HeldAtKeys (replay_of config limits) }
+    ensures { (config : Config) (limits : Limits) (pat : Pat) → HeldAtKeys (replay_of config limits pat) }
 {
     lines_are_lawful();
 }
@@ -65,14 +67,14 @@ pub fn usual_config_is_lawful()
 
 /// Each message that is sent can be read again: its numbers are of their types and its strings in UTF-8.
 pub fn messages_are_sendable()
-    ensures { (config : Config) (limits : Limits) → MessagesAreSendable (replay_of config limits) }
+    ensures { (config : Config) (limits : Limits) (pat : Pat) → MessagesAreSendable (replay_of config limits pat) }
 {
     lines_are_lawful();
 }
 
 /// What is written of each message that is sent says that message.
 pub fn messages_read_back()
-    ensures { (config : Config) (limits : Limits) → MessagesReadBack (replay_of config limits) }
+    ensures { (config : Config) (limits : Limits) (pat : Pat) → MessagesReadBack (replay_of config limits pat) }
 {
     lines_are_lawful();
 }
@@ -114,4 +116,24 @@ pub fn a_drain_writes_what_is_sent()
 /// So does the end.
 pub fn the_end_writes_what_is_sent()
     ensures { (program : Program) → EndWritesWhatIsSent program }
+{}
+
+/// What lines lead to doesn't depend on which simulations met a pattern that is refused.
+pub fn marks_change_nothing()
+    ensures { (program : Program) → MarksChangeNothing program }
+{}
+
+/// Where the count of refused patterns didn't rise, no simulation met one.
+pub fn unrisen_marks_none()
+    ensures { UnrisenMarksNone }
+{}
+
+/// A line that simulates a request leads nowhere.
+pub fn simulations_change_nothing()
+    ensures { (program : Program) → SimulationsChangeNothing program }
+{}
+
+/// What is written of a simulated request is what the written policy says of it, over the objects that are then held.
+pub fn verdicts_are_the_written_policys()
+    ensures { (program : Program) → VerdictsArePolicys program }
 {}

@@ -1,5 +1,7 @@
 ghost use Rattle.std.specs.Prelude.{◌≡◌, ◌≤◌, ℕ, List, [], Option, Some, None, Ok};
+ghost use Rattle.mesh_outside.specs.Causes.{Rose};
 ghost use Rattle.watch_events.specs.Lawful.{IsLawfulEvent};
+ghost use Rattle.request_sim.specs.Faults.{MetPattern};
 
 use crate::refusal::{HubFault, NoSuchId};
 use bytes::Bytes;
@@ -8,8 +10,12 @@ use mesh_base::list::List;
 use mesh_base::memory::Memory;
 use mesh_base::steps::Steps;
 use mesh_base::sub_id::SubId;
+use mesh_outside::Patterns;
+use request_sim::fault::SimFault;
 use view_types::config::Config;
 use view_types::query::Query;
+use view_types::request::Request;
+use view_types::verdict::Verdict;
 use watch_events::event::Event;
 
 /// What a call of a machine answered.
@@ -22,13 +28,17 @@ pub enum Reply {
     Frames(SubId, List<Bytes>),
     /// A drain met a message of so many bytes, which is too long.
     TooBig(SubId, u64),
+    /// What comes of a simulated request.
+    Verdict(Verdict),
+    /// A simulation met a pattern that is refused.
+    Pattern(SimFault),
 }
 
 /// A hub, or what stands in its place. It may tell what it holds, and it may tell its replies.
 pub trait Machine {
-    ghost use Rattle.mesh_hub.specs.Hub.{Answers, Cancels, HubState, answer_of, applied, apply_refusal, drained, frames_at, fresh, new_refusal, subscribed};
+    ghost use Rattle.mesh_hub.specs.Hub.{Answers, Cancels, HubState, answer_of, applied, apply_refusal, drained, frames_at, fresh, new_refusal, subscribed, Simulates};
     ghost use Rattle.mesh_hub.specs.Optional.{Becomes, Grows};
-    ghost use Rattle.mesh_hub.specs.Replies.{MayApply, MayDrain, MaySubscribe, done_reply, drain_reply};
+    ghost use Rattle.mesh_hub.specs.Replies.{MayApply, MayDrain, MaySubscribe, done_reply, drain_reply, sim_reply};
     ghost use Rattle.mesh_hub.specs.Begins.{Begins};
     ghost use Rattle.mesh_hub.specs.declared.machine.Reply.{Reply as TheReply};
 
@@ -75,4 +85,19 @@ pub trait Machine {
         ensures state { Becomes (state self.old) (state self.new) (λ old new. Answers old (frames_at old id.0) (drained old id.0) result new) }
         ensures replies { Grows (replies self.old) (replies self.new) (drain_reply id result) }
         ensures may { MayDrain id result };
+
+    /// What comes of a request to a port of a Pod. No view and no subscription changes. `Pattern` comes only where a pattern was
+    /// refused in this call.
+    fn simulate<P: Patterns, L>(
+        &mut self,
+        request: &Request,
+        patterns: &mut P,
+        steps: &mut Steps<L>,
+    ) -> Result<Verdict, SimFault>
+        ensures state { Becomes (state self.old) (state self.new) (λ old new. Simulates (P.tells patterns.old) (P.refuses patterns.old) request.now result old new) }
+        ensures replies { Grows (replies self.old) (replies self.new) (sim_reply result) }
+        ensures cause { MetPattern result → Rose (P.refusals patterns.old) (P.refusals patterns.new) }
+        ensures later { P.refusals patterns.old ≤ P.refusals patterns.new }
+        ensures tells_same { P.tells patterns.new ≡ P.tells patterns.old }
+        ensures refuses_same { P.refuses patterns.new ≡ P.refuses patterns.old };
 }

@@ -3,6 +3,7 @@ ghost use Rattle.mesh_hub.specs.declared.refusal.HubFault.TheVariants.{Memory};
 ghost use Rattle.mesh_hub.specs.RefusalText.{hub_fault_text, refusal_text};
 
 use mesh_base::memory;
+use request_sim::fault::SimFault;
 use std::fmt;
 use watch_events::line::LineFault;
 
@@ -43,6 +44,8 @@ pub enum Refusal {
     Hub(HubFault),
     /// It has no place in this program.
     NotHere,
+    /// It simulates a request, and met a pattern that is refused.
+    Sim(SimFault),
 }
 
 impl fmt::Display for HubFault {
@@ -71,6 +74,12 @@ impl fmt::Display for Refusal {
                 write!(f, "{fault}")
             }
             Refusal::NotHere => write!(f, "NotHere"),
+            Refusal::Sim(SimFault::Memory) => Ok(()),
+            Refusal::Sim(SimFault::Pattern { route, rule, item }) => {
+                let route = route.as_str();
+                let (rule, item) = (*rule, *item);
+                write!(f, "Pattern {route} {rule} {item}")
+            }
         }
     }
 }

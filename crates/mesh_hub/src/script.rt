@@ -3,14 +3,19 @@ ghost use Rattle.std.specs.Prelude.{◌≡◌, ◌+◌, ◌-◌, ◌^◌, ◌<�
 use crate::machine::{Machine, Reply};
 use crate::refusal::{HubFault, NoSuchId};
 use bytes::Bytes;
+use mesh_base::copied::Copied;
 use mesh_base::limits::Limits;
 use mesh_base::list::List;
 use mesh_base::memory::Memory;
 use mesh_base::steps::Steps;
 use mesh_base::sub_id::SubId;
+use mesh_outside::Patterns;
+use request_sim::fault::SimFault;
 use std::alloc::Global;
 use view_types::config::Config;
 use view_types::query::Query;
+use view_types::request::Request;
+use view_types::verdict::Verdict;
 use watch_events::event::Event;
 
 /// Answers with the replies that it was given, one after another, and holds nothing. Where the next reply is no possible
@@ -119,6 +124,22 @@ impl Machine for ScriptMachine {
                 Err(HubFault::NoSuchId { id: id.0 })
             }
             _ => Err(HubFault::Memory),
+        }
+    }
+
+    fn simulate<P: Patterns, L>(
+        &mut self,
+        _request: &Request,
+        _patterns: &mut P,
+        _steps: &mut Steps<L>,
+    ) -> Result<Verdict, SimFault> {
+        match self.next() {
+            Some(Reply::Verdict(verdict)) => {
+                let verdict = verdict.copy(self.alloc)?;
+                self.taken += 1;
+                Ok(verdict)
+            }
+            _ => Err(SimFault::Memory),
         }
     }
 }

@@ -1,14 +1,17 @@
 ghost use Rattle.std.specs.Prelude.{◌≡◌, ◌++◌, IfOk, IfSome, OnOk, flat_map};
 ghost use Rattle.mesh_hub.specs.RefusalText.{refusal_text};
 ghost use Rattle.mesh_hub.specs.Text.{fault_line, hex_line, oversize_line};
+ghost use Rattle.mesh_hub.specs.VerdictText.{verdict_line};
 
 use crate::refusal::Refusal;
+use crate::verdict::ShownVerdict;
 use bytes::Bytes;
 use mesh_base::list::List;
 use mesh_base::memory::Memory;
 use mesh_base::text::Text;
 use std::alloc::{AllocError, Global};
 use std::fmt::Display;
+use view_types::verdict::Verdict;
 
 /// How a refusal is written. Out of memory and a message that is too long have no text here, and give the empty one.
 pub fn text_of(alloc: Global, refusal: &Refusal) -> Result<Text, Memory>
@@ -40,6 +43,24 @@ pub fn push_oversize(
     ensures { OnOk result (out.new.items ≡ out.old.items ++ oversize_line id bytes) }
 {
     let text = format!(in alloc; "oversize {id} {bytes}\n")?;
+    out.extend_from_slice(text.as_bytes())
+}
+
+/// Writes `verdict <line> <text>`, of a request to a Pod of the namespace.
+pub fn push_verdict(
+    alloc: Global,
+    out: &mut Vec<u8>,
+    number: u64,
+    ns: &Text,
+    verdict: &Verdict,
+) -> Result<(), AllocError>
+    ensures { OnOk result (out.new.items ≡ out.old.items ++ verdict_line number ns.now verdict.now) }
+{
+    let verdict = ShownVerdict {
+        ns: ns.as_str(),
+        verdict,
+    };
+    let text = format!(in alloc; "verdict {number} {verdict}\n")?;
     out.extend_from_slice(text.as_bytes())
 }
 

@@ -52,10 +52,10 @@ module _ (method : Method) (id : ℕ) (limits : Limits) where
 
   module _ (left held held_new : Option (List ℕ)) where
     -- what was written where a run stopped
-    pub folded_front : {M : Type 0} (failed_of : M → Bool) (view_of : M → Option View) (OfFold : M → Type 0)
+    pub folded_front : {M : Type 0} {kept : M → Type 0} (failed_of : M → Bool) (view_of : M → Option View) (OfFold : M → Type 0)
         → Part (λ m past said refused. OfFold m × Stands method id (failed_of m) (view_of m) past said refused)
         (λ m past said refused. OfFold m × Stands method id (failed_of m) (view_of m) past said refused)
-        (λ m past said refused. Ended method id limits past said refused) limits.line left held held_new
+        (λ m past said refused. Ended method id limits past said refused) kept limits.line left held held_new
         → WritesFoldedFront method id limits left held held_new
     folded_front failed_of view_of OfFold part = IfSome-weaker left _ _ (λ bytes front.
         let rows = past_of limits.line bytes in

@@ -53,6 +53,12 @@ impl LineMachine for Folding {
 
     ghost begins = { λ start now past text refused stood. stood };
 
+    ghost keeps = { λ earlier now. Unit {0} };
+
+    ghost keeps_itself = { λ machine. tt };
+
+    ghost keeps_on = { λ first second third on further. tt };
+
     ghost pieces_left = { λ now. 0 };
 
     fn line(

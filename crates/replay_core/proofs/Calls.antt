@@ -17,6 +17,7 @@ use Rattle.mesh_hub.specs.declared.refusal.HubFault.TheVariants.{Memory, Full, T
 use Rattle.mesh_hub.specs.declared.refusal.NoSuchId.{NoSuchId as NotLive}
 use Rattle.mesh_hub.specs.declared.refusal.Refusal.{Refusal}
 use Rattle.mesh_hub.specs.declared.refusal.Refusal.TheVariants as refusals
+use Rattle.replay_core.specs.Said.{reply_text}
 use Rattle.replay_core.specs.Take.{Drains, IsRefusalBy, IsUndrained, Makes, Replied, Unreplied, drain_refusal, drained_as, drained_lines, drained_unless}
 use Rattle.replay_core.specs.declared.drain.Drained.{Drained}
 use Rattle.replay_core.specs.declared.drain.Drained.TheVariants.{Sent, Ended, Undrained}
@@ -46,14 +47,14 @@ module _ (fault : Option HubFault) (old after new : HubState) where
   made_err (NoSuchId id) refusal answers is = made_so (NoSuchId id) refusal answers.answer answers.state is
   made_err (Oversize bytes) refusal answers is = made_so (Oversize bytes) refusal answers.answer answers.state is
 
-pub replied_ok : (u : Unit {0}) (old new : List Reply) → new ≡ old ++ done_reply (Ok u) → Replied None [] [] old new
+pub replied_ok : (u : Unit {0}) (old new : List Reply) → new ≡ old ++ done_reply (Ok u) → Replied reply_text None [] [] old new
 replied_ok u old new adds = record { reply = replies.Done; adds = adds; refuses = refl; texts = refl }
 
 refused_so : (cause : HubFault) (refusal : Option Refusal) (out out_new : List ℕ) (old new : List Reply) → new ≡ old ++ replies.Refused cause ∷ [] → refusal ≡ Some (refusals.Hub cause) → out_new ≡ out
-    → Replied refusal out out_new old new
+    → Replied reply_text refusal out out_new old new
 refused_so cause refusal out out_new old new adds is same = record { reply = replies.Refused cause; adds = adds; refuses = is; texts = same ∙ sym (append-nil out) }
 
-pub replied_err : (cause : HubFault) (refusal : Option Refusal) (old new : List Reply) → IsRefusalBy cause refusal → new ≡ old ++ done_reply (Err cause) → Replied refusal [] [] old new
+pub replied_err : (cause : HubFault) (refusal : Option Refusal) (old new : List Reply) → IsRefusalBy cause refusal → new ≡ old ++ done_reply (Err cause) → Replied reply_text refusal [] [] old new
 replied_err Memory refusal old new is adds = absurd is
 replied_err (Full held) refusal old new is adds = refused_so (Full held) refusal [] [] old new adds is refl
 replied_err (TooManySubs live) refusal old new is adds = refused_so (TooManySubs live) refusal [] [] old new adds is refl
@@ -140,13 +141,13 @@ module _ (id : SubId) (out out_new : List ℕ) (old new : HubState) where
   drains_err (NoSuchId unknown) outcome answers is = undrained_so (NoSuchId unknown) outcome (λ bytes same. absurd cc) answers.answer answers.state is
 
 module _ (id : SubId) (out out_new : List ℕ) (old new : List Reply) where
-  pub drain_replied_ok : (frames : List (List ℕ)) → new ≡ old ++ drain_reply id (Ok frames) → out_new ≡ out ++ flat_map (frame_line id.0) frames → Replied (drain_refusal Sent) out out_new old new
+  pub drain_replied_ok : (frames : List (List ℕ)) → new ≡ old ++ drain_reply id (Ok frames) → out_new ≡ out ++ flat_map (frame_line id.0) frames → Replied reply_text (drain_refusal Sent) out out_new old new
   drain_replied_ok frames adds writes = record { reply = replies.Frames id frames; adds = adds; refuses = refl; texts = writes }
 
-  undrained_replied : (cause : HubFault) (outcome : Drained) → new ≡ old ++ replies.Refused cause ∷ [] → (outcome ≡ Undrained cause) × (out_new ≡ out) → Replied (drain_refusal outcome) out out_new old new
+  undrained_replied : (cause : HubFault) (outcome : Drained) → new ≡ old ++ replies.Refused cause ∷ [] → (outcome ≡ Undrained cause) × (out_new ≡ out) → Replied reply_text (drain_refusal outcome) out out_new old new
   undrained_replied cause outcome adds is = refused_so cause (drain_refusal outcome) out out_new old new adds (ap drain_refusal is.0) is.1
 
-  pub drain_replied_err : (cause : HubFault) (outcome : Drained) → new ≡ old ++ drain_reply id (Err cause) → IsUndrained id.0 cause out out_new outcome → Replied (drain_refusal outcome) out out_new old new
+  pub drain_replied_err : (cause : HubFault) (outcome : Drained) → new ≡ old ++ drain_reply id (Err cause) → IsUndrained id.0 cause out out_new outcome → Replied reply_text (drain_refusal outcome) out out_new old new
   drain_replied_err Memory outcome adds is = absurd is
   drain_replied_err (Oversize bytes) outcome adds is = record { reply = replies.TooBig id bytes; adds = adds; refuses = ap drain_refusal is.0; texts = is.1 }
   drain_replied_err (Full held) outcome adds is = undrained_replied (Full held) outcome adds is

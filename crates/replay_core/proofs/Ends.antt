@@ -6,10 +6,13 @@ use Rattle.std.proofs.lemmas.Bool.Decides.{eqb_tells}
 use Rattle.std.proofs.lemmas.Grind.{flat_map-append}
 use Rattle.std.proofs.lemmas.List.{drop_all, flat_map_more, take_all}
 use Rattle.std.proofs.lemmas.List.Folds.{list_any-append}
-use Rattle.std.proofs.lemmas.Option.{get_or_from_slice_get, slice_get-get_or, slice_get-map, slice_get_within}
+use Rattle.std.proofs.lemmas.Option.{get_or_from_slice_get, slice_get-get_or, slice_get-map, slice_get_past, slice_get_within}
 use Rattle.std.proofs.Math.Seq.{take-suc}
+use Rattle.mesh_base.specs.declared.limits.Limits.{Limits}
 use Rattle.line_run.specs.Rows.{Row}
 use Rattle.view_types.specs.Objects.{ObjectMap}
+use Rattle.view_types.specs.declared.config.Config.{Config}
+use Rattle.route_match.specs.Matching.{Pat}
 use Rattle.mesh_hub.specs.Drains.{unless_too_long}
 use Rattle.mesh_hub.specs.History.{Asked, State, after, asked_at, id_of, told_now, too_long_for}
 use Rattle.mesh_hub.specs.Hub.{HubState, drained, sub_at}
@@ -17,14 +20,14 @@ use Rattle.mesh_hub.specs.Ids.{in_place, unknown_refusal, unless_refused}
 use Rattle.mesh_hub.specs.Live.{Ascend, LiveIdsAscend}
 use Rattle.mesh_hub.specs.Optional.{Becomes, Becomes-weaker}
 use Rattle.mesh_hub.specs.Output.{sub_lines, written_after}
-use Rattle.mesh_hub.specs.Program.{Program}
+use Rattle.mesh_hub.specs.Program.{Program, replay_of}
 use Rattle.mesh_hub.specs.Seen.{seen, seen_sub}
 use Rattle.mesh_hub.specs.declared.machine.Reply.{Reply}
 use Rattle.mesh_hub.specs.declared.refusal.Refusal.{Refusal}
 use Rattle.mesh_hub.proofs.Optional.{Becomes-then}
 use Rattle.mesh_hub.proofs.SeenBy.{drained_seen, found_behind, found_here, placed_behind, placed_here, sub_seen}
 use Rattle.replay_core.specs.Said.{Saying, refused_said, reply_text, said_from, saying_left, text_said}
-use Rattle.replay_core.specs.Stand.{Ended, EndedByState, Ending, EndingByReplies, EndingByState, FromNew, after_some}
+use Rattle.replay_core.specs.Stand.{Ended, EndedByState, Ending, EndingByReplies, EndingByState, FromNew, PatternsNow, after_some}
 use Rattle.replay_core.specs.Take.{Drains, Replied, drained_lines}
 use Rattle.replay_core.specs.declared.drain.Drained.{Drained}
 
@@ -56,6 +59,11 @@ read_at xs ys n x None Q same reads within is = absurd cc
 read_at xs ys n x (Some b) Q same reads within is =
     let value : x ≡ b.now = cc in
     ap (λ (zs : List ℕ). slice_get zs n) (sym same) ∙ slice_get-get_or ys n b.now within.0 ∙ ap (λ (y : ℕ). Some y) (sym reads ∙ sym value)
+
+-- where it reads nothing
+pub none_at : (xs ys : List ℕ) (n : ℕ) (got : Option (Bor ℕ)) (Q : Bor ℕ → Type 0) → ys ≡ xs → MatchOption got (length ys ≤ n) (λ b. (n < length ys) × Q b) → option_copied got ≡ None → slice_get xs n ≡ None
+none_at xs ys n None Q same beyond is = slice_get_past xs n (subst (λ (zs : List ℕ). length zs ≤ n) same beyond)
+none_at xs ys n (Some b) Q same within is = absurd cc
 
 module _ {S T : Type 0} (f : S → T) where
   -- what stands at a place of a mapped list
@@ -131,54 +139,61 @@ module _ (program : Program) where
     next_text : drained_lines (seen program here) asked.id.0 (sub_at asked.id.0 (seen program here).subs) ≡ sub_lines program now.objects asked
     next_text = ap (drained_lines (seen program here) asked.id.0) (sub_seen program here asked.id.0 ∙ ap (option_map (seen_sub program.config)) next_found)
 
-  module _ (ascends : LiveIdsAscend program) (live : List ℕ) (n id : ℕ) (past : List Row) (refused : Bool) (sent out out_new : List ℕ) (outcome : Drained) (at : slice_get live n ≡ Some id) (old new : HubState)
-      (drains : Drains (record { 0 = id }) outcome out out_new old new) (ending : EndingByState program live n past (sent ++ out) refused old) where
-    more_at : (asked : Asked) × (slice_get (after program past).subs n ≡ Some asked) × (id_of asked ≡ id)
-    more_at = source_at id_of (after program past).subs n id (ap (λ (xs : List ℕ). slice_get xs n) (sym ending.live_ids) ∙ at)
+  module _ (ascends : LiveIdsAscend program) (known : PatternsNow) (live : List ℕ) (n id : ℕ) (past : List Row) (refused : Bool) (sent out out_new : List ℕ) (outcome : Drained) (at : slice_get live n ≡ Some id) (old new : HubState)
+      (drains : Drains (record { 0 = id }) outcome out out_new old new) (ending : EndingByState program known live n past (sent ++ out) refused old) where
+    abbrev now : State
+    now = after program ending.marked
 
-    more_drains : Drains (record { 0 = more_at.0.id.0 }) outcome out out_new (seen program (after_some program n (after program past))) new
+    more_at : (asked : Asked) × (slice_get now.subs n ≡ Some asked) × (id_of asked ≡ id)
+    more_at = source_at id_of now.subs n id (ap (λ (xs : List ℕ). slice_get xs n) (sym ending.live_ids) ∙ at)
+
+    more_drains : Drains (record { 0 = more_at.0.id.0 }) outcome out out_new (seen program (after_some program n now)) new
     more_drains = subst (λ (s : HubState). Drains (record { 0 = more_at.0.id.0 }) outcome out out_new s new) ending.state
         (subst (λ (k : ℕ). Drains (record { 0 = k }) outcome out out_new old new) (sym more_at.2) drains)
 
-    pub ending_more_by_state : EndingByState program live (n + 1) past (sent ++ out_new) refused new
+    pub ending_more_by_state : EndingByState program known live (n + 1) past (sent ++ out_new) refused new
     ending_more_by_state =
-        let now = after program past in
         let asked = more_at.0 in
-        let ascend = ascends past in
+        let ascend = ascends ending.marked in
         let f = sub_lines program now.objects in record {
+          marked = ending.marked;
+          are_marked = ending.are_marked;
           state = more_drains.state ∙ next_state now n asked ascend more_at.1;
           live_ids = ending.live_ids;
-          writes = ap (λ (xs : List ℕ). sent ++ xs) (more_drains.text ∙ ap (λ (xs : List ℕ). out ++ xs) (next_text now n asked ascend more_at.1))
-              ∙ sym (append_assoc sent out (f asked)) ∙ ap (λ (xs : List ℕ). xs ++ f asked) ending.writes
-              ∙ flat_map_more f (written_after program past) (take n now.subs) asked
-              ∙ ap (λ (xs : List Asked). written_after program past ++ flat_map f xs) (sym (taken_more now.subs n asked more_at.1));
+          writes = λ told. ap (λ (xs : List ℕ). sent ++ xs) (more_drains.text ∙ ap (λ (xs : List ℕ). out ++ xs) (next_text now n asked ascend more_at.1))
+              ∙ sym (append_assoc sent out (f asked)) ∙ ap (λ (xs : List ℕ). xs ++ f asked) (ending.writes told)
+              ∙ flat_map_more f (written_after program ending.marked) (take n now.subs) asked
+              ∙ ap (λ (xs : List Asked). written_after program ending.marked ++ flat_map f xs) (sym (taken_more now.subs n asked more_at.1));
           refuses = ending.refuses;
         }
 
   -- the last was drained
-  ended_by_state : (live : List ℕ) (n : ℕ) (past : List Row) (text : List ℕ) (refused : Bool) (state : HubState) → slice_get live n ≡ None
-      → EndingByState program live n past text refused state → EndedByState program past text refused state
-  ended_by_state live n past text refused state none ending =
-      let now = after program past in
+  ended_by_state : (known : PatternsNow) (live : List ℕ) (n : ℕ) (past : List Row) (text : List ℕ) (refused : Bool) (state : HubState) → slice_get live n ≡ None
+      → EndingByState program known live n past text refused state → EndedByState program known past text refused state
+  ended_by_state known live n past text refused state none ending =
+      let now = after program ending.marked in
       let no_more = no_source_at id_of now.subs n (ap (λ (xs : List ℕ). slice_get xs n) (sym ending.live_ids) ∙ none) in
       let short = past_end now.subs n no_more in
       let all = take_all n now.subs short in record {
+        marked = ending.marked;
+        are_marked = ending.are_marked;
         state = ending.state ∙ ap (λ (subs : List Asked). seen program (record now { subs = subs }))
             (ap (λ (xs : List Asked). flat_map (told_now program now.objects) xs ++ drop n now.subs) all
             ∙ ap (λ (xs : List Asked). flat_map (told_now program now.objects) now.subs ++ xs) (drop_all n now.subs short)
             ∙ append-nil (flat_map (told_now program now.objects) now.subs));
-        writes = ending.writes ∙ ap (λ (xs : List Asked). written_after program past ++ flat_map (sub_lines program now.objects) xs) all;
+        writes = λ told. ending.writes told ∙ ap (λ (xs : List Asked). written_after program ending.marked ++ flat_map (sub_lines program now.objects) xs) all;
         refuses = ending.refuses;
       }
 
-  -- ---- one drain more, by the replies
+-- ---- one drain more, by the replies
 
-  or_false : (b : Bool) → (b || false) ≡ b
-  or_false true = refl
-  or_false false = refl
+or_false : (b : Bool) → (b || false) ≡ b
+or_false true = refl
+or_false false = refl
 
-  ending_more_by_replies : (past : List Row) (refused : Bool) (sent out out_new : List ℕ) (refusal : Option Refusal) (start old new : List Reply) → Replied refusal out out_new old new
-      → EndingByReplies program past (sent ++ out) refused start old → EndingByReplies program past (sent ++ out_new) refused start new
+module _ (config : Config) where
+  ending_more_by_replies : (past : List Row) (refused : Bool) (sent out out_new : List ℕ) (refusal : Option Refusal) (start old new : List Reply) → Replied reply_text refusal out out_new old new
+      → EndingByReplies config past (sent ++ out) refused start old → EndingByReplies config past (sent ++ out_new) refused start new
   ending_more_by_replies past refused sent out out_new refusal start old new replied ending =
       let reply = replied.reply in
       let last = saying_left reply ∷ [] in record {
@@ -186,7 +201,7 @@ module _ (program : Program) where
         adds = replied.adds ∙ ap (λ (xs : List Reply). xs ++ reply ∷ []) ending.adds ∙ append_assoc start ending.added (reply ∷ []);
         sayings = ending.sayings ++ last;
         says = λ more.
-            ap (said_from program 1 (reverse past)) (append_assoc ending.added (reply ∷ []) more)
+            ap (said_from config 1 (reverse past)) (append_assoc ending.added (reply ∷ []) more)
             ∙ ending.says (reply ∷ more)
             ∙ sym (append_assoc ending.sayings last (map saying_left more));
         writes = ap (λ (xs : List ℕ). sent ++ xs) replied.texts ∙ sym (append_assoc sent out (reply_text reply)) ∙ ap (λ (xs : List ℕ). xs ++ reply_text reply) ending.writes
@@ -196,21 +211,26 @@ module _ (program : Program) where
 
   -- ---- both
 
-  pub ending_more : LiveIdsAscend program → (s0 s1 s2 : Option HubState) (r0 r1 r2 : Option (List Reply)) (live : List ℕ) (n id : ℕ) (past : List Row) (sent out out_new : List ℕ) (refused : Bool) (outcome : Drained) (refusal : Option Refusal)
-      → slice_get live n ≡ Some id → Becomes s1 s2 (Drains (record { 0 = id }) outcome out out_new) → Becomes r1 r2 (Replied refusal out out_new)
-      → Ending program s0 s1 r0 r1 live n past (sent ++ out) refused → Ending program s0 s2 r0 r2 live (n + 1) past (sent ++ out_new) refused
-  ending_more ascends s0 s1 s2 r0 r1 r2 live n id past sent out out_new refused outcome refusal at drains replied ending = record {
-    by_state = Becomes-then s0 s1 s2 (FromNew program (EndingByState program live n past (sent ++ out) refused)) (Drains (record { 0 = id }) outcome out out_new)
-        (FromNew program (EndingByState program live (n + 1) past (sent ++ out_new) refused)) ending.by_state drains
-        (λ start old new first second from_new. ending_more_by_state ascends live n id past refused sent out out_new outcome at old new second (first from_new));
-    by_replies = Becomes-then r0 r1 r2 (EndingByReplies program past (sent ++ out) refused) (Replied refusal out out_new) (EndingByReplies program past (sent ++ out_new) refused) ending.by_replies replied
-        (λ start old new first second. ending_more_by_replies past refused sent out out_new refusal start old new second first);
-  }
+  module _ (limits : Limits) (known : PatternsNow) where
+    pub ending_more : ((pat : Pat) → LiveIdsAscend (replay_of config limits pat)) → (s0 s1 s2 : Option HubState) (r0 r1 r2 : Option (List Reply)) (live : List ℕ) (n id : ℕ) (past : List Row) (sent out out_new : List ℕ) (refused : Bool) (outcome : Drained) (refusal : Option Refusal)
+        → slice_get live n ≡ Some id → Becomes s1 s2 (Drains (record { 0 = id }) outcome out out_new) → Becomes r1 r2 (Replied reply_text refusal out out_new)
+        → Ending config limits known s0 s1 r0 r1 live n past (sent ++ out) refused → Ending config limits known s0 s2 r0 r2 live (n + 1) past (sent ++ out_new) refused
+    ending_more ascends s0 s1 s2 r0 r1 r2 live n id past sent out out_new refused outcome refusal at drains replied ending = record {
+      by_state = λ pat.
+          let program = replay_of config limits pat in
+          Becomes-then s0 s1 s2 (FromNew program (EndingByState program known live n past (sent ++ out) refused)) (Drains (record { 0 = id }) outcome out out_new)
+          (FromNew program (EndingByState program known live (n + 1) past (sent ++ out_new) refused)) (ending.by_state pat) drains
+          (λ start old new first second from_new. ending_more_by_state program (ascends pat) known live n id past refused sent out out_new outcome at old new second (first from_new));
+      by_replies = Becomes-then r0 r1 r2 (EndingByReplies config past (sent ++ out) refused) (Replied reply_text refusal out out_new) (EndingByReplies config past (sent ++ out_new) refused) ending.by_replies replied
+          (λ start old new first second. ending_more_by_replies past refused sent out out_new refusal start old new second first);
+    }
 
-  pub ending_whole : (s0 s1 : Option HubState) (r0 r1 : Option (List Reply)) (live : List ℕ) (n : ℕ) (past : List Row) (text : List ℕ) (refused : Bool) → slice_get live n ≡ None
-      → Ending program s0 s1 r0 r1 live n past text refused → Ended program s0 s1 r0 r1 past text refused
-  ending_whole s0 s1 r0 r1 live n past text refused none ending = record {
-    by_state = Becomes-weaker s0 s1 (FromNew program (EndingByState program live n past text refused)) (FromNew program (EndedByState program past text refused))
-        (λ start state by from_new. ended_by_state live n past text refused state none (by from_new)) ending.by_state;
-    by_replies = ending.by_replies;
-  }
+    pub ending_whole : (s0 s1 : Option HubState) (r0 r1 : Option (List Reply)) (live : List ℕ) (n : ℕ) (past : List Row) (text : List ℕ) (refused : Bool) → slice_get live n ≡ None
+        → Ending config limits known s0 s1 r0 r1 live n past text refused → Ended config limits known s0 s1 r0 r1 past text refused
+    ending_whole s0 s1 r0 r1 live n past text refused none ending = record {
+      by_state = λ pat.
+          let program = replay_of config limits pat in
+          Becomes-weaker s0 s1 (FromNew program (EndingByState program known live n past text refused)) (FromNew program (EndedByState program known past text refused))
+          (λ start state by from_new. ended_by_state program known live n past text refused state none (by from_new)) (ending.by_state pat);
+      by_replies = ending.by_replies;
+    }

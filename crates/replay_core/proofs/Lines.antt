@@ -1,11 +1,14 @@
 -- What a line comes to, from what the call that it asks for comes to.
-use Rattle.std.proofs.Common.{◌≡◌, ℕ, false, ◌||◌, List, [], ◌∷◌, ◌++◌, map, Option, Some, None, refl, sym, ap, ◌∙◌, subst, append-nil}
+use Rattle.std.proofs.Common.{◌≡◌, ℕ, Bool, false, ◌||◌, List, [], ◌∷◌, ◌++◌, map, Option, Some, None, refl, sym, ap, ◌∙◌, subst, append-nil, inl, inr}
 use Rattle.std.specs.Prelude.{IfOk, Result, Ok, Err, is_some, option_map}
 use Rattle.std.proofs.lemmas.List.{map-append}
 use Rattle.mesh_base.specs.declared.limits.Limits.{Limits}
 use Rattle.mesh_base.specs.declared.sub_id.SubId.{SubId}
 use Rattle.view_types.specs.declared.config.Config.{Config}
 use Rattle.view_types.specs.declared.query.Query.{Query}
+use Rattle.view_types.specs.declared.request.Request.{Request}
+use Rattle.route_match.specs.Matching.{Pat}
+use Rattle.request_sim.specs.declared.fault.SimFault.{SimFault}
 use Rattle.watch_events.specs.declared.event.Event.{Event}
 use Rattle.watch_events.specs.declared.line.Line.{Line}
 use Rattle.watch_events.specs.declared.line.Line.TheVariants as lines
@@ -27,10 +30,11 @@ use Rattle.mesh_hub.specs.declared.refusal.HubFault.{HubFault}
 use Rattle.mesh_hub.specs.declared.refusal.Refusal.{Refusal}
 use Rattle.mesh_hub.specs.declared.refusal.Refusal.TheVariants as refusals
 use Rattle.mesh_hub.proofs.SeenBy.{applied_seen, cancelled_seen, drained_seen, found_has_id, mapped_in_place, same_in_place, sub_seen, subscribe_refused, subscribed_seen, unknown_refused}
-use Rattle.replay_core.specs.Said.{Saying, refusal_in, reply_text, said_by, saying, with_reply}
-use Rattle.replay_core.specs.Stand.{ids_of}
-use Rattle.replay_core.specs.Take.{Drains, IsTold, IsUnread, Makes, Replied, TakesByReplies, TakesFrom, Unreplied, drain_refusal, drained_as, drained_lines, drained_unless, led_to, live_drained, live_unless, text_unless}
+use Rattle.replay_core.specs.Said.{Saying, refusal_in, reply_text, said_by, saying, sim_text, with_reply}
+use Rattle.replay_core.specs.Stand.{PatternsNow, ids_of, known_of}
+use Rattle.replay_core.specs.Take.{Drains, IsMetIfAny, IsSimulated, IsTold, IsUnread, Makes, MayMeetBy, Replied, TakesByReplies, TakesFrom, Unreplied, drain_refusal, drained_as, drained_lines, drained_unless, led_to, live_drained, live_unless, text_unless}
 use Rattle.replay_core.specs.declared.drain.Drained.{Drained}
+use Rattle.replay_core.proofs.Marks.{none_more}
 
 pub IfOk-weaker : {T E : Type 0} (r : Result T E) (P Q : T → Type 0) → ((x : T) → P x → Q x) → IfOk r P → IfOk r Q
 IfOk-weaker (Ok x) P Q weaker holds = weaker x holds
@@ -46,18 +50,25 @@ no_text (Some refusal) out = sym (append-nil out)
 
 -- ---- by what is held
 
-module _ (config : Config) (limits : Limits) where
+-- where no pattern was matched
+module _ (config : Config) (limits : Limits) (pat : Pat) (tells : Option Pat) (refuses : Option (List ℕ → Bool)) (count number : ℕ) where
   abbrev program : Program
-  program = replay_of config limits
+  program = replay_of config limits pat
 
-  pub blank_from : (live out : List ℕ) (state : HubState) → TakesFrom program (Ok lines.Blank) None live live out out state state
-  blank_from live out state now here lives = record { refusal_is = refl; state = here; live_ids = lives; text = sym (append-nil out) }
+  abbrev still : PatternsNow
+  still = known_of tells refuses count count
 
-  pub stop_from : (live out : List ℕ) (state : HubState) → TakesFrom program (Ok lines.Stop) (Some refusals.NotHere) live live out out state state
-  stop_from live out state now here lives = record { refusal_is = refl; state = here; live_ids = lives; text = sym (append-nil out) }
+  pub blank_from : (live out : List ℕ) (state : HubState) → TakesFrom program still number (Ok lines.Blank) None live live out out state state
+  blank_from live out state now here lives =
+      record { met = None; counted = none_more count; may_meet = tt; refusal_is = refl; state = here; live_ids = lives; text = λ told. sym (append-nil out) }
 
-  pub unread_from : (fault : LineFault) (live out : List ℕ) (state : HubState) → TakesFrom program (Err fault) (Some (refusals.Line fault)) live live out out state state
-  unread_from fault live out state now here lives = record { refusal_is = refl; state = here; live_ids = lives; text = sym (append-nil out) }
+  pub stop_from : (live out : List ℕ) (state : HubState) → TakesFrom program still number (Ok lines.Stop) (Some refusals.NotHere) live live out out state state
+  stop_from live out state now here lives =
+      record { met = None; counted = none_more count; may_meet = tt; refusal_is = refl; state = here; live_ids = lives; text = λ told. sym (append-nil out) }
+
+  pub unread_from : (fault : LineFault) (live out : List ℕ) (state : HubState) → TakesFrom program still number (Err fault) (Some (refusals.Line fault)) live live out out state state
+  unread_from fault live out state now here lives =
+      record { met = None; counted = none_more count; may_meet = tt; refusal_is = refl; state = here; live_ids = lives; text = λ told. sym (append-nil out) }
 
   -- a call leads where its line leads
   led : (now : State) (line : Line) (refusal : Option Refusal) (new : HubState) → refusal ≡ option_map refusals.Hub (hub_refusal program now line)
@@ -73,13 +84,16 @@ module _ (config : Config) (limits : Limits) where
   event_ids now event (Some refusal) = refl
 
   pub event_from : (event : Event) (refusal : Option Refusal) (live out : List ℕ) (old new : HubState) → Makes (apply_refusal old event) (applied old event) refusal new
-      → TakesFrom program (Ok (lines.Event event)) refusal live live out out old new
+      → TakesFrom program still number (Ok (lines.Event event)) refusal live live out out old new
   event_from event refusal live out old new makes now here lives =
       let made = subst (λ (s : HubState). Makes (apply_refusal s event) (applied s event) refusal new) here makes in record {
+        met = None;
+        counted = none_more count;
+        may_meet = tt;
         refusal_is = made.refusal_is;
         state = led now (lines.Event event) refusal new made.refusal_is (made.state ∙ applied_seen program now event);
         live_ids = lives ∙ event_ids now event refusal;
-        text = no_text refusal out;
+        text = λ told. no_text refusal out;
       }
 
   new_ids : (now : State) (id : SubId) (query : Query) (live : List ℕ) (refusal : Option Refusal) → live ≡ ids_of now.subs
@@ -88,14 +102,17 @@ module _ (config : Config) (limits : Limits) where
   new_ids now id query live (Some refusal) lives = lives
 
   pub subscribe_from : (id : SubId) (query : Query) (refusal : Option Refusal) (live live_new out : List ℕ) (old new : HubState) → Makes (new_refusal old id.0) (subscribed old id query) refusal new
-      → live_new ≡ live_unless refusal live (live ++ id.0 ∷ []) → TakesFrom program (Ok (lines.Subscribe id query)) refusal live live_new out out old new
+      → live_new ≡ live_unless refusal live (live ++ id.0 ∷ []) → TakesFrom program still number (Ok (lines.Subscribe id query)) refusal live live_new out out old new
   subscribe_from id query refusal live live_new out old new makes adds now here lives =
       let made = subst (λ (s : HubState). Makes (new_refusal s id.0) (subscribed s id query) refusal new) here makes in
       let is = made.refusal_is ∙ ap (option_map refusals.Hub) (subscribe_refused program now id query) in record {
+        met = None;
+        counted = none_more count;
+        may_meet = tt;
         refusal_is = is;
         state = led now (lines.Subscribe id query) refusal new is (made.state ∙ subscribed_seen program now id query);
         live_ids = adds ∙ new_ids now id query live refusal lives;
-        text = no_text refusal out;
+        text = λ told. no_text refusal out;
       }
 
   cancelled_ids : (now : State) (id : SubId) (live : List ℕ) (refusal : Option Refusal) → live ≡ ids_of now.subs
@@ -105,14 +122,17 @@ module _ (config : Config) (limits : Limits) where
   cancelled_ids now id live (Some refusal) lives = lives
 
   pub cancel_from : (id : SubId) (refusal : Option Refusal) (live live_new out : List ℕ) (old new : HubState) → Makes (unknown_refusal id.0 (sub_at id.0 old.subs)) (cancelled old id.0) refusal new
-      → live_new ≡ live_unless refusal live (in_place (λ other. other) id.0 ended live) → TakesFrom program (Ok (lines.Cancel id)) refusal live live_new out out old new
+      → live_new ≡ live_unless refusal live (in_place (λ other. other) id.0 ended live) → TakesFrom program still number (Ok (lines.Cancel id)) refusal live live_new out out old new
   cancel_from id refusal live live_new out old new makes removes now here lives =
       let made = subst (λ (s : HubState). Makes (unknown_refusal id.0 (sub_at id.0 s.subs)) (cancelled s id.0) refusal new) here makes in
       let is = made.refusal_is ∙ ap (option_map refusals.Hub) (unknown_refused program now id.0) in record {
+        met = None;
+        counted = none_more count;
+        may_meet = tt;
         refusal_is = is;
         state = led now (lines.Cancel id) refusal new is (made.state ∙ cancelled_seen program now id);
         live_ids = removes ∙ cancelled_ids now id live refusal lives;
-        text = no_text refusal out;
+        text = λ told. no_text refusal out;
       }
 
   -- ---- a drain
@@ -164,7 +184,7 @@ module _ (config : Config) (limits : Limits) where
         by_length (Some n) = refl
 
   pub drain_from : (id : SubId) (outcome : Drained) (refusal : Option Refusal) (live live_new out out_new : List ℕ) (old new : HubState) → Drains id outcome out out_new old new
-      → refusal ≡ drain_refusal outcome → live_new ≡ live_drained id.0 outcome live → TakesFrom program (Ok (lines.Drain id)) refusal live live_new out out_new old new
+      → refusal ≡ drain_refusal outcome → live_new ≡ live_drained id.0 outcome live → TakesFrom program still number (Ok (lines.Drain id)) refusal live live_new out out_new old new
   drain_from id outcome refusal live live_new out out_new old new drains refuses leaves now here lives =
       let drained = subst (λ (s : HubState). Drains id outcome out out_new s new) here drains in
       let found = asked_at id.0 now.subs in
@@ -172,12 +192,41 @@ module _ (config : Config) (limits : Limits) where
       let outcome_is : outcome ≡ expected = drained.outcome_is ∙ ap (drained_as (seen program now) id.0) (sub_seen program now id.0) in
       let refusal_is : refusal ≡ drain_refusal expected = refuses ∙ ap drain_refusal outcome_is in
       let is = refusal_is ∙ drain_refused now id found in record {
+        met = None;
+        counted = none_more count;
+        may_meet = tt;
         refusal_is = is;
         state = led now (lines.Drain id) refusal new is (drained.state ∙ drained_seen program now id);
         live_ids = leaves ∙ ap (λ (o : Drained). live_drained id.0 o live) outcome_is ∙ drained_ids now id live found lives refl
             ∙ ap (λ (r : Option Refusal). ids_of (led_to program now r (Ok (lines.Drain id))).subs) (sym refusal_is);
-        text = drained.text ∙ ap (λ (xs : List ℕ). out ++ xs) (ap (drained_lines (seen program now) id.0) (sub_seen program now id.0) ∙ drained_text now id found refl
+        text = λ told. drained.text ∙ ap (λ (xs : List ℕ). out ++ xs) (ap (drained_lines (seen program now) id.0) (sub_seen program now id.0) ∙ drained_text now id found refl
             ∙ ap (λ (r : Option Refusal). text_unless r (drain_lines program now id.0)) (sym refusal_is));
+      }
+
+-- ---- a simulation
+
+module _ (config : Config) (limits : Limits) (pat : Pat) (known : PatternsNow) (number : ℕ) (request : Request) where
+  simulated_state : (now : State) (refusal : Option Refusal) → now ≡ led_to (replay_of config limits pat) now refusal (Ok (lines.Simulate request))
+  simulated_state now None = refl
+  simulated_state now (Some refusal) = refl
+
+  may_meet_by : (now : State) (met : Option SimFault) → IsMetIfAny (seen (replay_of config limits pat) now) known.refuses request met → MayMeetBy now known.refuses (Ok (lines.Simulate request)) met
+  may_meet_by now None may = tt
+  may_meet_by now (Some fault) may = record { request = request; simulates = refl; met = may }
+
+  pub simulate_from : (refusal : Option Refusal) (live out out_new : List ℕ) (old new : HubState) → IsSimulated known number request refusal out out_new old new
+      → TakesFrom (replay_of config limits pat) known number (Ok (lines.Simulate request)) refusal live live out out_new old new
+  simulate_from refusal live out out_new old new simulated now here lives =
+      let program = replay_of config limits pat in
+      let made = subst (λ (s : HubState). IsSimulated known number request refusal out out_new s new) here simulated in
+      let led = simulated_state now refusal in record {
+        met = made.met;
+        counted = made.counted;
+        may_meet = may_meet_by now made.met made.may_meet;
+        refusal_is = made.refusal_is;
+        state = made.state ∙ ap (seen program) led;
+        live_ids = lives ∙ ap (λ (s : State). ids_of s.subs) led;
+        text = λ told. elim told [ inl is ↦ made.text pat is | inr none ↦ absurd (none request refl) ];
       }
 
 -- ---- by the replies
@@ -187,71 +236,93 @@ or_false None = refl
 or_false (Some refusal) = refl
 
 -- a reply that refuses its line writes nothing
-reply_texts : (reply : Reply) → reply_text reply ≡ text_unless (refusal_in reply) (reply_text reply)
+abbrev pub IsPlain : (Reply → List ℕ) → Type 0
+IsPlain text = (reply : Reply) → text reply ≡ text_unless (refusal_in reply) (text reply)
+
+reply_texts : IsPlain reply_text
 reply_texts (replies.Refused fault) = refl
 reply_texts replies.Done = refl
 reply_texts (replies.Frames id frames) = refl
 reply_texts (replies.TooBig id bytes) = refl
+reply_texts (replies.Verdict found) = refl
+reply_texts (replies.Pattern fault) = refl
 
-module _ (program : Program) (line : Result Line LineFault) (out : List ℕ) where
+sim_texts : (number : ℕ) (ns : List ℕ) → IsPlain (sim_text number ns)
+sim_texts number ns (replies.Refused fault) = refl
+sim_texts number ns replies.Done = refl
+sim_texts number ns (replies.Frames id frames) = refl
+sim_texts number ns (replies.TooBig id bytes) = refl
+sim_texts number ns (replies.Verdict found) = refl
+sim_texts number ns (replies.Pattern fault) = refl
+
+module _ (number : ℕ) (line : Result Line LineFault) (out : List ℕ) where
   -- a line that takes a reply
-  pub takes_reply : (refusal : Option Refusal) (out_new : List ℕ) (old new : List Reply) → ((number : ℕ) (left : List Reply) (more : List Reply → List Saying) → said_by program number line left more ≡ with_reply number left more)
-      → Replied refusal out out_new old new → TakesByReplies program line refusal out out_new old new
-  takes_reply refusal out_new old new says replied =
-      let text = reply_text replied.reply in
+  takes_reply_as : (text : Reply → List ℕ) → IsPlain text → (refusal : Option Refusal) (out_new : List ℕ) (old new : List Reply) → ((left : List Reply) (more : List Reply → List Saying) → said_by number line left more ≡ with_reply text number left more)
+      → Replied text refusal out out_new old new → TakesByReplies number line refusal out out_new old new
+  takes_reply_as text plain refusal out_new old new says replied =
+      let written = text replied.reply in
       let answer = refusal_in replied.reply in record {
         mine = replied.reply ∷ [];
         adds = replied.adds;
-        text = text;
-        texts = replied.texts ∙ ap (λ (xs : List ℕ). out ++ xs) (reply_texts replied.reply ∙ ap (λ (r : Option Refusal). text_unless r text) (sym replied.refuses));
-        sayings = λ number. saying number answer text ∷ [];
-        says = λ number left more. says number (replied.reply ∷ left) more;
-        says_text = λ number. append-nil (row_piece number answer text) ∙ ap (λ (r : Option Refusal). row_piece number r text) (sym replied.refuses);
-        says_refused = λ number. or_false answer ∙ ap (λ (r : Option Refusal). is_some r) (sym replied.refuses);
+        text = written;
+        texts = replied.texts ∙ ap (λ (xs : List ℕ). out ++ xs) (plain replied.reply ∙ ap (λ (r : Option Refusal). text_unless r written) (sym replied.refuses));
+        sayings = saying number answer written ∷ [];
+        says = λ left more. says (replied.reply ∷ left) more;
+        says_text = append-nil (row_piece number answer written) ∙ ap (λ (r : Option Refusal). row_piece number r written) (sym replied.refuses);
+        says_refused = or_false answer ∙ ap (λ (r : Option Refusal). is_some r) (sym replied.refuses);
       }
 
+  pub takes_reply : (refusal : Option Refusal) (out_new : List ℕ) (old new : List Reply) → ((left : List Reply) (more : List Reply → List Saying) → said_by number line left more ≡ with_reply reply_text number left more)
+      → Replied reply_text refusal out out_new old new → TakesByReplies number line refusal out out_new old new
+  takes_reply = takes_reply_as reply_text reply_texts
+
   -- one that takes none and writes nothing
-  pub takes_none : (old new : List Reply) → ((number : ℕ) (left : List Reply) (more : List Reply → List Saying) → said_by program number line left more ≡ more left)
-      → new ≡ old → TakesByReplies program line None out out old new
+  pub takes_none : (old new : List Reply) → ((left : List Reply) (more : List Reply → List Saying) → said_by number line left more ≡ more left)
+      → new ≡ old → TakesByReplies number line None out out old new
   takes_none old new says same = record {
     mine = [];
     adds = same ∙ sym (append-nil old);
     text = [];
     texts = sym (append-nil out);
-    sayings = λ number. [];
+    sayings = [];
     says = says;
-    says_text = λ number. refl;
-    says_refused = λ number. refl;
+    says_text = refl;
+    says_refused = refl;
   }
 
   -- one that is refused on its own
-  pub takes_refusal : (refusal : Refusal) (told : List Reply) → ((number : ℕ) (left : List Reply) (more : List Reply → List Saying) → said_by program number line left more ≡ saying number (Some refusal) [] ∷ more left)
-      → TakesByReplies program line (Some refusal) out out told told
+  pub takes_refusal : (refusal : Refusal) (told : List Reply) → ((left : List Reply) (more : List Reply → List Saying) → said_by number line left more ≡ saying number (Some refusal) [] ∷ more left)
+      → TakesByReplies number line (Some refusal) out out told told
   takes_refusal refusal told says = record {
     mine = [];
     adds = sym (append-nil told);
     text = [];
     texts = sym (append-nil out);
-    sayings = λ number. saying number (Some refusal) [] ∷ [];
+    sayings = saying number (Some refusal) [] ∷ [];
     says = says;
-    says_text = λ number. append-nil (row_piece number (Some refusal) []);
-    says_refused = λ number. refl;
+    says_text = append-nil (row_piece number (Some refusal) []);
+    says_refused = refl;
   }
 
 -- a reply that writes nothing, at any text
-pub silent : (refusal : Option Refusal) (out : List ℕ) (old new : List Reply) → Replied refusal [] [] old new → Replied refusal out out old new
+pub silent : (refusal : Option Refusal) (out : List ℕ) (old new : List Reply) → Replied reply_text refusal [] [] old new → Replied reply_text refusal out out old new
 silent refusal out old new replied = record { reply = replied.reply; adds = replied.adds; refuses = replied.refuses; texts = sym (append-nil out) ∙ ap (λ (xs : List ℕ). out ++ xs) replied.texts }
 
-pub drain_takes : (config : Config) (limits : Limits) (id : SubId) (outcome : Drained) (refusal : Option Refusal) (out out_new : List ℕ) (old new : List Reply) → Replied (drain_refusal outcome) out out_new old new
-    → refusal ≡ drain_refusal outcome → TakesByReplies (replay_of config limits) (Ok (lines.Drain id)) refusal out out_new old new
-drain_takes config limits id outcome refusal out out_new old new replied is =
-    takes_reply (replay_of config limits) (Ok (lines.Drain id)) out refusal out_new old new (λ number left more. refl) (subst (λ (r : Option Refusal). Replied r out out_new old new) (sym is) replied)
+pub simulate_takes : (number : ℕ) (request : Request) (refusal : Option Refusal) (out out_new : List ℕ) (old new : List Reply) → Replied (sim_text number request.ns) refusal out out_new old new
+    → TakesByReplies number (Ok (lines.Simulate request)) refusal out out_new old new
+simulate_takes number request refusal out out_new old new replied =
+    takes_reply_as number (Ok (lines.Simulate request)) out (sim_text number request.ns) (sim_texts number request.ns) refusal out_new old new (λ left more. refl) replied
 
-pub cancel_takes : (config : Config) (limits : Limits) (id : SubId) (refusal : Option Refusal) (out : List ℕ) (old new : List Reply) → Unreplied refusal old new
-    → TakesByReplies (replay_of config limits) (Ok (lines.Cancel id)) refusal out out old new
-cancel_takes config limits id refusal out old new unreplied =
-    subst (λ (r : Option Refusal). TakesByReplies (replay_of config limits) (Ok (lines.Cancel id)) r out out old new) (sym unreplied.accepts)
-    (takes_none (replay_of config limits) (Ok (lines.Cancel id)) out old new (λ number left more. refl) unreplied.none)
+pub drain_takes : (number : ℕ) (id : SubId) (outcome : Drained) (refusal : Option Refusal) (out out_new : List ℕ) (old new : List Reply) → Replied reply_text (drain_refusal outcome) out out_new old new
+    → refusal ≡ drain_refusal outcome → TakesByReplies number (Ok (lines.Drain id)) refusal out out_new old new
+drain_takes number id outcome refusal out out_new old new replied is =
+    takes_reply number (Ok (lines.Drain id)) out refusal out_new old new (λ left more. refl) (subst (λ (r : Option Refusal). Replied reply_text r out out_new old new) (sym is) replied)
+
+pub cancel_takes : (number : ℕ) (id : SubId) (refusal : Option Refusal) (out : List ℕ) (old new : List Reply) → Unreplied refusal old new
+    → TakesByReplies number (Ok (lines.Cancel id)) refusal out out old new
+cancel_takes number id refusal out old new unreplied =
+    subst (λ (r : Option Refusal). TakesByReplies number (Ok (lines.Cancel id)) r out out old new) (sym unreplied.accepts)
+    (takes_none number (Ok (lines.Cancel id)) out old new (λ left more. refl) unreplied.none)
 
 -- ---- a row that doesn't read
 
@@ -259,7 +330,6 @@ read_is : (fault : LineFault) (read : Result Line LineFault) → IsTold fault �
 read_is faults.Memory read told fails = absurd told
 read_is faults.TooLong read told fails = fails
 read_is faults.NotJson read told fails = fails
-read_is faults.NotBuilt read told fails = fails
 read_is faults.NoForm read told fails = fails
 read_is faults.UnknownType read told fails = fails
 read_is faults.ErrorEvent read told fails = fails
@@ -268,16 +338,20 @@ read_is (faults.Object fault) read told fails = fails
 read_is (faults.RepeatedItem place) read told fails = fails
 read_is (faults.BadQuery path) read told fails = fails
 
-module _ (config : Config) (limits : Limits) (fault : LineFault) (read : Result Line LineFault) (refusal : Option Refusal) where
-  pub unread_stays : (live out : List ℕ) (state : Option HubState) → IsUnread fault refusal → Fails fault read → Becomes state state (TakesFrom (replay_of config limits) read refusal live live out out)
-  unread_stays live out state unread fails =
-      subst (λ (r : Result Line LineFault). Becomes state state (TakesFrom (replay_of config limits) r refusal live live out out)) (sym (read_is fault read unread.told fails))
-      (subst (λ (r : Option Refusal). Becomes state state (TakesFrom (replay_of config limits) (Err fault) r live live out out)) (sym unread.refuses)
-      (Becomes-same state (TakesFrom (replay_of config limits) (Err fault) (Some (refusals.Line fault)) live live out out) (λ s. unread_from config limits fault live out s)))
+module _ (fault : LineFault) (read : Result Line LineFault) (refusal : Option Refusal) (number : ℕ) where
+  pub unread_stays : (config : Config) (limits : Limits) (pat : Pat) (tells : Option Pat) (refuses : Option (List ℕ → Bool)) (count : ℕ) (live out : List ℕ) (state : Option HubState) → IsUnread fault refusal → Fails fault read
+      → Becomes state state (TakesFrom (replay_of config limits pat) (known_of tells refuses count count) number read refusal live live out out)
+  unread_stays config limits pat tells refuses count live out state unread fails =
+      let program = replay_of config limits pat in
+      let still = known_of tells refuses count count in
+      subst (λ (r : Result Line LineFault). Becomes state state (TakesFrom program still number r refusal live live out out)) (sym (read_is fault read unread.told fails))
+      (subst (λ (r : Option Refusal). Becomes state state (TakesFrom program still number (Err fault) r live live out out)) (sym unread.refuses)
+      (Becomes-same state (TakesFrom program still number (Err fault) (Some (refusals.Line fault)) live live out out)
+      (λ s. unread_from config limits pat tells refuses count number fault live out s)))
 
-  pub unread_said : (out : List ℕ) (told : Option (List Reply)) → IsUnread fault refusal → Fails fault read → Becomes told told (TakesByReplies (replay_of config limits) read refusal out out)
+  pub unread_said : (out : List ℕ) (told : Option (List Reply)) → IsUnread fault refusal → Fails fault read → Becomes told told (TakesByReplies number read refusal out out)
   unread_said out told unread fails =
-      subst (λ (r : Result Line LineFault). Becomes told told (TakesByReplies (replay_of config limits) r refusal out out)) (sym (read_is fault read unread.told fails))
-      (subst (λ (r : Option Refusal). Becomes told told (TakesByReplies (replay_of config limits) (Err fault) r out out)) (sym unread.refuses)
-      (Becomes-same told (TakesByReplies (replay_of config limits) (Err fault) (Some (refusals.Line fault)) out out)
-      (λ replies. takes_refusal (replay_of config limits) (Err fault) out (refusals.Line fault) replies (λ number left more. refl))))
+      subst (λ (r : Result Line LineFault). Becomes told told (TakesByReplies number r refusal out out)) (sym (read_is fault read unread.told fails))
+      (subst (λ (r : Option Refusal). Becomes told told (TakesByReplies number (Err fault) r out out)) (sym unread.refuses)
+      (Becomes-same told (TakesByReplies number (Err fault) (Some (refusals.Line fault)) out out)
+      (λ replies. takes_refusal number (Err fault) out (refusals.Line fault) replies (λ left more. refl))))

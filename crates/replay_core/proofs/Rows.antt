@@ -1,25 +1,31 @@
 -- Where a replay stands after a row more.
-use Rattle.std.proofs.Common.{◌≡◌, ℕ, ◌+◌, Bool, false, ◌||◌, List, [], ◌∷◌, ◌++◌, length, reverse, Option, Some, None, refl, sym, ap, ◌∙◌, subst, add-one, append_assoc, append-nil}
-use Rattle.std.specs.Prelude.{is_some}
+use Rattle.std.proofs.Common.{◌≡◌, ◌≤◌, ℕ, ◌+◌, Bool, false, ◌||◌, List, [], ◌∷◌, ◌++◌, length, reverse, Option, Some, None, refl, sym, ap, ◌∙◌, subst, add-one, append_assoc, append-nil, arith}
+use Rattle.std.specs.Prelude.{Result, is_some}
 use Rattle.std.proofs.lemmas.Grind.{flat_map-append, reverse_onto}
 use Rattle.std.proofs.lemmas.List.Folds.{list_any-append}
 use Rattle.mesh_base.specs.declared.limits.Limits.{Limits}
 use Rattle.line_run.specs.Rows.{Row}
 use Rattle.view_types.specs.declared.config.Config.{Config}
+use Rattle.route_match.specs.Matching.{Pat}
 use Rattle.watch_events.specs.Lines.{row_says, text_line}
-use Rattle.mesh_hub.specs.History.{after}
+use Rattle.watch_events.specs.declared.line.Line.{Line}
+use Rattle.watch_events.specs.declared.line.LineFault.{LineFault}
+use Rattle.mesh_hub.specs.Fair.{IsTold}
+use Rattle.mesh_hub.specs.History.{State, after}
 use Rattle.mesh_hub.specs.Hub.{HubState}
+use Rattle.mesh_hub.specs.Marks.{MarkedRow, unmarked}
 use Rattle.mesh_hub.specs.Optional.{Becomes}
 use Rattle.mesh_hub.specs.Output.{line_text, refused_after, row_piece, written_after}
-use Rattle.mesh_hub.specs.Program.{Program, reading, replay_of}
+use Rattle.mesh_hub.specs.Program.{Program, replay_of}
 use Rattle.mesh_hub.specs.Seen.{seen}
 use Rattle.mesh_hub.specs.Text.{refused_line}
 use Rattle.mesh_hub.specs.declared.machine.Reply.{Reply}
 use Rattle.mesh_hub.specs.declared.refusal.Refusal.{Refusal}
 use Rattle.mesh_hub.proofs.Optional.{Becomes-same, Becomes-then}
 use Rattle.replay_core.specs.Said.{Saying, refused_said, said_from, text_said}
-use Rattle.replay_core.specs.Stand.{FromNew, Stands, StandsByReplies, StandsByState, ids_of}
+use Rattle.replay_core.specs.Stand.{AreMarked, FromNew, GoOn, IsOfRun, Stands, StandsByReplies, StandsByState, ids_of, known_of}
 use Rattle.replay_core.specs.Take.{TakesByReplies, TakesByState, TakesFrom, led_to, text_unless}
+use Rattle.replay_core.proofs.Marks.{as_long, few_more, may_be_marked, none_more, told_before, told_here}
 
 -- ---- the text of a row
 
@@ -43,54 +49,92 @@ joined number refusal sent out mid new text adds refuses =
 pub row_next : (row : Row) (past rows : List Row) → reverse (row ∷ past) ++ rows ≡ reverse past ++ row ∷ rows
 row_next row past rows = ap (λ (xs : List Row). xs ++ rows) (reverse_onto past row []) ∙ append_assoc (reverse past) (row ∷ []) rows
 
-module _ (program : Program) (row : Row) (past : List Row) (refusal : Option Refusal) where
-  -- ---- by what is held
+-- ---- by what is held
 
-  stands_by_state : (live_new out mid text text_new : List ℕ) (was : Bool) (new : HubState) → TakesByState program (reading program row) refusal live_new out mid (after program past) new
-      → text_new ≡ text ++ row_piece (length past + 1) refusal (line_text program (after program past) (reading program row))
-      → text ≡ written_after program past → was ≡ refused_after program past → StandsByState program live_new (row ∷ past) text_new (was || is_some refusal) new
-  stands_by_state live_new out mid text text_new was new takes adds writes refuses =
-      let now = after program past in
-      let line = reading program row in record {
-        state = takes.state ∙ ap (λ (r : Option Refusal). seen program (led_to program now r line)) takes.refusal_is;
-        live_ids = takes.live_ids ∙ ap (λ (r : Option Refusal). ids_of (led_to program now r line).subs) takes.refusal_is;
-        writes = adds ∙ ap (λ (xs : List ℕ). xs ++ row_piece (length past + 1) refusal (line_text program now line)) writes
-            ∙ ap (λ (r : Option Refusal). written_after program past ++ row_piece (length past + 1) r (line_text program now line)) takes.refusal_is;
-        refuses = ap (λ (b : Bool). b || is_some refusal) refuses ∙ ap (λ (r : Option Refusal). refused_after program past || is_some r) takes.refusal_is;
-      }
+module _ (program : Program) (tells : Option Pat) (refuses : Option (List ℕ → Bool)) (before at now : ℕ) (row : Row) (past : List Row) (refusal : Option Refusal) (live live_new out mid text text_new : List ℕ) (was : Bool) (old new : HubState)
+    (stood : StandsByState program (known_of tells refuses before at) live past text was old)
+    (takes : TakesByState program (known_of tells refuses at now) (length past + 1) (row_says program.reads row) refusal live_new out mid (after program stood.marked) new)
+    (joins : (written : List ℕ) → mid ≡ out ++ text_unless refusal written → text_new ≡ text ++ row_piece (length past + 1) refusal written) where
+  abbrev marked : List MarkedRow
+  marked = stood.marked
 
-  -- ---- by the replies
+  abbrev here : State
+  here = after program marked
 
-  stands_by_replies : (out mid text text_new : List ℕ) (was : Bool) (start old new : List Reply) (takes : TakesByReplies program (reading program row) refusal out mid old new)
-      → text_new ≡ text ++ row_piece (length past + 1) refusal takes.text → StandsByReplies program past text was start old
-      → StandsByReplies program (row ∷ past) text_new (was || is_some refusal) start new
+  abbrev line : Result Line LineFault
+  line = row_says program.reads row
+
+  -- the piece of a row of this number
+  abbrev piece : ℕ → Option Refusal → List ℕ
+  piece number refusal = row_piece number refusal (line_text program number here line)
+
+  row_marked : AreMarked program (known_of tells refuses before now) (row ∷ past) ((row, takes.met) ∷ marked)
+  row_marked = record {
+    rows_are = ap (λ (rows : List Row). row ∷ rows) stood.are_marked.rows_are;
+    few = few_more marked row takes.met before at now stood.are_marked.few takes.counted;
+    fair = (may_be_marked program here refuses row takes.met takes.met takes.may_meet, stood.are_marked.fair);
+  }
+
+  row_writes : IsTold program tells (unmarked (row ∷ past)) → text_new ≡ written_after program ((row, takes.met) ∷ marked)
+  row_writes told =
+      joins (line_text program (length past + 1) here line) (takes.text (told_here program tells row past told))
+      ∙ ap (λ (xs : List ℕ). xs ++ piece (length past + 1) refusal) (stood.writes (told_before program tells row past told))
+      ∙ ap (λ (n : ℕ). written_after program marked ++ piece (n + 1) refusal) (as_long marked past stood.are_marked.rows_are)
+      ∙ ap (λ (r : Option Refusal). written_after program marked ++ piece (length marked + 1) r) takes.refusal_is
+
+  pub stands_by_state : StandsByState program (known_of tells refuses before now) live_new (row ∷ past) text_new (was || is_some refusal) new
+  stands_by_state = record {
+    marked = (row, takes.met) ∷ marked;
+    are_marked = row_marked;
+    state = takes.state ∙ ap (λ (r : Option Refusal). seen program (led_to program here r line)) takes.refusal_is;
+    live_ids = takes.live_ids ∙ ap (λ (r : Option Refusal). ids_of (led_to program here r line).subs) takes.refusal_is;
+    writes = row_writes;
+    refuses = ap (λ (b : Bool). b || is_some refusal) stood.refuses ∙ ap (λ (r : Option Refusal). refused_after program marked || is_some r) takes.refusal_is;
+  }
+
+-- ---- by the replies
+
+module _ (config : Config) (row : Row) (past : List Row) (refusal : Option Refusal) where
+  stands_by_replies : (out mid text text_new : List ℕ) (was : Bool) (start old new : List Reply) (takes : TakesByReplies (length past + 1) (row_says (text_line config) row) refusal out mid old new)
+      → text_new ≡ text ++ row_piece (length past + 1) refusal takes.text → StandsByReplies config past text was start old
+      → StandsByReplies config (row ∷ past) text_new (was || is_some refusal) start new
   stands_by_replies out mid text text_new was start old new takes writes stood =
       let number = length past + 1 in
-      let mine = takes.sayings number in record {
+      let mine = takes.sayings in record {
         added = stood.added ++ takes.mine;
         adds = takes.adds ∙ ap (λ (xs : List Reply). xs ++ takes.mine) stood.adds ∙ append_assoc start stood.added takes.mine;
         sayings = stood.sayings ++ mine;
         says = λ rows more.
-            ap (λ (xs : List Row). said_from program 1 xs ((stood.added ++ takes.mine) ++ more)) (row_next row past rows)
-            ∙ ap (said_from program 1 (reverse past ++ row ∷ rows)) (append_assoc stood.added takes.mine more)
+            ap (λ (xs : List Row). said_from config 1 xs ((stood.added ++ takes.mine) ++ more)) (row_next row past rows)
+            ∙ ap (said_from config 1 (reverse past ++ row ∷ rows)) (append_assoc stood.added takes.mine more)
             ∙ stood.says (row ∷ rows) (takes.mine ++ more)
-            ∙ ap (λ (xs : List Saying). stood.sayings ++ xs) (takes.says number more (said_from program (number + 1) rows))
-            ∙ sym (append_assoc stood.sayings mine (said_from program (number + 1) rows more))
-            ∙ ap (λ (n : ℕ). (stood.sayings ++ mine) ++ said_from program (n + 1) rows more) (add-one (length past));
+            ∙ ap (λ (xs : List Saying). stood.sayings ++ xs) (takes.says more (said_from config (number + 1) rows))
+            ∙ sym (append_assoc stood.sayings mine (said_from config (number + 1) rows more))
+            ∙ ap (λ (n : ℕ). (stood.sayings ++ mine) ++ said_from config (n + 1) rows more) (add-one (length past));
         writes = writes ∙ ap (λ (xs : List ℕ). xs ++ row_piece number refusal takes.text) stood.writes
-            ∙ ap (λ (xs : List ℕ). text_said stood.sayings ++ xs) (sym (takes.says_text number)) ∙ sym (flat_map-append (λ (s : Saying). s.text) stood.sayings mine);
-        refuses = ap (λ (b : Bool). b || is_some refusal) stood.refuses ∙ ap (λ (b : Bool). refused_said stood.sayings || b) (sym (takes.says_refused number))
+            ∙ ap (λ (xs : List ℕ). text_said stood.sayings ++ xs) (sym takes.says_text) ∙ sym (flat_map-append (λ (s : Saying). s.text) stood.sayings mine);
+        refuses = ap (λ (b : Bool). b || is_some refusal) stood.refuses ∙ ap (λ (b : Bool). refused_said stood.sayings || b) (sym takes.says_refused)
             ∙ sym (list_any-append (λ (s : Saying). s.refused) stood.sayings mine);
       }
 
 -- ---- both
 
 -- before the first row
-pub stands_new : (program : Program) (state : Option HubState) (told : Option (List Reply)) (live : List ℕ) → live ≡ [] → Stands program state state told told live 0 [] [] false
-stands_new program state told live none = record {
+pub stands_new : (config : Config) (limits : Limits) (tells : Option Pat) (refuses : Option (List ℕ → Bool)) (count : ℕ) (state : Option HubState) (told : Option (List Reply)) (live : List ℕ) → live ≡ []
+    → Stands config limits (known_of tells refuses count count) state state told told live 0 [] [] false
+stands_new config limits tells refuses count state told live none = record {
   none_sent = refl;
-  by_state = Becomes-same state (FromNew program (StandsByState program live [] [] false)) (λ start as_new. record { state = as_new; live_ids = none; writes = refl; refuses = refl });
-  by_replies = Becomes-same told (StandsByReplies program [] [] false) (λ start. record {
+  by_state = λ pat.
+      let program = replay_of config limits pat in
+      Becomes-same state (FromNew program (StandsByState program (known_of tells refuses count count) live [] [] false)) (λ start as_new. record {
+        marked = [];
+        are_marked = record { rows_are = refl; few = none_more count; fair = tt };
+        state = as_new;
+        live_ids = none;
+        writes = λ told. refl;
+        refuses = refl;
+      });
+  by_replies = Becomes-same told (StandsByReplies config [] [] false) (λ start. record {
     added = [];
     adds = sym (append-nil start);
     sayings = [];
@@ -100,41 +144,77 @@ stands_new program state told live none = record {
   });
 }
 
--- what a row comes to that is read under the configuration of the run
-module _ (config_now config : Config) (limits : Limits) (same : config_now ≡ config) where
-  pub states_of_run : (s1 s2 : Option HubState) (row : Row) (refusal : Option Refusal) (live live_new out mid : List ℕ)
-      → ((limits : Limits) → Becomes s1 s2 (TakesFrom (replay_of config_now limits) (row_says (text_line config_now) row) refusal live live_new out mid))
-      → Becomes s1 s2 (TakesFrom (replay_of config limits) (row_says (text_line config) row) refusal live live_new out mid)
-  states_of_run s1 s2 row refusal live live_new out mid takes =
-      subst (λ (c : Config). Becomes s1 s2 (TakesFrom (replay_of c limits) (row_says (text_line c) row) refusal live live_new out mid)) same (takes limits)
+-- the patterns are those of the start, over a call more
+pub goes_on : (tells tells_now tells_new : Option Pat) (refuses refuses_now refuses_new : Option (List ℕ → Bool)) (before now new : ℕ) → GoOn tells tells_now refuses refuses_now before now
+    → tells_new ≡ tells_now → refuses_new ≡ refuses_now → now ≤ new → GoOn tells tells_new refuses refuses_new before new
+goes_on tells tells_now tells_new refuses refuses_now refuses_new before now new on same_tells same_refuses later = record {
+  same_tells = same_tells ∙ on.same_tells;
+  same_refuses = same_refuses ∙ on.same_refuses;
+  later = let was = on.later in omega (arith, was, later);
+}
 
-  pub replies_of_run : (r1 r2 : Option (List Reply)) (row : Row) (refusal : Option Refusal) (out mid : List ℕ)
-      → ((limits : Limits) → Becomes r1 r2 (TakesByReplies (replay_of config_now limits) (row_says (text_line config_now) row) refusal out mid))
-      → Becomes r1 r2 (TakesByReplies (replay_of config limits) (row_says (text_line config) row) refusal out mid)
-  replies_of_run r1 r2 row refusal out mid takes =
-      subst (λ (c : Config). Becomes r1 r2 (TakesByReplies (replay_of c limits) (row_says (text_line c) row) refusal out mid)) same (takes limits)
+-- what a row comes to that is read under the configuration of the run, and by the patterns of the start
+module _ (config_now config : Config) (limits limits_now : Limits) (same : IsOfRun config limits config_now limits_now) where
+  pub states_of_run : (tells tells_now : Option Pat) (refuses refuses_now : Option (List ℕ → Bool)) (before at now : ℕ) → GoOn tells tells_now refuses refuses_now before at
+      → (s1 s2 : Option HubState) (number : ℕ) (row : Row) (refusal : Option Refusal) (live live_new out mid : List ℕ)
+      → ((limits : Limits) (pat : Pat) → Becomes s1 s2 (TakesFrom (replay_of config_now limits pat) (known_of tells_now refuses_now at now) number (row_says (text_line config_now) row) refusal live live_new out mid))
+      → (pat : Pat) → Becomes s1 s2 (TakesFrom (replay_of config limits pat) (known_of tells refuses at now) number (row_says (text_line config) row) refusal live live_new out mid)
+  states_of_run tells tells_now refuses refuses_now before at now on s1 s2 number row refusal live live_new out mid takes pat =
+      subst (λ (c : Config). Becomes s1 s2 (TakesFrom (replay_of c limits pat) (known_of tells refuses at now) number (row_says (text_line c) row) refusal live live_new out mid)) same.same_config
+      (subst (λ (t : Option Pat). Becomes s1 s2 (TakesFrom (replay_of config_now limits pat) (known_of t refuses at now) number (row_says (text_line config_now) row) refusal live live_new out mid)) on.same_tells
+      (subst (λ (f : Option (List ℕ → Bool)). Becomes s1 s2 (TakesFrom (replay_of config_now limits pat) (known_of tells_now f at now) number (row_says (text_line config_now) row) refusal live live_new out mid)) on.same_refuses
+      (takes limits pat)))
 
-pub stands_row : (config : Config) (limits : Limits) (s0 s1 s2 : Option HubState) (r0 r1 r2 : Option (List Reply)) (live live_new : List ℕ) (sent_at_end number : ℕ) (row : Row) (past : List Row) (sent out mid new : List ℕ) (was refused : Bool) (refusal : Option Refusal)
-    → number ≡ length past + 1 → Becomes s1 s2 (TakesFrom (replay_of config limits) (row_says (text_line config) row) refusal live live_new out mid)
-    → Becomes r1 r2 (TakesByReplies (replay_of config limits) (row_says (text_line config) row) refusal out mid)
+  pub replies_of_run : (r1 r2 : Option (List Reply)) (number : ℕ) (row : Row) (refusal : Option Refusal) (out mid : List ℕ)
+      → Becomes r1 r2 (TakesByReplies number (row_says (text_line config_now) row) refusal out mid) → Becomes r1 r2 (TakesByReplies number (row_says (text_line config) row) refusal out mid)
+  replies_of_run r1 r2 number row refusal out mid takes = subst (λ (c : Config). Becomes r1 r2 (TakesByReplies number (row_says (text_line c) row) refusal out mid)) same.same_config takes
+
+module _ (config : Config) (limits : Limits) (tells : Option Pat) (refuses : Option (List ℕ → Bool)) (before at now : ℕ) (row : Row) (past : List Row) (live live_new sent out mid new : List ℕ) (was : Bool) (refusal : Option Refusal)
+    (adds : new ≡ mid ++ refusal_line (length past + 1) refusal) where
+  abbrev line_number : ℕ
+  line_number = length past + 1
+
+  row_by_state : (pat : Pat) (s0 s1 s2 : Option HubState) → Becomes s1 s2 (TakesFrom (replay_of config limits pat) (known_of tells refuses at now) line_number (row_says (text_line config) row) refusal live live_new out mid)
+      → Becomes s0 s1 (FromNew (replay_of config limits pat) (StandsByState (replay_of config limits pat) (known_of tells refuses before at) live past (sent ++ out) was))
+      → Becomes s0 s2 (FromNew (replay_of config limits pat) (StandsByState (replay_of config limits pat) (known_of tells refuses before now) live_new (row ∷ past) (sent ++ new) (was || is_some refusal)))
+  row_by_state pat s0 s1 s2 takes stood =
+      let program = replay_of config limits pat in
+      Becomes-then s0 s1 s2 (FromNew program (StandsByState program (known_of tells refuses before at) live past (sent ++ out) was))
+      (TakesFrom program (known_of tells refuses at now) line_number (row_says (text_line config) row) refusal live live_new out mid)
+      (FromNew program (StandsByState program (known_of tells refuses before now) live_new (row ∷ past) (sent ++ new) (was || is_some refusal))) stood takes
+      (λ start old later first second from_new.
+      let here = first from_new in
+      stands_by_state program tells refuses before at now row past refusal live live_new out mid (sent ++ out) (sent ++ new) was old later here (second (after program here.marked) here.state here.live_ids)
+      (λ written writes. joined line_number refusal sent out mid new written writes adds))
+
+  row_by_replies : (r0 r1 r2 : Option (List Reply)) → Becomes r1 r2 (TakesByReplies line_number (row_says (text_line config) row) refusal out mid)
+      → Becomes r0 r1 (StandsByReplies config past (sent ++ out) was) → Becomes r0 r2 (StandsByReplies config (row ∷ past) (sent ++ new) (was || is_some refusal))
+  row_by_replies r0 r1 r2 takes stood =
+      Becomes-then r0 r1 r2 (StandsByReplies config past (sent ++ out) was) (TakesByReplies line_number (row_says (text_line config) row) refusal out mid)
+      (StandsByReplies config (row ∷ past) (sent ++ new) (was || is_some refusal)) stood takes
+      (λ start old later first second.
+      stands_by_replies config row past refusal out mid (sent ++ out) (sent ++ new) was start old later second (joined line_number refusal sent out mid new second.text second.texts adds) first)
+
+  stands_row_at : (s0 s1 s2 : Option HubState) (r0 r1 r2 : Option (List Reply)) (sent_at_end : ℕ)
+      → ((pat : Pat) → Becomes s1 s2 (TakesFrom (replay_of config limits pat) (known_of tells refuses at now) line_number (row_says (text_line config) row) refusal live live_new out mid))
+      → Becomes r1 r2 (TakesByReplies line_number (row_says (text_line config) row) refusal out mid)
+      → Stands config limits (known_of tells refuses before at) s0 s1 r0 r1 live sent_at_end past (sent ++ out) was
+      → Stands config limits (known_of tells refuses before now) s0 s2 r0 r2 live_new sent_at_end (row ∷ past) (sent ++ new) (was || is_some refusal)
+  stands_row_at s0 s1 s2 r0 r1 r2 sent_at_end state replies stood = record {
+    none_sent = stood.none_sent;
+    by_state = λ pat. row_by_state pat s0 s1 s2 (state pat) (stood.by_state pat);
+    by_replies = row_by_replies r0 r1 r2 replies stood.by_replies;
+  }
+
+pub stands_row : (config : Config) (limits : Limits) (tells : Option Pat) (refuses : Option (List ℕ → Bool)) (before at now : ℕ) (s0 s1 s2 : Option HubState) (r0 r1 r2 : Option (List Reply)) (live live_new : List ℕ) (sent_at_end number : ℕ) (row : Row) (past : List Row) (sent out mid new : List ℕ) (was refused : Bool) (refusal : Option Refusal)
+    → number ≡ length past + 1
+    → ((pat : Pat) → Becomes s1 s2 (TakesFrom (replay_of config limits pat) (known_of tells refuses at now) number (row_says (text_line config) row) refusal live live_new out mid))
+    → Becomes r1 r2 (TakesByReplies number (row_says (text_line config) row) refusal out mid)
     → new ≡ mid ++ refusal_line number refusal → refused ≡ is_some refusal
-    → Stands (replay_of config limits) s0 s1 r0 r1 live sent_at_end past (sent ++ out) was → Stands (replay_of config limits) s0 s2 r0 r2 live_new sent_at_end (row ∷ past) (sent ++ new) (was || refused)
-stands_row config limits s0 s1 s2 r0 r1 r2 live live_new sent_at_end number row past sent out mid new was refused refusal counts state replies refuses tells stood =
-    let program = replay_of config limits in
-    let line = reading program row in
-    let refuses_here : new ≡ mid ++ refusal_line (length past + 1) refusal = refuses ∙ ap (λ (n : ℕ). mid ++ refusal_line n refusal) counts in
-    subst (λ (r : Bool). Stands program s0 s2 r0 r2 live_new sent_at_end (row ∷ past) (sent ++ new) (was || r)) (sym tells) (record {
-      none_sent = stood.none_sent;
-      by_state = Becomes-then s0 s1 s2 (FromNew program (StandsByState program live past (sent ++ out) was)) (TakesFrom program line refusal live live_new out mid)
-          (FromNew program (StandsByState program live_new (row ∷ past) (sent ++ new) (was || is_some refusal))) stood.by_state state
-          (λ start before later first second from_new.
-          let here = first from_new in
-          let takes = second (after program past) here.state here.live_ids in
-          stands_by_state program row past refusal live_new out mid (sent ++ out) (sent ++ new) was later takes
-          (joined (length past + 1) refusal sent out mid new (line_text program (after program past) line) takes.text refuses_here) here.writes here.refuses);
-      by_replies = Becomes-then r0 r1 r2 (StandsByReplies program past (sent ++ out) was) (TakesByReplies program line refusal out mid)
-          (StandsByReplies program (row ∷ past) (sent ++ new) (was || is_some refusal)) stood.by_replies replies
-          (λ start before later first second.
-          stands_by_replies program row past refusal out mid (sent ++ out) (sent ++ new) was start before later second
-          (joined (length past + 1) refusal sent out mid new second.text second.texts refuses_here) first);
-    })
+    → Stands config limits (known_of tells refuses before at) s0 s1 r0 r1 live sent_at_end past (sent ++ out) was
+    → Stands config limits (known_of tells refuses before now) s0 s2 r0 r2 live_new sent_at_end (row ∷ past) (sent ++ new) (was || refused)
+stands_row config limits tells refuses before at now s0 s1 s2 r0 r1 r2 live live_new sent_at_end number row past sent out mid new was refused refusal counts state replies adds is stood =
+    subst (λ (r : Bool). Stands config limits (known_of tells refuses before now) s0 s2 r0 r2 live_new sent_at_end (row ∷ past) (sent ++ new) (was || r)) (sym is)
+    (stands_row_at config limits tells refuses before at now row past live live_new sent out mid new was refusal (adds ∙ ap (λ (n : ℕ). mid ++ refusal_line n refusal) counts) s0 s1 s2 r0 r1 r2 sent_at_end
+    (λ pat. subst (λ (n : ℕ). Becomes s1 s2 (TakesFrom (replay_of config limits pat) (known_of tells refuses at now) n (row_says (text_line config) row) refusal live live_new out mid)) counts (state pat))
+    (subst (λ (n : ℕ). Becomes r1 r2 (TakesByReplies n (row_says (text_line config) row) refusal out mid)) counts replies) stood)

@@ -1,29 +1,43 @@
 -- What a step of a replay comes to, by what the machine holds and by its replies.
-use Rattle.std.specs.Prelude.{◌≡◌, ℕ, List, [], ◌∷◌, ◌++◌, Option, Some, None, Result, is_some, option_map}
+use Rattle.std.specs.Prelude.{◌≡◌, ◌≤◌, ◌⊎◌, ◌+◌, ◌-◌, ◌^◌, ℕ, Bool, List, [], ◌∷◌, ◌++◌, Option, Some, None, Result, Ok, is_some, min, option_map}
 use Rattle.mesh_base.specs.declared.sub_id.SubId.{SubId}
+use Rattle.view_types.specs.declared.request.Request.{Request}
 use Rattle.watch_events.specs.declared.line.Line.{Line}
+use Rattle.watch_events.specs.declared.line.Line.TheVariants as lines
 use Rattle.watch_events.specs.declared.line.LineFault.{LineFault}
 use Rattle.watch_events.specs.declared.line.LineFault.TheVariants as line_faults
+use Rattle.request_rules.specs.Verdicts.{verdict}
+use Rattle.request_sim.specs.Faults.{IsMet}
+use Rattle.request_sim.specs.declared.fault.SimFault.{SimFault}
+use Rattle.request_sim.specs.declared.fault.SimFault.TheVariants as sim
+use Rattle.route_match.specs.Matching.{Pat}
 use Rattle.mesh_hub.specs.Drains.{too_long}
 use Rattle.mesh_hub.specs.History.{State, after_line, refusal_of}
 use Rattle.mesh_hub.specs.Hub.{HubState, drained, messages_for, sub_at}
 use Rattle.mesh_hub.specs.Ids.{ended, in_place, unless_refused}
+use Rattle.mesh_hub.specs.Marks.{mark}
 use Rattle.mesh_hub.specs.Output.{line_text, message_lines, row_piece}
 use Rattle.mesh_hub.specs.Program.{Program}
 use Rattle.mesh_hub.specs.Seen.{seen}
 use Rattle.mesh_hub.specs.Text.{oversize_line}
+use Rattle.mesh_hub.specs.VerdictText.{verdict_line}
 use Rattle.mesh_hub.specs.declared.hub.Subscription.{Subscription}
 use Rattle.mesh_hub.specs.declared.machine.Reply.{Reply}
 use Rattle.mesh_hub.specs.declared.refusal.HubFault.{HubFault}
 use Rattle.mesh_hub.specs.declared.refusal.HubFault.TheVariants as faults
 use Rattle.mesh_hub.specs.declared.refusal.Refusal.{Refusal}
 use Rattle.mesh_hub.specs.declared.refusal.Refusal.TheVariants as refusals
-use Rattle.replay_core.specs.Said.{Saying, refusal_in, refused_said, reply_text, said_by, text_said}
-use Rattle.replay_core.specs.Stand.{ids_of}
+use Rattle.replay_core.specs.Said.{Saying, refusal_in, refused_said, said_by, text_said}
+use Rattle.replay_core.specs.Stand.{PatternsNow, ids_of}
 use Rattle.replay_core.specs.declared.drain.Drained.{Drained}
 use Rattle.replay_core.specs.declared.drain.Drained.TheVariants.{Sent, Ended, Undrained}
 
 -- ---- one call of the machine
+
+-- an accepted line's text is added, a refused one's isn't
+abbrev pub text_unless : Option Refusal → List ℕ → List ℕ
+text_unless None text = text
+text_unless (Some refusal) text = []
 
 -- the refusal that a fault is
 abbrev pub IsRefusalBy : HubFault → Option Refusal → Type 0
@@ -39,12 +53,12 @@ pub record Makes (fault : Option HubFault) (after : HubState) (refusal : Option 
   pub refusal_is : refusal ≡ option_map refusals.Hub fault
   pub state : new ≡ after
 
--- the machine gave one reply more: it refuses the line, or its text is written
-pub record Replied (refusal : Option Refusal) (out out_new : List ℕ) (old new : List Reply) : Type 0 where
+-- the machine gave one reply more: it refuses the line, or the text of it is written
+pub record Replied (text : Reply → List ℕ) (refusal : Option Refusal) (out out_new : List ℕ) (old new : List Reply) : Type 0 where
   pub reply : Reply
   pub adds : new ≡ old ++ reply ∷ []
   pub refuses : refusal ≡ refusal_in reply
-  pub texts : out_new ≡ out ++ reply_text reply
+  pub texts : out_new ≡ out ++ text reply
 
 -- the machine gave none, and refused nothing
 pub record Unreplied (refusal : Option Refusal) (old new : List Reply) : Type 0 where
@@ -97,6 +111,27 @@ IsUndrained id (faults.TooManySubs live) out out_new outcome = (outcome ≡ Undr
 IsUndrained id (faults.IdOrder last) out out_new outcome = (outcome ≡ Undrained (faults.IdOrder last)) × (out_new ≡ out)
 IsUndrained id (faults.NoSuchId unknown) out out_new outcome = (outcome ≡ Undrained (faults.NoSuchId unknown)) × (out_new ≡ out)
 
+-- ---- a simulation
+
+-- the refusal of one that met this fault
+abbrev pub IsRefusalFor : SimFault → Option Refusal → Type 0
+IsRefusalFor sim.Memory refusal = ⊥
+IsRefusalFor (sim.Pattern route rule item) refusal = refusal ≡ Some (refusals.Sim (sim.Pattern route rule item))
+
+-- the request may meet the fault, if there is one
+abbrev pub IsMetIfAny : HubState → Option (List ℕ → Bool) → Request → Option SimFault → Type 0
+IsMetIfAny now refuses request None = Unit {0}
+IsMetIfAny now refuses request (Some fault) = IsMet now.objects refuses request fault
+
+-- It was refused for a fault that it met, or its verdict is written; and the machine rests.
+pub record IsSimulated (known : PatternsNow) (number : ℕ) (request : Request) (refusal : Option Refusal) (out out_new : List ℕ) (old new : HubState) : Type 0 where
+  pub met : Option SimFault
+  pub counted : min (mark met + known.before) (2 ^ 64 - 1) ≤ known.now
+  pub may_meet : IsMetIfAny old known.refuses request met
+  pub refusal_is : refusal ≡ option_map refusals.Sim met
+  pub state : new ≡ old
+  pub text : (pat : Pat) → known.tells ≡ Some pat → out_new ≡ out ++ text_unless refusal (verdict_line number request.ns (verdict old.config old.objects pat request))
+
 -- ---- a line
 
 -- a fault of a line, other than out of memory
@@ -109,34 +144,46 @@ pub record IsUnread (fault : LineFault) (refusal : Option Refusal) : Type 0 wher
   pub refuses : refusal ≡ Some (refusals.Line fault)
   pub told : IsTold fault
 
--- an accepted line's text is added, a refused one's isn't
-abbrev pub text_unless : Option Refusal → List ℕ → List ℕ
-text_unless None text = text
-text_unless (Some refusal) text = []
-
 -- the state that a refused or accepted line leads to
 abbrev pub led_to : Program → State → Option Refusal → Result Line LineFault → State
 led_to program now refusal line = unless_refused {A = Refusal} refusal now (after_line program now line)
 
--- The line is refused for its cause or done, its text is added, and the machine stands where the line leads.
-pub record TakesByState (program : Program) (line : Result Line LineFault) (refusal : Option Refusal) (live_new : List ℕ) (out out_new : List ℕ) (now : State) (new : HubState) : Type 0 where
-  pub refusal_is : refusal ≡ refusal_of program now line
+-- the line simulates a request, which may meet the fault
+pub record MeetsBy (now : State) (refuses : Option (List ℕ → Bool)) (line : Result Line LineFault) (fault : SimFault) : Type 0 where
+  pub request : Request
+  pub simulates : line ≡ Ok (lines.Simulate request)
+  pub met : IsMet now.objects refuses request fault
+
+abbrev pub MayMeetBy : State → Option (List ℕ → Bool) → Result Line LineFault → Option SimFault → Type 0
+MayMeetBy now refuses line None = Unit {0}
+MayMeetBy now refuses line (Some fault) = MeetsBy now refuses line fault
+
+-- where the line simulates a request, it is told which patterns match, and the program goes by that
+abbrev pub IsToldFor : Program → Option Pat → Result Line LineFault → Type 0
+IsToldFor program tells line = (tells ≡ Some program.matches) ⊎ ((request : Request) → line ≡ Ok (lines.Simulate request) → ⊥)
+
+-- The line of this number is refused for its cause or done, its text is added, and the machine stands where the line leads.
+pub record TakesByState (program : Program) (known : PatternsNow) (number : ℕ) (line : Result Line LineFault) (refusal : Option Refusal) (live_new : List ℕ) (out out_new : List ℕ) (now : State) (new : HubState) : Type 0 where
+  pub met : Option SimFault
+  pub counted : min (mark met + known.before) (2 ^ 64 - 1) ≤ known.now
+  pub may_meet : MayMeetBy now known.refuses line met
+  pub refusal_is : refusal ≡ refusal_of program now met line
   pub state : new ≡ seen program (led_to program now refusal line)
   pub live_ids : live_new ≡ ids_of (led_to program now refusal line).subs
-  pub text : out_new ≡ out ++ text_unless refusal (line_text program now line)
+  pub text : IsToldFor program known.tells line → out_new ≡ out ++ text_unless refusal (line_text program number now line)
 
 -- So it is wherever the machine stood where a history leads.
-abbrev pub TakesFrom : Program → Result Line LineFault → Option Refusal → List ℕ → List ℕ → List ℕ → List ℕ → HubState → HubState → Type 0
-TakesFrom program line refusal live live_new out out_new old new =
-    (now : State) → old ≡ seen program now → live ≡ ids_of now.subs → TakesByState program line refusal live_new out out_new now new
+abbrev pub TakesFrom : Program → PatternsNow → ℕ → Result Line LineFault → Option Refusal → List ℕ → List ℕ → List ℕ → List ℕ → HubState → HubState → Type 0
+TakesFrom program known number line refusal live live_new out out_new old new =
+    (now : State) → old ≡ seen program now → live ≡ ids_of now.subs → TakesByState program known number line refusal live_new out out_new now new
 
--- The replies that were added are the line's.
-pub record TakesByReplies (program : Program) (line : Result Line LineFault) (refusal : Option Refusal) (out out_new : List ℕ) (old new : List Reply) : Type 0 where
+-- The replies that were added are those of the line of this number.
+pub record TakesByReplies (number : ℕ) (line : Result Line LineFault) (refusal : Option Refusal) (out out_new : List ℕ) (old new : List Reply) : Type 0 where
   pub mine : List Reply
   pub adds : new ≡ old ++ mine
   pub text : List ℕ
   pub texts : out_new ≡ out ++ text_unless refusal text
-  pub sayings : ℕ → List Saying
-  pub says : (number : ℕ) (left : List Reply) (more : List Reply → List Saying) → said_by program number line (mine ++ left) more ≡ sayings number ++ more left
-  pub says_text : (number : ℕ) → text_said (sayings number) ≡ row_piece number refusal text
-  pub says_refused : (number : ℕ) → refused_said (sayings number) ≡ is_some refusal
+  pub sayings : List Saying
+  pub says : (left : List Reply) (more : List Reply → List Saying) → said_by number line (mine ++ left) more ≡ sayings ++ more left
+  pub says_text : text_said sayings ≡ row_piece number refusal text
+  pub says_refused : refused_said sayings ≡ is_some refusal

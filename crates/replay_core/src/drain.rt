@@ -1,5 +1,6 @@
 ghost use Rattle.std.specs.Prelude.{IfOk};
 ghost use Rattle.mesh_hub.specs.Optional.{Becomes};
+ghost use Rattle.replay_core.specs.Said.{reply_text};
 ghost use Rattle.replay_core.specs.Take.{Drains, IsUndrained, Replied, drain_refusal};
 
 use mesh_base::memory::Memory;
@@ -47,7 +48,7 @@ pub(crate) fn drain<H: Machine>(
     out: &mut Vec<u8>,
 ) -> Result<Drained, Memory>
     ensures state { IfOk result (λ outcome. Becomes (H.state hub.old) (H.state hub.new) (Drains id outcome out.old.items out.new.items)) }
-    ensures replies { IfOk result (λ outcome. Becomes (H.replies hub.old) (H.replies hub.new) (Replied (drain_refusal outcome) out.old.items out.new.items)) }
+    ensures replies { IfOk result (λ outcome. Becomes (H.replies hub.old) (H.replies hub.new) (Replied reply_text (drain_refusal outcome) out.old.items out.new.items)) }
 {
     match hub.drain(id) {
         Ok(frames) => {

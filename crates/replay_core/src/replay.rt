@@ -1,7 +1,8 @@
 ghost use Rattle.std.specs.Prelude.{◌≡◌, ◌≢◌, ◌≤◌, ◌<◌, ℕ, List, length, Some};
 ghost use Rattle.mesh_outside.specs.Causes.{Rose, Unrisen};
 ghost use Rattle.line_run.specs.Run.{OnEnd, OnStop, TookLimit, IsAnswered, IsTooLong};
-ghost use Rattle.replay_core.specs.Headline.{StandsAtEnd, WritesFront, WritesOutput, WritesSaid};
+ghost use Rattle.replay_core.specs.Headline.{StandsAtEnd, WritesFront, WritesOutput, WritesPlain, WritesSaid};
+ghost use Rattle.replay_core.specs.Stand.{known_of};
 
 use crate::replaying::Replaying;
 use line_run::{Status, run_lines};
@@ -22,21 +23,30 @@ pub fn replay<H: Machine, S: Source, K: Sink, P: Patterns>(
     limits: &Limits,
     input: &mut S,
     out: &mut K,
-    _patterns: &mut P,
+    patterns: &mut P,
 ) -> Status
     requires { 1 ≤ limits.now.frame_addrs }
 
     // Read to the end: what was written is the defined output, and a line was refused or none.
-    ensures output { OnEnd result (WritesOutput config.now limits.now (H.state hub.old) (S.left input.old) (K.held out.old) (K.held out.new)) }
+    ensures output { OnEnd result (WritesOutput config.now limits.now (known_of (P.tells patterns.old) (P.refuses patterns.old) (P.refusals patterns.old) (P.refusals patterns.new))
+        (H.state hub.old) (S.left input.old) (K.held out.old) (K.held out.new)) }
+
+    // No simulation met a pattern that is refused where none was refused.
+    ensures quiet { OnEnd result (WritesPlain config.now limits.now (known_of (P.tells patterns.old) (P.refuses patterns.old) (P.refusals patterns.old) (P.refusals patterns.new))
+        (H.state hub.old) (S.left input.old) (K.held out.old) (K.held out.new)) }
 
     // Else it is a front of the defined output.
-    ensures front { OnStop result (WritesFront config.now limits.now (H.state hub.old) (S.left input.old) (K.held out.old) (K.held out.new)) }
+    ensures front { OnStop result (WritesFront config.now limits.now (known_of (P.tells patterns.old) (P.refuses patterns.old) (P.refusals patterns.old) (P.refusals patterns.new))
+        (H.state hub.old) (S.left input.old) (K.held out.old) (K.held out.new)) }
 
     // The machine then stands where the input leads.
     ensures state { OnEnd result (λ refused. StandsAtEnd config.now limits.now (H.state hub.old) (H.state hub.new) (S.left input.old)) }
 
     // A machine that tells its replies: what was written is what they and the lines say.
     ensures said { OnEnd result (WritesSaid config.now limits.now (H.replies hub.old) (H.replies hub.new) (S.left input.old) (K.held out.old) (K.held out.new)) }
+
+    // The count of refusals hasn't fallen.
+    ensures later { P.refusals patterns.old ≤ P.refusals patterns.new }
 
     // When each status comes.
     ensures read { result ≡ Status.ReadFault → Rose (S.faults input.old) (S.faults input.new) }
@@ -60,6 +70,7 @@ pub fn replay<H: Machine, S: Source, K: Sink, P: Patterns>(
         config,
         limits: *limits,
         hub,
+        patterns,
         live: &mut live,
         sent: 0,
     };

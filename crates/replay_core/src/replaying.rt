@@ -1,4 +1,5 @@
 ghost use Rattle.std.specs.Prelude.{◌≡◌, ◌-◌, length};
+ghost use Rattle.std.proofs.Common.{refl, ◌∙◌};
 
 use crate::drain::drain;
 use crate::take::take_row;
@@ -8,41 +9,60 @@ use mesh_base::list::List;
 use mesh_base::sub_id::SubId;
 use mesh_hub::machine::Machine;
 use mesh_hub::text::push_refused;
+use mesh_outside::Patterns;
 use std::alloc::{AllocError, Global};
 use view_types::config::Config;
 
 /// A replay that is under way. What owns memory is lent to it.
 #[derive(Drop)]
-pub(crate) struct Replaying<'a, 'h, 'l, H: Machine> {
+pub(crate) struct Replaying<'a, 'h, 'p, 'l, H: Machine, P: Patterns> {
     pub(crate) alloc: Global,
     pub(crate) config: &'a Config,
     pub(crate) limits: Limits,
     pub(crate) hub: &'h mut H,
+    /// What tells which patterns match, for simulated requests.
+    pub(crate) patterns: &'p mut P,
     /// The ids that live, in ascending order. At the end they stay, and those drained are counted.
     pub(crate) live: &'l mut List<u32>,
     /// How many of them have been drained at the end.
     pub(crate) sent: usize,
 }
 
-impl<H: Machine> LineMachine for Replaying<'_, '_, '_, H> {
-    ghost use Rattle.mesh_hub.specs.Program.{replay_of};
-    ghost use Rattle.replay_core.specs.Stand.{Ended, Ending, IsOfRun, Stands, ending_none};
+impl<H: Machine, P: Patterns> LineMachine for Replaying<'_, '_, '_, '_, H, P> {
+    ghost use Rattle.replay_core.specs.Stand.{Ended, Ending, GoOn, IsOfRun, Stands, ending_none, goes_on_further, goes_on_here, known_of};
 
-    ghost stands = { λ start now past text refused. (now.hub.ghost_name ≡ start.hub.ghost_name) × IsOfRun start.config.now start.limits now.config.now now.limits
-        × Stands (replay_of start.config.now start.limits) (H.state start.hub.now) (H.state now.hub.now) (H.replies start.hub.now) (H.replies now.hub.now) now.live.now now.sent past text refused };
+    ghost stands = { λ start now past text refused. (now.hub.ghost_name ≡ start.hub.ghost_name) × (now.patterns.ghost_name ≡ start.patterns.ghost_name)
+        × IsOfRun start.config.now start.limits now.config.now now.limits
+        × GoOn (P.tells start.patterns.now) (P.tells now.patterns.now) (P.refuses start.patterns.now) (P.refuses now.patterns.now) (P.refusals start.patterns.now) (P.refusals now.patterns.now)
+        × Stands start.config.now start.limits (known_of (P.tells start.patterns.now) (P.refuses start.patterns.now) (P.refusals start.patterns.now) (P.refusals now.patterns.now))
+        (H.state start.hub.now) (H.state now.hub.now) (H.replies start.hub.now) (H.replies now.hub.now) now.live.now now.sent past text refused };
 
-    ghost ending = { λ start now past text refused. (now.hub.ghost_name ≡ start.hub.ghost_name) × IsOfRun start.config.now start.limits now.config.now now.limits
-        × Ending (replay_of start.config.now start.limits) (H.state start.hub.now) (H.state now.hub.now) (H.replies start.hub.now) (H.replies now.hub.now) now.live.now now.sent past text refused };
+    ghost ending = { λ start now past text refused. (now.hub.ghost_name ≡ start.hub.ghost_name) × (now.patterns.ghost_name ≡ start.patterns.ghost_name)
+        × IsOfRun start.config.now start.limits now.config.now now.limits
+        × GoOn (P.tells start.patterns.now) (P.tells now.patterns.now) (P.refuses start.patterns.now) (P.refuses now.patterns.now) (P.refusals start.patterns.now) (P.refusals now.patterns.now)
+        × Ending start.config.now start.limits (known_of (P.tells start.patterns.now) (P.refuses start.patterns.now) (P.refusals start.patterns.now) (P.refusals now.patterns.now))
+        (H.state start.hub.now) (H.state now.hub.now) (H.replies start.hub.now) (H.replies now.hub.now) now.live.now now.sent past text refused };
 
-    ghost ended = { λ start now past text refused. (now.hub.ghost_name ≡ start.hub.ghost_name)
-        × Ended (replay_of start.config.now start.limits) (H.state start.hub.now) (H.state now.hub.now) (H.replies start.hub.now) (H.replies now.hub.now) past text refused };
+    ghost ended = { λ start now past text refused. (now.hub.ghost_name ≡ start.hub.ghost_name) × (now.patterns.ghost_name ≡ start.patterns.ghost_name)
+        × GoOn (P.tells start.patterns.now) (P.tells now.patterns.now) (P.refuses start.patterns.now) (P.refuses now.patterns.now) (P.refusals start.patterns.now) (P.refusals now.patterns.now)
+        × Ended start.config.now start.limits (known_of (P.tells start.patterns.now) (P.refuses start.patterns.now) (P.refusals start.patterns.now) (P.refusals now.patterns.now))
+        (H.state start.hub.now) (H.state now.hub.now) (H.replies start.hub.now) (H.replies now.hub.now) past text refused };
 
     ghost begins = { λ start now past text refused stood. (
       stood.0,
       stood.1,
-      ending_none (replay_of start.config.now start.limits) (H.state start.hub.now) (H.state now.hub.now)
-          (H.replies start.hub.now) (H.replies now.hub.now) now.live.now now.sent past text refused stood.2,
+      stood.2,
+      stood.3,
+      ending_none start.config.now start.limits (known_of (P.tells start.patterns.now) (P.refuses start.patterns.now) (P.refusals start.patterns.now) (P.refusals now.patterns.now))
+          (H.state start.hub.now) (H.state now.hub.now) (H.replies start.hub.now) (H.replies now.hub.now) now.live.now now.sent past text refused stood.4,
     ) };
+
+    ghost keeps = { λ earlier now. (now.hub.ghost_name ≡ earlier.hub.ghost_name) × (now.patterns.ghost_name ≡ earlier.patterns.ghost_name)
+        × GoOn (P.tells earlier.patterns.now) (P.tells now.patterns.now) (P.refuses earlier.patterns.now) (P.refuses now.patterns.now) (P.refusals earlier.patterns.now) (P.refusals now.patterns.now) };
+
+    ghost keeps_itself = { λ machine. (refl, refl, goes_on_here (P.tells machine.patterns.now) (P.refuses machine.patterns.now) (P.refusals machine.patterns.now)) };
+
+    ghost keeps_on = { λ first second third on further. (further.0 ∙ on.0, further.1 ∙ on.1, goes_on_further on.2 further.2) };
 
     ghost pieces_left = { λ now. length now.live.now - now.sent };
 
@@ -52,7 +72,16 @@ impl<H: Machine> LineMachine for Replaying<'_, '_, '_, H> {
         line: Option<&[u8]>,
         out: &mut Vec<u8>,
     ) -> Result<bool, AllocError> {
-        let Ok(refusal) = take_row(self.alloc, self.config, self.hub, self.live, line, out) else {
+        let Ok(refusal) = take_row(
+            self.alloc,
+            self.config,
+            self.hub,
+            self.patterns,
+            self.live,
+            number,
+            line,
+            out,
+        ) else {
             return Err(AllocError);
         };
         match refusal {

@@ -1,14 +1,17 @@
-ghost use Rattle.std.specs.Prelude.{◌≡◌, ◌∷◌, [], ◌++◌, IfOk, Ok};
+ghost use Rattle.std.specs.Prelude.{◌≡◌, ◌≤◌, ◌∷◌, [], ◌++◌, IfOk, Ok};
 ghost use Rattle.std.specs.Option.{option_copied};
 ghost use Rattle.mesh_base.specs.declared.limits.Limits.{Limits};
 ghost use Rattle.view_types.specs.declared.config.Config.{Config as TheConfig};
 ghost use Rattle.watch_events.specs.Lawful.{IsLawfulEvent, IsLawfulLine};
 ghost use Rattle.watch_events.specs.Lines.{row_says, text_line};
+ghost use Rattle.route_match.specs.Matching.{Pat};
 ghost use Rattle.mesh_hub.specs.Hub.{applied, apply_refusal, cancelled, new_refusal, sub_at, subscribed};
 ghost use Rattle.mesh_hub.specs.Ids.{ended, in_place, unknown_refusal};
 ghost use Rattle.mesh_hub.specs.Optional.{Becomes};
 ghost use Rattle.mesh_hub.specs.Program.{replay_of};
-ghost use Rattle.replay_core.specs.Take.{IsRefusalBy, IsUnread, Makes, Replied, TakesByReplies, TakesFrom, Unreplied, drain_refusal, live_drained, live_unless};
+ghost use Rattle.replay_core.specs.Said.{reply_text, sim_text};
+ghost use Rattle.replay_core.specs.Stand.{known_of};
+ghost use Rattle.replay_core.specs.Take.{IsRefusalBy, IsRefusalFor, IsSimulated, IsUnread, Makes, Replied, TakesByReplies, TakesFrom, Unreplied, drain_refusal, live_drained, live_unless};
 
 use crate::drain::{Drained, drain};
 use crate::lives::take_out;
@@ -18,9 +21,13 @@ use mesh_base::steps::Steps;
 use mesh_base::sub_id::SubId;
 use mesh_hub::machine::Machine;
 use mesh_hub::refusal::{HubFault, Refusal};
+use mesh_hub::text::push_verdict;
+use mesh_outside::Patterns;
+use request_sim::fault::SimFault;
 use std::alloc::Global;
 use view_types::config::Config;
 use view_types::query::Query;
+use view_types::request::Request;
 use watch_events::event::Event;
 use watch_events::line::{Line, LineFault};
 use watch_events::read::read_row;
@@ -40,7 +47,7 @@ fn refusal_by(fault: HubFault) -> Result<Option<Refusal>, Memory>
 fn apply<H: Machine>(hub: &mut H, event: Event) -> Result<Option<Refusal>, Memory>
     requires { IsLawfulEvent event }
     ensures state { IfOk result (λ refusal. Becomes (H.state hub.old) (H.state hub.new) (λ old new. Makes (apply_refusal old event) (applied old event) refusal new)) }
-    ensures replies { IfOk result (λ refusal. Becomes (H.replies hub.old) (H.replies hub.new) (Replied refusal [] [])) }
+    ensures replies { IfOk result (λ refusal. Becomes (H.replies hub.old) (H.replies hub.new) (Replied reply_text refusal [] [])) }
 {
     match hub.apply(event, &mut Steps::<()>::new()) {
         Ok(()) => Ok(None),
@@ -55,7 +62,7 @@ fn subscribe<H: Machine>(
     query: Query,
 ) -> Result<Option<Refusal>, Memory>
     ensures state { IfOk result (λ refusal. Becomes (H.state hub.old) (H.state hub.new) (λ old new. Makes (new_refusal old id.0) (subscribed old id query) refusal new)) }
-    ensures replies { IfOk result (λ refusal. Becomes (H.replies hub.old) (H.replies hub.new) (Replied refusal [] [])) }
+    ensures replies { IfOk result (λ refusal. Becomes (H.replies hub.old) (H.replies hub.new) (Replied reply_text refusal [] [])) }
     ensures live { IfOk result (λ refusal. live.new ≡ live_unless refusal live.old (live.old ++ id.0 ∷ [])) }
 {
     match hub.subscribe(id, query, &mut Steps::<()>::new()) {
@@ -101,18 +108,57 @@ fn settle(alloc: Global, live: &mut List<u32>, id: SubId, outcome: Drained) -> O
     }
 }
 
-fn take_line<H: Machine>(
+// The refusal of a simulation that met a fault.
+fn refusal_for(fault: SimFault) -> Result<Option<Refusal>, Memory>
+    ensures { IfOk result (IsRefusalFor fault) }
+{
+    match fault {
+        SimFault::Memory => Err(Memory),
+        fault => Ok(Some(Refusal::Sim(fault))),
+    }
+}
+
+// Writes what comes of a request, or answers why its line, which has this number, is refused.
+fn simulate<H: Machine, P: Patterns>(
     alloc: Global,
     hub: &mut H,
+    patterns: &mut P,
+    number: u64,
+    request: &Request,
+    out: &mut Vec<u8>,
+) -> Result<Option<Refusal>, Memory>
+    ensures state { IfOk result (λ refusal. Becomes (H.state hub.old) (H.state hub.new)
+        (IsSimulated (known_of (P.tells patterns.old) (P.refuses patterns.old) (P.refusals patterns.old) (P.refusals patterns.new)) number request.now refusal out.old.items out.new.items)) }
+    ensures replies { IfOk result (λ refusal. Becomes (H.replies hub.old) (H.replies hub.new) (Replied (sim_text number request.now.ns) refusal out.old.items out.new.items)) }
+    ensures later { P.refusals patterns.old ≤ P.refusals patterns.new }
+    ensures tells_same { P.tells patterns.new ≡ P.tells patterns.old }
+    ensures refuses_same { P.refuses patterns.new ≡ P.refuses patterns.old }
+{
+    match hub.simulate(request, patterns, &mut Steps::<()>::new()) {
+        Ok(verdict) => {
+            push_verdict(alloc, out, number, &request.ns, &verdict)?;
+            Ok(None)
+        }
+        Err(fault) => refusal_for(fault),
+    }
+}
+
+fn take_line<H: Machine, P: Patterns>(
+    alloc: Global,
+    hub: &mut H,
+    patterns: &mut P,
     live: &mut List<u32>,
+    number: u64,
     line: Line,
     out: &mut Vec<u8>,
 ) -> Result<Option<Refusal>, Memory>
     requires { IsLawfulLine line }
-    ensures state { IfOk result (λ refusal. (config : TheConfig) (limits : Limits) → Becomes (H.state hub.old) (H.state hub.new)
-        (TakesFrom (replay_of config limits) (Ok line) refusal live.old live.new out.old.items out.new.items)) }
-    ensures replies { IfOk result (λ refusal. (config : TheConfig) (limits : Limits) → Becomes (H.replies hub.old) (H.replies hub.new)
-        (TakesByReplies (replay_of config limits) (Ok line) refusal out.old.items out.new.items)) }
+    ensures state { IfOk result (λ refusal. (config : TheConfig) (limits : Limits) (pat : Pat) → Becomes (H.state hub.old) (H.state hub.new)
+        (TakesFrom (replay_of config limits pat) (known_of (P.tells patterns.old) (P.refuses patterns.old) (P.refusals patterns.old) (P.refusals patterns.new)) number (Ok line) refusal live.old live.new out.old.items out.new.items)) }
+    ensures replies { IfOk result (λ refusal. Becomes (H.replies hub.old) (H.replies hub.new) (TakesByReplies number (Ok line) refusal out.old.items out.new.items)) }
+    ensures later { P.refusals patterns.old ≤ P.refusals patterns.new }
+    ensures tells_same { P.tells patterns.new ≡ P.tells patterns.old }
+    ensures refuses_same { P.refuses patterns.new ≡ P.refuses patterns.old }
 {
     match line {
         Line::Blank => Ok(None),
@@ -123,6 +169,7 @@ fn take_line<H: Machine>(
             let outcome = drain(alloc, hub, id, out)?;
             Ok(settle(alloc, live, id, outcome))
         }
+        Line::Simulate(request) => simulate(alloc, hub, patterns, number, &request, out),
         Line::Stop => Ok(Some(Refusal::NotHere)),
     }
 }
@@ -137,22 +184,27 @@ fn unread(fault: LineFault) -> Result<Option<Refusal>, Memory>
     }
 }
 
-/// Does what a row says, and answers why it is refused, if it is.
-pub(crate) fn take_row<H: Machine>(
+/// Does what the row of this number says, and answers why it is refused, if it is.
+pub(crate) fn take_row<H: Machine, P: Patterns>(
     alloc: Global,
     config: &Config,
     hub: &mut H,
+    patterns: &mut P,
     live: &mut List<u32>,
+    number: u64,
     row: Option<&[u8]>,
     out: &mut Vec<u8>,
 ) -> Result<Option<Refusal>, Memory>
-    ensures state { IfOk result (λ refusal. (limits : Limits) → Becomes (H.state hub.old) (H.state hub.new)
-        (TakesFrom (replay_of config.now limits) (row_says (text_line config.now) (option_copied row.entry)) refusal live.old live.new out.old.items out.new.items)) }
-    ensures replies { IfOk result (λ refusal. (limits : Limits) → Becomes (H.replies hub.old) (H.replies hub.new)
-        (TakesByReplies (replay_of config.now limits) (row_says (text_line config.now) (option_copied row.entry)) refusal out.old.items out.new.items)) }
+    ensures state { IfOk result (λ refusal. (limits : Limits) (pat : Pat) → Becomes (H.state hub.old) (H.state hub.new)
+        (TakesFrom (replay_of config.now limits pat) (known_of (P.tells patterns.old) (P.refuses patterns.old) (P.refusals patterns.old) (P.refusals patterns.new)) number (row_says (text_line config.now) (option_copied row.entry)) refusal live.old live.new out.old.items out.new.items)) }
+    ensures replies { IfOk result (λ refusal. Becomes (H.replies hub.old) (H.replies hub.new)
+        (TakesByReplies number (row_says (text_line config.now) (option_copied row.entry)) refusal out.old.items out.new.items)) }
+    ensures later { P.refusals patterns.old ≤ P.refusals patterns.new }
+    ensures tells_same { P.tells patterns.new ≡ P.tells patterns.old }
+    ensures refuses_same { P.refuses patterns.new ≡ P.refuses patterns.old }
 {
     match read_row(alloc, row, config) {
-        Ok(line) => take_line(alloc, hub, live, line, out),
+        Ok(line) => take_line(alloc, hub, patterns, live, number, line, out),
         Err(fault) => unread(fault),
     }
 }

@@ -1,5 +1,5 @@
 -- An object of any kind is lawful, where those of each kind are.
-use Rattle.std.proofs.Common.{◌≡◌, refl}
+use Rattle.std.proofs.Common.{refl}
 use Rattle.k8s_meta.specs.Given.{GivesOnly}
 use Rattle.k8s_meta.specs.Spots.{Reading}
 use Rattle.k8s_meta.proofs.Given.{after, last}

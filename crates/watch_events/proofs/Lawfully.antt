@@ -16,7 +16,7 @@ use Rattle.view_types.specs.Lawful.{IsLawful}
 use Rattle.view_types.specs.Objects.{key_of, kind_of}
 use Rattle.view_types.specs.declared.config.Config.{Config}
 use Rattle.view_types.specs.declared.object.Object.{Object}
-use Rattle.watch_events.specs.Controls.{cancellation_of, drain_of, control_as, control_of, subscription_of}
+use Rattle.watch_events.specs.Controls.{cancellation_of, drain_of, control_as, control_of, simulation_of, subscription_of}
 use Rattle.watch_events.specs.Events.{delete_of, event_as, event_of, set_of}
 use Rattle.watch_events.specs.Given.{Gives}
 use Rattle.watch_events.specs.Lawful.{IsLawfulLine, IsLawfulOf, LinesAreLawful, ObjectsAreLawful, TextsAreLawful}
@@ -33,7 +33,8 @@ use Rattle.watch_events.specs.declared.line.Line.{Line}
 use Rattle.watch_events.specs.declared.line.Line.TheVariants as lines
 use Rattle.watch_events.specs.declared.line.LineFault.{LineFault}
 use Rattle.watch_events.proofs.Apart.{apart_unless_repeated}
-use Rattle.watch_events.proofs.Targets.{query_gives}
+use Rattle.watch_events.proofs.Simulations.{request_gives}
+use Rattle.watch_events.proofs.Targets.{query_gives, query_read}
 
 -- ---- steps of a line
 
@@ -84,12 +85,16 @@ drain_gives : (s : Spot) → Lawful (drain_of s)
 unfolding drain_of
 drain_gives s = step P _ _ (λ id _. end P (lines.Drain (record { 0 = id })) tt)
 
+simulation_gives : (s : Spot) → Lawful (simulation_of s)
+unfolding simulation_of
+simulation_gives s = step P _ _ (λ request is. end P (lines.Simulate request) (request_gives s request (query_read _ request is)))
+
 control_gives : (config : Config) (word : Option ControlWord) (s : Spot) → Lawful (control_as config word s)
 control_gives config None s line e = absurd cc
 control_gives config (Some words.Subscribe) s line e = subscription_gives config s line e
 control_gives config (Some words.Cancel) s line e = cancellation_gives s line e
 control_gives config (Some words.Drain) s line e = drain_gives s line e
-control_gives config (Some words.Simulate) s line e = absurd cc
+control_gives config (Some words.Simulate) s line e = simulation_gives s line e
 control_gives config (Some words.Stop) s line e = end P lines.Stop tt line e
 
 delete_gives : (s : Spot) → Lawful (delete_of s)

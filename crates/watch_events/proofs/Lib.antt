@@ -3,4 +3,6 @@ pub mod EachObject
 pub mod Groups
 pub mod KeyCmp
 pub mod Lawfully
+pub mod Pairs
+mod Simulations
 mod Targets

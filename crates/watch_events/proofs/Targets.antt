@@ -8,7 +8,7 @@ use Rattle.std.proofs.lemmas.Bool.{leb-true}
 use Rattle.mesh_base.specs.Numeral.{is_numeral, leads_with_zero, number_up_to, plain_up_to}
 use Rattle.mesh_base.specs.Pieces.{pieces}
 use Rattle.k8s_meta.specs.Given.{GivesOnly}
-use Rattle.k8s_meta.specs.Spots.{Spot, ◌·◌, ◌>>=◌}
+use Rattle.k8s_meta.specs.Spots.{Spot, ◌·◌}
 use Rattle.k8s_meta.specs.declared.fault.ReadFault.{ReadFault}
 use Rattle.k8s_meta.specs.declared.key.Key.TheVariants as keys
 use Rattle.k8s_meta.proofs.Given.{after, last, required_gives, valid_value}
@@ -22,7 +22,6 @@ use Rattle.mesh_text.specs.Names.{is_dotless}
 use Rattle.mesh_text.specs.Targets.{above_zero, bracketed, full_name, host_target, hosted, lowered_target, names_of, port_after, port_of, service_target, target_of, v6_target, with_port}
 use Rattle.view_types.specs.declared.config.Config.{Config}
 use Rattle.view_types.specs.declared.query.Target.{Target}
-use Rattle.view_types.specs.declared.query.Target.TheVariants as targets
 use Rattle.view_types.specs.declared.query.Method.{Method}
 use Rattle.view_types.specs.declared.query.Method.TheVariants as methods
 use Rattle.view_types.specs.declared.query.Query.{Query}
@@ -157,9 +156,9 @@ traffic_gives config s =
     after IsLawfulQuery _ _ (λ target is. last IsLawfulQuery (queries.Traffic target)
     (required_gives IsLawfulTarget (target_at config) (target_gives config) (s · keys.Path) target is))
 
-query_read : (r : Result Query ReadFault) (query : Query) → of_query r ≡ Ok query → r ≡ Ok query
-query_read (Ok x) query e = cc
-query_read (Err fault) query e = absurd cc
+pub query_read : {A : Type 0} (r : Result A ReadFault) (x : A) → of_query r ≡ Ok x → r ≡ Ok x
+query_read (Ok y) x e = cc
+query_read (Err fault) x e = absurd cc
 
 pub query_gives : (config : Config) (method : Method) (s : Spot) (query : Query) → query_of config method s ≡ Ok query → IsLawfulQuery query
 query_gives config methods.Get s query e = get_gives config s query (query_read _ query e)

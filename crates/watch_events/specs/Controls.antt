@@ -10,6 +10,7 @@ use Rattle.view_types.specs.declared.query.Method.TheVariants as methods
 use Rattle.view_types.specs.declared.query.Query.{Query}
 use Rattle.watch_events.specs.Queries.{get_at, method_of, port_at, profile_at, traffic_at}
 use Rattle.watch_events.specs.Reading.{of_query, ◌>>=◌}
+use Rattle.watch_events.specs.Simulations.{request_at}
 use Rattle.watch_events.specs.declared.control.ControlWord.{ControlWord}
 use Rattle.watch_events.specs.declared.control.ControlWord.TheVariants as words
 use Rattle.watch_events.specs.declared.line.Line.{Line}
@@ -50,13 +51,17 @@ drain_of s = do
   id ← of_query (required (number 0 4294967295) (s · keys.Id))
   Ok (lines.Drain (record { 0 = id }))
 
--- Simulations aren't accepted yet.
+unfoldable pub simulation_of : Spot → Result Line LineFault
+simulation_of s = do
+  request ← of_query (request_at s)
+  Ok (lines.Simulate request)
+
 abbrev pub control_as : Config → Option ControlWord → Spot → Result Line LineFault
 control_as config None s = Err (faults.BadQuery (s · keys.Control).at)
 control_as config (Some words.Subscribe) s = subscription_of config s
 control_as config (Some words.Cancel) s = cancellation_of s
 control_as config (Some words.Drain) s = drain_of s
-control_as config (Some words.Simulate) s = Err faults.NotBuilt
+control_as config (Some words.Simulate) s = simulation_of s
 control_as config (Some words.Stop) s = Ok lines.Stop
 
 abbrev pub control_of : Config → Spot → Result Line LineFault

@@ -3,14 +3,13 @@ use Rattle.std.specs.Prelude.{ℕ, List, [], ◌++◌, codes}
 use Rattle.std.specs.Fmt.{decimal}
 use Rattle.k8s_meta.specs.FaultText.{read_fault_text}
 use Rattle.watch_events.specs.declared.line.LineFault.{LineFault}
-use Rattle.watch_events.specs.declared.line.LineFault.TheVariants.{Memory, TooLong, NotJson, NotBuilt, NoForm, UnknownType, ErrorEvent, UnknownKind, Object, RepeatedItem, BadQuery}
+use Rattle.watch_events.specs.declared.line.LineFault.TheVariants.{Memory, TooLong, NotJson, NoForm, UnknownType, ErrorEvent, UnknownKind, Object, RepeatedItem, BadQuery}
 
 -- Out of memory has no text.
 abbrev pub line_fault_text : LineFault → List ℕ
 line_fault_text Memory = []
 line_fault_text TooLong = codes "TooLong"
 line_fault_text NotJson = codes "NotJson"
-line_fault_text NotBuilt = codes "NotBuilt"
 line_fault_text NoForm = codes "NoForm"
 line_fault_text UnknownType = codes "UnknownType"
 line_fault_text ErrorEvent = codes "ErrorEvent"

@@ -1,13 +1,12 @@
 -- What was returned is what the definition gives, unless memory ran out.
 use Rattle.std.specs.Prelude.{◌≡◌, Result, Ok, Err}
 use Rattle.watch_events.specs.declared.line.LineFault.{LineFault}
-use Rattle.watch_events.specs.declared.line.LineFault.TheVariants.{Memory, TooLong, NotJson, NotBuilt, NoForm, UnknownType, ErrorEvent, UnknownKind, Object, RepeatedItem, BadQuery}
+use Rattle.watch_events.specs.declared.line.LineFault.TheVariants.{Memory, TooLong, NotJson, NoForm, UnknownType, ErrorEvent, UnknownKind, Object, RepeatedItem, BadQuery}
 
 abbrev pub Fails : {A : Type 0} → LineFault → Result A LineFault → Type 0
 Fails Memory read = Unit {0}
 Fails TooLong read = read ≡ Err TooLong
 Fails NotJson read = read ≡ Err NotJson
-Fails NotBuilt read = read ≡ Err NotBuilt
 Fails NoForm read = read ≡ Err NoForm
 Fails UnknownType read = read ≡ Err UnknownType
 Fails ErrorEvent read = read ≡ Err ErrorEvent

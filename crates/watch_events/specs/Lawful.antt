@@ -13,6 +13,7 @@ use Rattle.view_types.specs.declared.query.Query.{Query}
 use Rattle.view_types.specs.declared.query.Query.TheVariants as queries
 use Rattle.view_types.specs.declared.query.Target.{Target}
 use Rattle.view_types.specs.declared.query.Target.TheVariants as targets
+use Rattle.view_types.specs.declared.request.Request.{Request}
 use Rattle.watch_events.specs.Lines.{line_of, text_line}
 use Rattle.watch_events.specs.Objects.{object_at}
 use Rattle.watch_events.specs.declared.event.Event.{Event}
@@ -51,9 +52,14 @@ IsLawfulQuery (queries.Profile target ctx) = IsLawfulTarget target
 IsLawfulQuery (queries.Traffic target) = IsLawfulTarget target
 IsLawfulQuery _ = Unit {0}
 
+-- Of a simulation, the client's address and the port are within their types.
+abbrev pub IsLawfulRequest : Request → Type 0
+IsLawfulRequest request = FitsIp request.client × (request.port < 65536)
+
 abbrev pub IsLawfulLine : Line → Type 0
 IsLawfulLine (lines.Event event) = IsLawfulEvent event
 IsLawfulLine (lines.Subscribe id query) = IsLawfulQuery query
+IsLawfulLine (lines.Simulate request) = IsLawfulRequest request
 IsLawfulLine _ = Unit {0}
 
 -- each line that is read, whatever its length, and each under a limit

@@ -10,3 +10,4 @@ pub mod ListLines
 pub mod Objects
 pub mod Queries
 pub mod Reading
+pub mod Simulations

@@ -3,7 +3,7 @@ ghost use Rattle.k8s_meta.specs.Scalars.{number};
 ghost use Rattle.k8s_meta.specs.Spots.{◌·◌, seen};
 ghost use Rattle.k8s_meta.specs.Words.{choice, object, required, string_in};
 ghost use Rattle.k8s_meta.specs.declared.key.Key.TheVariants as keys;
-ghost use Rattle.watch_events.specs.Controls.{cancellation_of, control_of, control_word, drain_of, query_of, subscription_of};
+ghost use Rattle.watch_events.specs.Controls.{cancellation_of, control_of, control_word, drain_of, query_of, simulation_of, subscription_of};
 ghost use Rattle.watch_events.specs.Given.{Fails, Gives, GivesAs};
 ghost use Rattle.watch_events.specs.Queries.{method_of};
 ghost use Rattle.watch_events.specs.Reading.{of_query};
@@ -14,6 +14,7 @@ use crate::fault::query_fault;
 use crate::line::{Line, LineFault};
 use crate::method::MethodWord;
 use crate::query::{read_get, read_port, read_profile, read_traffic};
+use crate::simulation::read_request;
 use k8s_meta::choice::Choice;
 use k8s_meta::key::Key;
 use k8s_meta::place::Place;
@@ -127,6 +128,16 @@ fn read_drain<'a>(line: &'a Place<'a>) -> Result<Line, LineFault>
     Ok(Line::Drain { id: SubId(id) })
 }
 
+#[tactic(auto, unfolding(crate::specs::Reading::then, crate::specs::Controls::simulation_of))]
+fn read_simulation<'a>(line: &'a Place<'a>) -> Result<Line, LineFault>
+    ensures { Gives result (simulation_of (seen line.now)) }
+{
+    match read_request(line) {
+        Ok(request) => Ok(Line::Simulate(request)),
+        Err(fault) => Err(query_fault(fault)),
+    }
+}
+
 fn word_of<'a>(line: &'a Place<'a>) -> Option<ControlWord>
     ensures { result ≡ option_and_then control_word (string_in ((seen line.now) · keys.Control).value) }
 {
@@ -151,7 +162,7 @@ pub fn read_control<'a>(config: &Config, line: &'a Place<'a>) -> Result<Line, Li
         Some(ControlWord::Subscribe) => read_subscription(config, line),
         Some(ControlWord::Cancel) => read_cancellation(line),
         Some(ControlWord::Drain) => read_drain(line),
-        Some(ControlWord::Simulate) => Err(LineFault::NotBuilt),
+        Some(ControlWord::Simulate) => read_simulation(line),
         Some(ControlWord::Stop) => Ok(Line::Stop),
     }
 }

@@ -19,4 +19,5 @@ pub mod method;
 mod object;
 mod query;
 pub mod read;
+mod simulation;
 mod watch;

@@ -7,6 +7,7 @@ use mesh_base::memory;
 use mesh_base::sub_id::SubId;
 use mesh_base::text::Text;
 use view_types::query::Query;
+use view_types::request::Request;
 
 /// What a line says.
 #[derive(Drop)]
@@ -20,6 +21,8 @@ pub enum Line {
     Cancel { id: SubId },
     /// The subscriber of this number is sent what has changed for it.
     Drain { id: SubId },
+    /// What comes of the request is to be told.
+    Simulate(Request),
     /// The program is to end.
     Stop,
 }
@@ -45,8 +48,6 @@ pub enum LineFault {
     RepeatedItem { place: u64 },
     /// The member of a control line is absent, or its value isn't accepted there.
     BadQuery { path: Text },
-    /// It reads so far, and this program doesn't accept such lines yet.
-    NotBuilt,
 }
 
 impl From<memory::Memory> for LineFault {

@@ -25,7 +25,6 @@ impl fmt::Display for LineFault {
                 let path = path.as_str();
                 write!(f, "BadQuery {path}")
             }
-            LineFault::NotBuilt => write!(f, "NotBuilt"),
         }
     }
 }

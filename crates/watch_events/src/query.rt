@@ -98,7 +98,7 @@ impl Reader for ServiceTarget<'_> {
 
 /// A Pod.
 #[derive(Clone, Copy)]
-struct Workload;
+pub struct Workload;
 
 impl Reader for Workload {
     type Made = (Text, Text);

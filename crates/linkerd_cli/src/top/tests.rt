@@ -8,6 +8,8 @@ mod pods;
 mod profiles;
 mod rows;
 mod script;
+mod simulations;
+mod verdicts;
 
 ghost use Rattle.std.specs.Prelude.{◌<◌, ◌≤◌, length};
 ghost use Rattle.line_run.specs.Run.{IsAnswered, IsTooLong};
@@ -24,7 +26,8 @@ use mesh_base::list::List;
 use mesh_base::memory::Memory;
 use mesh_base::text::Text;
 use mesh_hub::hub::Hub;
-use mesh_outside::{MemSink, MemSource, SurePatterns, SureSink, SureSource};
+use mesh_outside::{MemSink, MemSource, SureSink, SureSource};
+use regex_patterns::RegexPatterns;
 use std::alloc::Global;
 use std::test::Fail;
 use view_types::config::Config;
@@ -87,7 +90,7 @@ fn replayed(
         &mut hub,
         &mut input,
         out,
-        &mut SurePatterns,
+        &mut RegexPatterns::new(alloc),
     );
     status
 }
@@ -269,7 +272,7 @@ fn failing(
         &mut hub,
         &mut input,
         &mut out,
-        &mut SurePatterns,
+        &mut RegexPatterns::new(alloc),
     );
     Ok((status, out.bytes.len()))
 }

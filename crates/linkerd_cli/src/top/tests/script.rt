@@ -12,6 +12,11 @@ use mesh_hub::script::ScriptMachine;
 use mesh_outside::{SurePatterns, SureSink, SureSource};
 use std::alloc::Global;
 use std::test::Fail;
+use view_types::policy::Policy;
+use view_types::verdict::{Decider, Verdict};
+
+const SIMULATION: &str =
+    r#"{"control":"simulate","workload":"app:web-1","port":8080,"client":"10.0.0.5"}"#;
 
 // A machine that does what three lines say, and then sends one frame that no hub sends for them.
 fn script_of(alloc: Global) -> Result<ScriptMachine, Fail> {
@@ -29,10 +34,24 @@ fn script_of(alloc: Global) -> Result<ScriptMachine, Fail> {
     })
 }
 
-// What the script makes of three lines.
-fn scripted(alloc: Global, text: &str) -> Result<(Status, Vec<u8>), Fail> {
+// A machine whose one reply is that an audit admits a request.
+fn admitting(alloc: Global) -> Result<ScriptMachine, Fail> {
+    let mut replies = List::new(alloc);
+    replies.add(Reply::Verdict(Verdict::Allowed(Decider::Default(Policy::Audit))))?;
+    Ok(ScriptMachine {
+        alloc,
+        replies,
+        taken: 0,
+    })
+}
+
+// What a machine makes of the text of an input.
+fn scripted(
+    alloc: Global,
+    mut script: ScriptMachine,
+    text: &str,
+) -> Result<(Status, Vec<u8>), Fail> {
     let words = words_of(alloc, "replay")?;
-    let mut script = script_of(alloc)?;
     let mut input = SureSource {
         bytes: text.as_bytes(),
     };
@@ -52,10 +71,20 @@ fn scripted(alloc: Global, text: &str) -> Result<(Status, Vec<u8>), Fail> {
 }
 
 #[test]
+fn a_verdict_of_a_script(rt: HostRuntime) -> Result<(), Fail> {
+    let alloc = rt.alloc();
+    let text = format!(in alloc; "\n{SIMULATION}\n")?;
+    let (status, written) = scripted(alloc, admitting(alloc)?, &text)?;
+    assert_eq!(rt; status, Status::Done);
+    assert!(rt; written.as_slice() == "verdict 2 allowed default audit\n".as_bytes());
+    Ok(())
+}
+
+#[test]
 fn the_replies_of_a_script(rt: HostRuntime) -> Result<(), Fail> {
     let alloc = rt.alloc();
     let text = format!(in alloc; "{SERVICE}\n{SLICE}\n{GET}\n")?;
-    let (status, written) = scripted(alloc, &text)?;
+    let (status, written) = scripted(alloc, script_of(alloc)?, &text)?;
     assert_eq!(rt; status, Status::Done);
     assert!(rt; written.as_slice() == "frame 1 00000000041a020801\n".as_bytes());
     Ok(())

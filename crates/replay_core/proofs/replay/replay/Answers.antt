@@ -1,28 +1,78 @@
 use Rattle.std.proofs.Common.{◌≡◌, refl, rules, sym}
 use Rattle.line_run.proofs.Progress.{OnEnd-weaker, OnStop-weaker}
-use Rattle.mesh_hub.specs.Program.{replay_of}
-use Rattle.replay_core.specs.Stand.{IsOfRun}
-use Rattle.replay_core.proofs.Fronts.{begun, output_front, said_whole}
+use Rattle.replay_core.specs.Stand.{GoOn, IsOfRun, known_of}
+use Rattle.replay_core.proofs.Fronts.{begun, nothing_written, output_front, output_whole, plain_whole, said_whole, state_whole}
+use Rattle.replay_core.proofs.Marks.{at_most}
 use Rattle.replay_core.proofs.Rows.{stands_new}
 use Rattle.replay_core.proofs.replay.replay.Goals as goal
 
 pub run_lines-requires : goal.run_lines-requires
-run_lines-requires g c = (
-  refl,
-  record { same_config = refl; same_limits = refl },
-  stands_new (replay_of c.args.config.now c.args.limits.now) (g.H.Machine.state c.begin.new.self) (g.H.Machine.replies c.begin.new.self) c.new-live.result c.new-live.ensures,
-)
+run_lines-requires g c =
+    let patterns = c.args.patterns.now in (
+      refl,
+      refl,
+      record { same_config = refl; same_limits = refl },
+      record { same_tells = refl; same_refuses = refl; later = at_most (g.P.Patterns.refusals patterns) },
+      stands_new c.args.config.now c.args.limits.now (g.P.Patterns.tells patterns) (g.P.Patterns.refuses patterns) (g.P.Patterns.refusals patterns) (g.H.Machine.state c.begin.new.self) (g.H.Machine.replies c.begin.new.self)
+          c.new-live.result c.new-live.ensures,
+    )
+
+pub returns-clause-output : goal.returns-clause-output
+returns-clause-output g c =
+    let state = g.H.Machine.state in
+    let replies = g.H.Machine.replies in
+    let patterns = c.args.patterns.now in
+    let machine = c.run_lines.new.machine in
+    let known = known_of (g.P.Patterns.tells patterns) (g.P.Patterns.refuses patterns) (g.P.Patterns.refusals patterns) (g.P.Patterns.refusals machine.patterns.now) in
+    OnEnd-weaker c.run_lines.result _ _ (λ refused whole.
+    let same_patterns = sym whole.at_end.1 in
+    let wrote = output_whole c.args.config.now c.args.limits.now (g.S.Source.left c.args.input.now) (g.K.Sink.held c.args.out.now) (g.K.Sink.held c.run_lines.new.sink) known (state c.args.hub.now) (state c.begin.new.self) (state machine.hub.now)
+    (replies c.begin.new.self) (replies machine.hub.now) whole.input whole.output refused whole.read whole.at_end.3
+    (begun c.args.config.now c.in-Ok.copy c.args.limits.now (state c.args.hub.now) (state c.begin.new.self) c.in-Ok-begin.field-0 c.in-Ok.ensures c.in-Ok-begin.ensures.state) whole.written in
+    search (rules, wrote, same_patterns)) c.run_lines.ensures.whole
+
+pub returns-clause-quiet : goal.returns-clause-quiet
+returns-clause-quiet g c =
+    let state = g.H.Machine.state in
+    let replies = g.H.Machine.replies in
+    let patterns = c.args.patterns.now in
+    let machine = c.run_lines.new.machine in
+    let known = known_of (g.P.Patterns.tells patterns) (g.P.Patterns.refuses patterns) (g.P.Patterns.refusals patterns) (g.P.Patterns.refusals machine.patterns.now) in
+    OnEnd-weaker c.run_lines.result _ _ (λ refused whole.
+    let same_patterns = sym whole.at_end.1 in
+    let wrote = plain_whole c.args.config.now c.args.limits.now (g.S.Source.left c.args.input.now) (g.K.Sink.held c.args.out.now) (g.K.Sink.held c.run_lines.new.sink) known (state c.args.hub.now) (state c.begin.new.self) (state machine.hub.now)
+    (replies c.begin.new.self) (replies machine.hub.now) whole.input whole.output refused whole.read whole.at_end.3
+    (begun c.args.config.now c.in-Ok.copy c.args.limits.now (state c.args.hub.now) (state c.begin.new.self) c.in-Ok-begin.field-0 c.in-Ok.ensures c.in-Ok-begin.ensures.state) whole.written in
+    search (rules, wrote, same_patterns)) c.run_lines.ensures.whole
 
 pub returns-clause-front : goal.returns-clause-front
 returns-clause-front g c =
     let config = c.args.config.now in
     let limits = c.args.limits.now in
     let state = g.H.Machine.state in
+    let patterns = c.args.patterns.now in
+    let machine = c.run_lines.new.machine in
+    let same_patterns = sym c.run_lines.ensures.keeps.1 in
     OnStop-weaker c.run_lines.result _ _ (λ part.
-    output_front config limits (g.S.Source.left c.args.input.now) (g.K.Sink.held c.args.out.now) (g.K.Sink.held c.run_lines.new.sink)
-    (λ m. state m.hub.now) (λ m. g.H.Machine.replies m.hub.now) (λ m. m.live.now) (λ m. m.sent) (λ m. m.hub.ghost_name ≡ _) (λ m. IsOfRun config limits m.config.now m.limits)
-    (state c.args.hub.now) (state c.begin.new.self) (g.H.Machine.replies c.begin.new.self)
-    (begun config c.in-Ok.copy limits (state c.args.hub.now) (state c.begin.new.self) c.in-Ok-begin.field-0 c.in-Ok.ensures c.in-Ok-begin.ensures.state) part) c.run_lines.ensures.part
+    let wrote = output_front config limits (g.S.Source.left c.args.input.now) (g.K.Sink.held c.args.out.now) (g.K.Sink.held c.run_lines.new.sink)
+    (g.P.Patterns.tells patterns) (g.P.Patterns.refuses patterns) (g.P.Patterns.refusals patterns) (g.P.Patterns.refusals machine.patterns.now) (λ m. state m.hub.now) (λ m. g.H.Machine.replies m.hub.now) (λ m. m.live.now) (λ m. m.sent) (λ m. g.P.Patterns.refusals m.patterns.now)
+    (λ m. m.hub.ghost_name ≡ _) (λ m. m.patterns.ghost_name ≡ _) (λ m. IsOfRun config limits m.config.now m.limits)
+    (λ m. GoOn (g.P.Patterns.tells patterns) (g.P.Patterns.tells m.patterns.now) (g.P.Patterns.refuses patterns) (g.P.Patterns.refuses m.patterns.now) (g.P.Patterns.refusals patterns) (g.P.Patterns.refusals m.patterns.now))
+    _ (λ m kept. kept.2.later) (state c.args.hub.now) (state c.begin.new.self) (g.H.Machine.replies c.begin.new.self)
+    (begun config c.in-Ok.copy limits (state c.args.hub.now) (state c.begin.new.self) c.in-Ok-begin.field-0 c.in-Ok.ensures c.in-Ok-begin.ensures.state) part in
+    search (rules, wrote, same_patterns)) c.run_lines.ensures.part
+
+pub returns-clause-state : goal.returns-clause-state
+returns-clause-state g c =
+    let state = g.H.Machine.state in
+    let replies = g.H.Machine.replies in
+    let hub = c.run_lines.new.machine.hub.now in
+    OnEnd-weaker c.run_lines.result _ _ (λ refused whole.
+    let same_hub = sym whole.at_end.0 in
+    let stands = state_whole c.args.config.now c.args.limits.now (g.S.Source.left c.args.input.now) (g.K.Sink.held c.args.out.now) (g.K.Sink.held c.run_lines.new.sink) _ (state c.args.hub.now) (state c.begin.new.self) (state hub)
+    (replies c.begin.new.self) (replies hub) whole.input whole.output refused whole.read whole.at_end.3
+    (begun c.args.config.now c.in-Ok.copy c.args.limits.now (state c.args.hub.now) (state c.begin.new.self) c.in-Ok-begin.field-0 c.in-Ok.ensures c.in-Ok-begin.ensures.state) in
+    search (rules, stands, same_hub)) c.run_lines.ensures.whole
 
 pub returns-clause-said : goal.returns-clause-said
 returns-clause-said g c =
@@ -31,6 +81,22 @@ returns-clause-said g c =
     let hub = c.run_lines.new.machine.hub.now in
     OnEnd-weaker c.run_lines.result _ _ (λ refused whole.
     let same_hub = sym whole.at_end.0 in
-    let said = said_whole c.args.config.now c.args.limits.now (g.S.Source.left c.args.input.now) (g.K.Sink.held c.args.out.now) (g.K.Sink.held c.run_lines.new.sink) (state c.args.hub.now) (state c.begin.new.self) (state hub)
-    (replies c.begin.new.self) (replies hub) whole.input whole.output refused whole.read whole.at_end.1 (replies c.args.hub.now) c.in-Ok-begin.ensures.replies whole.written in
+    let said = said_whole c.args.config.now c.args.limits.now (g.S.Source.left c.args.input.now) (g.K.Sink.held c.args.out.now) (g.K.Sink.held c.run_lines.new.sink) _ (state c.args.hub.now) (state c.begin.new.self) (state hub)
+    (replies c.begin.new.self) (replies hub) whole.input whole.output refused whole.read whole.at_end.3 (replies c.args.hub.now) c.in-Ok-begin.ensures.replies whole.written in
     search (rules, said, same_hub)) c.run_lines.ensures.whole
+
+pub returns-in_default-clause-front : goal.returns-in_default-clause-front
+returns-in_default-clause-front g c =
+    let patterns = c.args.patterns.now in
+    nothing_written c.args.config.now c.args.limits.now (known_of (g.P.Patterns.tells patterns) (g.P.Patterns.refuses patterns) (g.P.Patterns.refusals patterns) (g.P.Patterns.refusals patterns)) (g.H.Machine.state c.args.hub.now) (g.S.Source.left c.args.input.now) (g.K.Sink.held c.args.out.now) (at_most _)
+
+pub returns-in_default-begin-clause-front : goal.returns-in_default-begin-clause-front
+returns-in_default-begin-clause-front g c =
+    let patterns = c.args.patterns.now in
+    nothing_written c.args.config.now c.args.limits.now (known_of (g.P.Patterns.tells patterns) (g.P.Patterns.refuses patterns) (g.P.Patterns.refusals patterns) (g.P.Patterns.refusals patterns)) (g.H.Machine.state c.args.hub.now) (g.S.Source.left c.args.input.now) (g.K.Sink.held c.args.out.now) (at_most _)
+
+pub returns-clause-later : goal.returns-clause-later
+returns-clause-later g c =
+    let same_patterns = sym c.run_lines.ensures.keeps.1 in
+    let later = c.run_lines.ensures.keeps.2.later in
+    search (rules, later, same_patterns)

@@ -7,12 +7,15 @@ use Rattle.line_run.proofs.feeder.Feeder.feed.Goals as goal
 
 pub returns-in_default-clause-stopped : goal.returns-in_default-clause-stopped
 returns-in_default-clause-stopped g c = λ start held taken more come.
-    come_stops (g.M.LineMachine.stands start) (g.M.LineMachine.ending start) (g.M.LineMachine.ended start) more (c.loop-found.invariant.come start held taken come) (Moves-none _ _)
+    come_stops (g.M.LineMachine.stands start) (g.M.LineMachine.ending start) (g.M.LineMachine.ended start) _ more (c.loop-found.invariant.come start held taken come) (Moves-none _ _) (g.M.LineMachine.keeps_itself _)
 
 pub returns-in_err-give-clause-stopped : goal.returns-in_err-give-clause-stopped
 returns-in_err-give-clause-stopped g c = on_err c.from_residual.result (λ start held taken more come.
-    line_stops (g.M.LineMachine.stands start) (g.M.LineMachine.ending start) (g.M.LineMachine.ended start) c.in-Some.after.now more (c.loop-found.invariant.come start held taken come)
+    line_stops (g.M.LineMachine.stands start) (g.M.LineMachine.ending start) (g.M.LineMachine.ended start) _ c.in-Some.after.now more (c.loop-found.invariant.come start held taken come)
     (at_some c.in-Ok.found c.in-Some.after _ c.in-Some.is c.in-Ok.ensures.line) (λ past rest counted says. c.in_err-give.ensures.stopped start held past rest counted says))
+
+pub returns-in_err-give-clause-keeps : goal.returns-in_err-give-clause-keeps
+returns-in_err-give-clause-keeps g c = g.M.LineMachine.keeps_on _ _ _ c.loop-found.invariant.keeps c.give.ensures.keeps
 
 pub loop-found-preserved : goal.loop-found-preserved
 loop-found-preserved g c =
@@ -27,4 +30,5 @@ loop-found-preserved g c =
           (takes_line (g.M.LineMachine.stands start) (is.come start held taken come) (at_some c.in-Ok.found c.in-Some.after _ c.in-Some.is c.in-Ok.ensures.line) c.in_ok-give.ensures.lines
           (λ past counted says. c.in_ok-give.ensures.stands start held past counted says));
       later = omega (arith, is.later, c.in_ok-give.ensures.cause.later);
+      keeps = g.M.LineMachine.keeps_on _ _ _ is.keeps c.give.ensures.keeps;
     }

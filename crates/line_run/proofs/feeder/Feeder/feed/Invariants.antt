@@ -11,6 +11,7 @@ invariant-loop-found g l = record {
       → Come (g.M.LineMachine.stands start) l.limit held taken l.fn.self.cutter.part.items (now_of l.fn.machine (g.K.Sink.held l.fn.sink) l.fn.self)
       → Come (g.M.LineMachine.stands start) l.limit held (taken ++ l.block) (l.self.cutter.part.items ++ l.rest) (now_of l.machine (g.K.Sink.held l.sink) l.self);
   later : g.K.Sink.faults l.fn.sink ≤ g.K.Sink.faults l.sink;
+  keeps : g.M.LineMachine.keeps l.fn.machine l.machine;
 }
 
 abbrev pub decreases-loop-found : goal.decreases-loop-found

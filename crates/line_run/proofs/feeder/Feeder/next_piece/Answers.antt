@@ -5,7 +5,7 @@ use Rattle.line_run.proofs.feeder.Feeder.next_piece.Goals as goal
 
 pub returns-in_default-clause-stopped : goal.returns-in_default-clause-stopped
 returns-in_default-clause-stopped g c = λ start held past says.
-    ending_stops (g.M.LineMachine.stands start) (g.M.LineMachine.ending start) (g.M.LineMachine.ended start) says (Moves-none _ _)
+    ending_stops (g.M.LineMachine.stands start) (g.M.LineMachine.ending start) (g.M.LineMachine.ended start) _ says (Moves-none _ _) c.end.ensures.keeps
 
 pub returns-in_err-flush_much-clause-stopped : goal.returns-in_err-flush_much-clause-stopped
 returns-in_err-flush_much-clause-stopped g c = on_err c.from_residual.result (λ start held past says.
@@ -15,7 +15,7 @@ returns-in_err-flush_much-clause-stopped g c = on_err c.from_residual.result (λ
     (λ more. c.end.ensures.more more start past says.sent s.refused says.at_past) (λ last. c.end.ensures.last last start past says.sent s.refused says.at_past) in
     let told : Says (λ machine past said refused. g.M.LineMachine.ending start machine past said refused ⊎ g.M.LineMachine.ended start machine past said refused) held past now =
     record { sent = says.sent; written = says.written; at_past = here } in
-    end_stops (g.M.LineMachine.stands start) (g.M.LineMachine.ending start) (g.M.LineMachine.ended start) told c.in_err-flush_much.ensures.front.1)
+    end_stops (g.M.LineMachine.stands start) (g.M.LineMachine.ending start) (g.M.LineMachine.ended start) _ told c.in_err-flush_much.ensures.front.1 (g.M.LineMachine.keeps_itself _))
 
 pub returns-clause-more : goal.returns-clause-more
 returns-clause-more g c = λ more start held past says.

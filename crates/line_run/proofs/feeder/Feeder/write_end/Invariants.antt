@@ -9,6 +9,7 @@ invariant-pieces g l = record {
       → Says (g.M.LineMachine.ending start) held past (now_of l.fn.machine (g.K.Sink.held l.fn.sink) l.fn.self)
       → Says (g.M.LineMachine.ending start) held past (now_of l.machine (g.K.Sink.held l.sink) l.self);
   later : g.K.Sink.faults l.fn.sink ≤ g.K.Sink.faults l.sink;
+  keeps : g.M.LineMachine.keeps l.fn.machine l.machine;
 }
 
 abbrev pub decreases-pieces : goal.decreases-pieces

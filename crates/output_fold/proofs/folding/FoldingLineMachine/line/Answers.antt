@@ -13,15 +13,15 @@ invariant_of-self c =
       orderly = taken_is c.take.result old.fold c.take.new.self c.in-Ok-Some.message c.take.ensures.ok c.take.ensures.err old.orderly;
     }
 
-pub returns-then-self : goal.returns-then-self
-returns-then-self c = λ start past sent earlier counts stood.
+pub returns-then-self-clause-stands : goal.returns-then-self-clause-stands
+returns-then-self-clause-stands c = λ start past sent earlier counts stood.
     let old = c.args.self.now in (
       stood.0,
       skipped start.method start.id.0 (option_copied c.args.line) past old.failed old.fold.view (sent ++ c.args.out.now.items) earlier c.if-self.true stood.1,
     )
 
-pub returns-in-Ok-None : goal.returns-in-Ok-None
-returns-in-Ok-None c = λ start past sent earlier counts stood.
+pub returns-in-Ok-None-clause-stands : goal.returns-in-Ok-None-clause-stands
+returns-in-Ok-None-clause-stands c = λ start past sent earlier counts stood.
     let old = c.args.self.now in
     let row = option_copied c.args.line in
     let says : row_says start.method start.id.0 row ≡ Ok None = says_too stood.0 row (c.in-Ok-None.ensures ∙ ap Ok c.in-Ok-None.field-0-is) in (
@@ -29,8 +29,8 @@ returns-in-Ok-None c = λ start past sent earlier counts stood.
       reads start.method start.id.0 row past old.failed old.fold.view old.fold.view (sent ++ c.args.out.now.items) earlier None c.if-self.false says refl stood.1,
     )
 
-pub returns-in-Ok : goal.returns-in-Ok
-returns-in-Ok c = λ start past sent earlier counts stood.
+pub returns-in-Ok-clause-stands : goal.returns-in-Ok-clause-stands
+returns-in-Ok-clause-stands c = λ start past sent earlier counts stood.
     let old = c.args.self.now in
     let row = option_copied c.args.line in
     let message = c.in-Ok-Some.message in
@@ -39,8 +39,8 @@ returns-in-Ok c = λ start past sent earlier counts stood.
       reads start.method start.id.0 row past old.failed old.fold.view c.take.new.self.view (sent ++ c.args.out.now.items) earlier (Some message) c.if-self.false says c.in-Ok.ensures.ok stood.1,
     )
 
-pub returns-in_ok-refuse-in-Err : goal.returns-in_ok-refuse-in-Err
-returns-in_ok-refuse-in-Err c = λ start past sent earlier counts stood.
+pub returns-in_ok-refuse-in-Err-clause-stands : goal.returns-in_ok-refuse-in-Err-clause-stands
+returns-in_ok-refuse-in-Err-clause-stands c = λ start past sent earlier counts stood.
     let old = c.args.self.now in
     let row = option_copied c.args.line in
     let fault = c.in-Err.fault in

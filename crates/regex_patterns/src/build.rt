@@ -1,0 +1,47 @@
+// Builds and searches regular expressions.
+ghost use Rattle.std.specs.Prelude.{◌≡◌, IfOk, IfSome, is_some};
+ghost use Rattle.std.specs.String.{string_bytes};
+ghost use Rattle.regex.specs.Patterns.{find_str};
+ghost use Rattle.regex.specs.Strings.{regex_pattern};
+ghost use Rattle.regex_patterns.specs.Patterns.{IsBuiltOf, IsReadFrom, whole};
+
+use mesh_base::memory::Memory;
+use regex::{Error, Regex};
+use std::alloc::Global;
+
+/// The regular expression that finds the whole texts of a pattern, or None where it is refused.
+pub(crate) fn build(alloc: Global, pattern: &str) -> Result<Option<Regex>, Memory>
+    ensures { IfOk result (λ built. IfSome built (IsBuiltOf pattern.now)) }
+{
+    let source = whole_of(alloc, pattern)?;
+    read(alloc, source.as_str())
+}
+
+// The regular expression that a text is, or None where it is none.
+fn read(alloc: Global, source: &str) -> Result<Option<Regex>, Memory>
+    ensures { IfOk result (λ made. IfSome made (IsReadFrom source.now)) }
+{
+    match Regex::new(alloc, source) {
+        Ok(regex) => Ok(Some(regex)),
+        Err(Error::OutOfMemory) => Err(Memory),
+        Err(_) => Ok(None),
+    }
+}
+
+// The pattern, of a whole text.
+fn whole_of(alloc: Global, pattern: &str) -> Result<String, Memory>
+    ensures { IfOk result (λ source. string_bytes source ≡ whole pattern.now) }
+{
+    let mut source = String::from_str(alloc, "\\A(?:")?;
+    source.push_str(pattern)?;
+    source.push_str(")\\z")?;
+    Ok(source)
+}
+
+/// Whether a regular expression is found in a text.
+pub(crate) fn is_found(alloc: Global, regex: &Regex, text: &str) -> Result<bool, Memory>
+    ensures { IfOk result (λ found. found ≡ is_some (find_str (regex_pattern regex.now) text.now 0)) }
+{
+    let mut matcher = regex.matcher(alloc)?;
+    Ok(matcher.is_match(text))
+}

@@ -1,0 +1,52 @@
+// Patterns that are kept for later calls.
+ghost use Rattle.std.specs.Prelude.{◌≡◌, IfOk, IfSome};
+ghost use Rattle.std.proofs.Props.{props};
+ghost use Rattle.regex_patterns.specs.Patterns.{IsBuiltOf, regex_tells};
+
+use crate::build::{build, is_found};
+use mesh_base::memory::Memory;
+use mesh_base::text::Text;
+use mesh_outside::PatternFault;
+use regex::Regex;
+use std::alloc::Global;
+
+/// A pattern with what was built of it: a regular expression, or nothing where the pattern was refused.
+#[derive(Drop)]
+pub struct Kept {
+    pub(crate) pattern: Text,
+    regex: Option<Regex>,
+    ghost built: { IfSome regex (IsBuiltOf pattern) } by { Prim.hlevel props },
+}
+
+impl Kept {
+    pub(crate) fn new(alloc: Global, pattern: &str) -> Result<Kept, Memory>
+        ensures { IfOk result (λ made. made.pattern ≡ pattern.now) }
+    {
+        let regex = build(alloc, pattern)?;
+        let own = Text::from_str(alloc, pattern)?;
+        Ok(Kept {
+            pattern: own,
+            regex,
+        })
+    }
+
+    /// Whether the pattern matches the whole text.
+    pub(crate) fn whole(&self, alloc: Global, text: &str) -> Result<bool, PatternFault>
+        ensures { IfOk result (λ answer. answer ≡ regex_tells self.now.pattern text.now) }
+    {
+        match &self.regex {
+            Some(regex) => match is_found(alloc, regex, text) {
+                Ok(found) => Ok(found),
+                Err(Memory) => Err(PatternFault::Memory),
+            },
+            None => Err(PatternFault::Refused),
+        }
+    }
+}
+
+/// What is kept of a pattern.
+pub(crate) fn kept_of<'k>(kept: &'k [Kept], pattern: &str) -> Option<&'k Kept>
+    ensures { IfSome result (λ known. known.now.pattern ≡ pattern.now) }
+{
+    kept.iter().find(|known| known.pattern.as_str() == pattern)
+}

@@ -1,0 +1,7 @@
+pub mod Admitted
+pub mod Blocks
+pub mod Clients
+pub mod Deciders
+pub mod FirstAdmitting
+pub mod FirstPassing
+pub mod Shapes

@@ -1,0 +1,122 @@
+-- What comes of a request, over the objects held: the written policy's verdict, and who decided.
+use Rattle.std.specs.Prelude.{◌&&◌, ◌||◌, Bool, true, false, if◌then◌else◌, List, [], ◌∷◌, Option, Some, None, find, map}
+use Rattle.std.specs.FinMap.{values}
+use Rattle.std.specs.List.{list_any, slice_get}
+use Rattle.mesh_base.specs.declared.key.Kind.{Kind}
+use Rattle.mesh_base.specs.declared.key.Kind.TheVariants as kind
+use Rattle.net_cidr.specs.declared.ip.Ip.{Ip}
+use Rattle.view_types.specs.Objects.{ObjectMap, kind_of, meta_of}
+use Rattle.view_types.specs.declared.config.Config.{Config}
+use Rattle.view_types.specs.declared.object.Object.{Object}
+use Rattle.view_types.specs.declared.pod.Pod.{Pod}
+use Rattle.view_types.specs.declared.policy.Policy.{Policy}
+use Rattle.view_types.specs.declared.policy.Policy.TheVariants.{AllUnauthenticated, AllAuthenticated, ClusterUnauthenticated, ClusterAuthenticated, Deny, Audit}
+use Rattle.view_types.specs.declared.policy.Protocol.{Protocol}
+use Rattle.view_types.specs.declared.policy.Protocol.TheVariants.{Opaque, Tls}
+use Rattle.view_types.specs.declared.request.ClientTls.{ClientTls}
+use Rattle.view_types.specs.declared.request.ClientTls.TheVariants.{Identity}
+use Rattle.view_types.specs.declared.request.HttpRequest.{HttpRequest}
+use Rattle.view_types.specs.declared.request.Request.{Request}
+use Rattle.view_types.specs.declared.route.Route.{Route}
+use Rattle.view_types.specs.declared.server.ServerSpec.{ServerSpec}
+use Rattle.view_types.specs.declared.server_view.AuthzKind.{AuthzKind}
+use Rattle.view_types.specs.declared.server_view.AuthzKind.TheVariants.{ServerAuthorization, AuthorizationPolicy}
+use Rattle.view_types.specs.declared.verdict.Decider.{Decider}
+use Rattle.view_types.specs.declared.verdict.Decider.TheVariants.{Authz, Default}
+use Rattle.view_types.specs.declared.verdict.Verdict.{Verdict}
+use Rattle.view_types.specs.declared.verdict.Verdict.TheVariants.{Allowed, Denied, NotFound, NoWorkload}
+use Rattle.request_rules.specs.Admits.{admits}
+use Rattle.view_rules.specs.Inbound.{default_policy}
+use Rattle.route_match.specs.Matching.{Pat, Shape, best}
+use Rattle.route_match.specs.declared.best.Candidate.{Candidate}
+use Rattle.view_rules.specs.PodRows.{pod_held}
+use Rattle.view_rules.specs.Policies.{applies_to_route, applies_to_server}
+use Rattle.view_rules.specs.Routes.{attached_routes, is_server_parent, route_key}
+use Rattle.request_rules.specs.Networks.{net_holds}
+use Rattle.view_rules.specs.Servers.{chosen_server}
+
+-- ---- the policy
+
+abbrev pub has_identity : ClientTls → Bool
+has_identity (Identity identity) = true
+has_identity _ = false
+
+abbrev pub is_in_cluster : Config → Ip → Bool
+is_in_cluster config ip = list_any (net_holds ip) config.cluster_nets
+
+abbrev pub policy_admits : Config → Ip → ClientTls → Policy → Bool
+policy_admits config ip tls AllUnauthenticated = true
+policy_admits config ip tls AllAuthenticated = has_identity tls
+policy_admits config ip tls ClusterUnauthenticated = is_in_cluster config ip
+policy_admits config ip tls ClusterAuthenticated = is_in_cluster config ip && has_identity tls
+policy_admits config ip tls Deny = false
+policy_admits config ip tls Audit = true
+
+abbrev pub by_policy : Config → Request → Policy → Verdict
+by_policy config request policy = if policy_admits config request.client request.tls policy then Allowed (Default policy) else Denied (Default policy)
+
+-- ---- authorizations
+
+abbrev pub authz_kind_of : Kind → AuthzKind
+authz_kind_of kind.ServerAuthorization = ServerAuthorization
+authz_kind_of _ = AuthorizationPolicy
+
+abbrev pub decider_of : Object → Decider
+decider_of o = Authz (authz_kind_of (kind_of o)) (meta_of o).name
+
+abbrev pub by_found : Config → Request → Policy → Option Object → Verdict
+by_found config request policy None = by_policy config request policy
+by_found config request policy (Some o) = Allowed (decider_of o)
+
+-- Objects stand by kind, namespace and name, so that the first of a namespace is the least.
+abbrev pub decided : Config → ObjectMap → Request → Policy → (Object → Bool) → Verdict
+decided config held request policy applies =
+    by_found config request policy (find (λ o. applies o && admits config held request.client request.tls o) (values held))
+
+-- ---- routes
+
+abbrev pub shape_of : Route → Shape
+shape_of route = (route.hosts, map (λ rule. rule.matches) route.rules)
+
+abbrev pub asks_routes : Protocol → Bool
+asks_routes Opaque = false
+asks_routes Tls = false
+asks_routes _ = true
+
+abbrev pub is_more_than_none : List Route → Bool
+is_more_than_none [] = false
+is_more_than_none (route ∷ routes) = true
+
+-- to the Server, or to the route
+abbrev pub applies_to_either : ObjectMap → ServerSpec → Route → Object → Bool
+applies_to_either held server route o = applies_to_server held server o || applies_to_route held (route_key route) o
+
+abbrev pub on_route : Config → ObjectMap → Request → ServerSpec → Option Route → Verdict
+on_route config held request server None = NotFound
+on_route config held request server (Some route) = decided config held request server.policy (applies_to_either held server route)
+
+abbrev pub route_at : List Route → Option Candidate → Option Route
+route_at routes None = None
+route_at routes (Some found) = slice_get routes found.route
+
+abbrev pub by_routes : Config → ObjectMap → Pat → Request → ServerSpec → List Route → Option HttpRequest → Verdict
+by_routes config held pat request server routes None = decided config held request server.policy (applies_to_server held server)
+by_routes config held pat request server routes (Some http) =
+    if is_more_than_none routes && asks_routes server.protocol
+    then on_route config held request server (route_at routes (best pat http (map shape_of routes)))
+    else decided config held request server.policy (applies_to_server held server)
+
+-- ---- the verdict
+
+abbrev pub by_server : Config → ObjectMap → Pat → Request → Pod → Option ServerSpec → Verdict
+by_server config held pat request pod None = by_policy config request (default_policy config pod)
+by_server config held pat request pod (Some server) =
+    by_routes config held pat request server (attached_routes held server.meta.ns (is_server_parent server.meta.name)) request.http
+
+abbrev pub by_pod : Config → ObjectMap → Pat → Request → Option Pod → Verdict
+by_pod config held pat request None = NoWorkload
+by_pod config held pat request (Some pod) = by_server config held pat request pod (chosen_server held request.ns pod request.port)
+
+-- what comes of the request, where these objects are held
+abbrev pub verdict : Config → ObjectMap → Pat → Request → Verdict
+verdict config held pat request = by_pod config held pat request (pod_held held (Some (request.ns, request.pod)))

@@ -1,0 +1,26 @@
+ghost use Rattle.request_rules.specs.Laws.{BlockHoldsDecides, FirstRowsShowTheLeast, RowsAdmitAsTheirObjects, RowsShowTheirMatches, VerdictsNameTheirDecider};
+
+/// The test of a block of networks is true exactly where it holds the address.
+pub fn block_holds_decides()
+    ensures { BlockHoldsDecides }
+{}
+
+/// A row of a view admits a client exactly where the authorization that it shows does.
+pub fn rows_admit_as_their_objects()
+    ensures { RowsAdmitAsTheirObjects }
+{}
+
+/// The first row that admits a client shows the least authorization that applies and admits it; where no row does, none does.
+pub fn first_rows_show_the_least()
+    ensures { FirstRowsShowTheLeast }
+{}
+
+/// The rows of a Server's routes have the hostnames and matches of the routes, in the same places.
+pub fn rows_show_their_matches()
+    ensures { RowsShowTheirMatches }
+{}
+
+/// An allowed client is admitted by the named authorization or by the named policy; a denied one by none.
+pub fn verdicts_name_their_decider()
+    ensures { VerdictsNameTheirDecider }
+{}

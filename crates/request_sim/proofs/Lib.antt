@@ -1,0 +1,7 @@
+mod Applying
+pub mod ByRows
+mod FirstRow
+mod InPlace
+pub mod Meets
+pub mod Nets
+mod TwoLists

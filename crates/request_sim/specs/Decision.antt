@@ -1,0 +1,68 @@
+-- The decision on the inbound view of a port: the rows in place of the objects.
+use Rattle.std.specs.Prelude.{◌&&◌, Bool, true, false, if◌then◌else◌, List, [], ◌∷◌, Option, Some, None, find, map}
+use Rattle.std.specs.List.{slice_get}
+use Rattle.std.specs.Ordering.{is_gt}
+use Rattle.view_types.specs.declared.config.Config.{Config}
+use Rattle.view_types.specs.declared.policy.Policy.{Policy}
+use Rattle.view_types.specs.declared.request.HttpRequest.{HttpRequest}
+use Rattle.view_types.specs.declared.request.Request.{Request}
+use Rattle.view_types.specs.declared.server_view.AuthzRow.{AuthzRow}
+use Rattle.view_types.specs.declared.server_view.RouteRow.{RouteRow}
+use Rattle.view_types.specs.declared.server_view.ServerRow.{ServerRow}
+use Rattle.view_types.specs.declared.server_view.ServerView.{ServerView}
+use Rattle.view_types.specs.declared.server_view.ServerView.TheVariants.{Absent, Present}
+use Rattle.view_types.specs.declared.verdict.Decider.{Decider}
+use Rattle.view_types.specs.declared.verdict.Decider.TheVariants.{Authz}
+use Rattle.view_types.specs.declared.verdict.Verdict.{Verdict}
+use Rattle.view_types.specs.declared.verdict.Verdict.TheVariants.{Allowed, NotFound, NoWorkload}
+use Rattle.view_rules.specs.PolicyLaws.{row_cmp}
+use Rattle.route_match.specs.Matching.{Pat, best, row_shape}
+use Rattle.route_match.specs.declared.best.Candidate.{Candidate}
+use Rattle.request_rules.specs.Admits.{row_admits}
+use Rattle.request_rules.specs.Verdicts.{asks_routes, by_policy}
+
+abbrev pub row_decider : AuthzRow → Decider
+row_decider row = Authz row.kind row.name
+
+-- the first row of a list that admits the client
+abbrev pub first_admitting : Request → List AuthzRow → Option AuthzRow
+first_admitting request rows = find (row_admits request.client request.tls) rows
+
+-- of two rows the first by kind and name, and of equal ones the first
+abbrev pub lesser : Option AuthzRow → Option AuthzRow → Option AuthzRow
+lesser None other = other
+lesser (Some row) None = Some row
+lesser (Some row) (Some other) = Some (if is_gt (row_cmp (row.kind, row.name) (other.kind, other.name)) then other else row)
+
+abbrev pub by_row : Config → Request → Policy → Option AuthzRow → Verdict
+by_row config request policy None = by_policy config request policy
+by_row config request policy (Some row) = Allowed (row_decider row)
+
+-- by the rows of the Server alone
+abbrev pub by_server : Config → Request → ServerRow → Verdict
+by_server config request server = by_row config request server.policy (first_admitting request server.authz)
+
+-- by those of the route, too
+abbrev pub by_route : Config → Request → ServerRow → Option RouteRow → Verdict
+by_route config request server None = NotFound
+by_route config request server (Some route) =
+    by_row config request server.policy (lesser (first_admitting request server.authz) (first_admitting request route.authz))
+
+abbrev pub route_found : List RouteRow → Option Candidate → Option RouteRow
+route_found routes None = None
+route_found routes (Some found) = slice_get routes found.route
+
+abbrev pub has_rows : List RouteRow → Bool
+has_rows [] = false
+has_rows (row ∷ rows) = true
+
+abbrev pub by_http : Config → Pat → Request → ServerRow → Option HttpRequest → Verdict
+by_http config pat request server None = by_server config request server
+by_http config pat request server (Some http) =
+    if has_rows server.routes && asks_routes server.protocol
+    then by_route config request server (route_found server.routes (best pat http (map row_shape server.routes)))
+    else by_server config request server
+
+abbrev pub decision : Config → Pat → Request → ServerView → Verdict
+decision config pat request Absent = NoWorkload
+decision config pat request (Present server) = by_http config pat request server request.http

@@ -1,0 +1,5 @@
+pub mod Asks
+pub mod FirstBest
+pub mod Parts
+pub mod Queries
+pub mod Steps

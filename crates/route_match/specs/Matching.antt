@@ -1,0 +1,202 @@
+-- Which matches of routes hold for a request, and the best of them (HTTPRoute of both groups). The relation between patterns and
+-- strings is a parameter.
+use Rattle.std.specs.Prelude.{◌≡◌, ◌&&◌, ◌==◌, ◌++◌, ◌+◌, ◌-◌, ℕ, Bool, true, false, if◌then◌else◌, List, [], ◌∷◌, Option, Some, None, All, Contains, IfSome, MatchOption, codes, drop, filter, find, flat_map, length, map, nat_eq, option_map, take}
+use Rattle.std.specs.Cmp.Lexicographic.{slice_cmp}
+use Rattle.std.specs.List.{ends_with, fold, list_all, list_any, slice_get, starts_with}
+use Rattle.std.specs.Ordering.{is_gt, nat_cmp}
+use Rattle.std.specs.Str.{bytes_eq, str_eq_ignore_ascii_case}
+use Rattle.mesh_base.specs.Pieces.{pieces}
+use Rattle.view_types.specs.declared.request.HttpRequest.{HttpRequest}
+use Rattle.view_types.specs.declared.route.HttpMatch.{HttpMatch}
+use Rattle.view_types.specs.declared.route.NameMatch.{NameMatch}
+use Rattle.view_types.specs.declared.route.PathMatch.{PathMatch}
+use Rattle.view_types.specs.declared.route.PathMatch.TheVariants.{Exact, Prefix, Regex}
+use Rattle.view_types.specs.declared.server_view.RouteRow.{RouteRow}
+use Rattle.route_match.specs.declared.best.Candidate.{Candidate}
+
+-- the pattern matches the whole string
+abbrev pub Pat : Type 0
+Pat = List ℕ → List ℕ → Bool
+
+-- ---- hostnames
+
+-- the host ends so, in whatever case, after at least one byte
+abbrev pub ends_in : List ℕ → List ℕ → Bool
+ends_in host suffix = (length suffix + 1 - length host == 0) && str_eq_ignore_ascii_case (drop (length host - length suffix) host) suffix
+
+-- the wildcard `*.s` holds what ends in `.s` after at least one byte; else the names are equal but for case
+abbrev pub host_holds : List ℕ → List ℕ → Bool
+host_holds host written = if starts_with nat_eq written (codes "*.") then ends_in host (drop 1 written) else str_eq_ignore_ascii_case host written
+
+-- a route without hostnames is for all
+abbrev pub hosts_hold : List ℕ → List (List ℕ) → Bool
+hosts_hold host [] = true
+hosts_hold host (written ∷ more) = list_any (host_holds host) (written ∷ more)
+
+-- ---- paths
+
+-- a prefix without its last `/`
+abbrev pub trimmed : List ℕ → List ℕ
+trimmed string = if ends_with nat_eq string (codes "/") then take (length string - 1) string else string
+
+-- nothing, or what begins with `/`
+abbrev pub goes_on : List ℕ → Bool
+goes_on [] = true
+goes_on (byte ∷ bytes) = byte == 47
+
+abbrev pub has_prefix : List ℕ → List ℕ → Bool
+has_prefix path prefix = starts_with nat_eq path prefix && goes_on (drop (length prefix) path)
+
+abbrev pub path_holds : Pat → List ℕ → PathMatch → Bool
+path_holds pat path (Exact string) = bytes_eq string path
+path_holds pat path (Prefix string) = has_prefix path (trimmed string)
+path_holds pat path (Regex string) = pat string path
+
+-- ---- headers, query parts and methods
+
+abbrev pub value_holds : Pat → NameMatch → List ℕ → Bool
+value_holds pat part value = if part.regex then pat part.value value else bytes_eq part.value value
+
+-- the header is of the name, in whatever case, and has the value
+abbrev pub is_wanted : Pat → NameMatch → List ℕ × List ℕ → Bool
+is_wanted pat part header = str_eq_ignore_ascii_case header.0 part.name && value_holds pat part header.1
+
+abbrev pub header_holds : Pat → List (List ℕ × List ℕ) → NameMatch → Bool
+header_holds pat headers part = list_any (is_wanted pat part) headers
+
+abbrev pub is_method : List ℕ → Option (List ℕ) → Bool
+is_method method None = true
+is_method method (Some wanted) = bytes_eq wanted method
+
+-- a piece of a query: its name, and what stands behind the first `=`
+abbrev pub part_of : List ℕ → List ℕ × List ℕ
+part_of [] = ([], [])
+part_of (byte ∷ bytes) = if byte == 61 then ([], bytes) else (byte ∷ (part_of bytes).0, (part_of bytes).1)
+
+abbrev pub is_filled : List ℕ → Bool
+is_filled [] = false
+is_filled (byte ∷ bytes) = true
+
+-- what is between the `&`; an empty piece is none
+abbrev pub parts_of : List ℕ → List (List ℕ × List ℕ)
+parts_of query = map part_of (filter is_filled (pieces 38 query))
+
+abbrev pub value_in : List ℕ → List (List ℕ × List ℕ) → Option (List ℕ)
+value_in name parts = option_map (λ part. part.1) (find (λ part. bytes_eq part.0 name) parts)
+
+abbrev pub some_value_holds : Pat → NameMatch → Option (List ℕ) → Bool
+some_value_holds pat part None = false
+some_value_holds pat part (Some value) = value_holds pat part value
+
+-- the first part of the name has the value
+abbrev pub query_holds : Pat → List (List ℕ × List ℕ) → NameMatch → Bool
+query_holds pat parts part = some_value_holds pat part (value_in part.name parts)
+
+-- ---- a match
+
+-- the hostnames of its route and all parts of the match hold
+abbrev pub holds : Pat → HttpRequest → List (List ℕ) → HttpMatch → Bool
+holds pat request hosts m =
+    hosts_hold request.host hosts
+    && is_method request.method m.method
+    && path_holds pat request.path m.path
+    && list_all (header_holds pat request.headers) m.headers
+    && list_all (query_holds pat (parts_of request.query)) m.query
+
+-- ---- the best
+
+-- the better path is exact, then a prefix by its length, then a regular expression
+abbrev pub path_merit : PathMatch → ℕ × ℕ
+path_merit (Exact string) = (2, 0)
+path_merit (Prefix string) = (1, length (trimmed string))
+path_merit (Regex string) = (0, 0)
+
+abbrev pub method_merit : Option (List ℕ) → ℕ
+method_merit None = 0
+method_merit (Some method) = 1
+
+-- the greater the better, the first number first
+abbrev pub merit : HttpMatch → List ℕ
+merit m = let path = path_merit m.path in path.0 ∷ path.1 ∷ method_merit m.method ∷ length m.headers ∷ length m.query ∷ []
+
+-- What the choice looks at of a route: its hostnames, and the matches of its rules. A match that holds is told by the places of its
+-- route, of its rule and its own.
+abbrev pub Shape : Type 0
+Shape = List (List ℕ) × List (List HttpMatch)
+
+abbrev pub flat_from : {X Y : Type 0} → (ℕ → X → List Y) → ℕ → List X → List Y
+flat_from f place [] = []
+flat_from f place (x ∷ xs) = f place x ++ flat_from f (place + 1) xs
+
+abbrev pub in_match : Pat → HttpRequest → List (List ℕ) → ℕ → ℕ → ℕ → HttpMatch → List Candidate
+in_match pat request hosts route rule place m =
+    if holds pat request hosts m then record { merit = merit m; route = route; rule = rule; item = place } ∷ [] else []
+
+abbrev pub in_route : Pat → HttpRequest → ℕ → Shape → List Candidate
+in_route pat request route shape = flat_from (λ rule matches. flat_from (in_match pat request shape.0 route rule) 0 matches) 0 shape.1
+
+-- all matches that hold, in the order of their places
+abbrev pub candidates : Pat → HttpRequest → List Shape → List Candidate
+candidates pat request shapes = flat_from (in_route pat request) 0 shapes
+
+-- the better of two, of equal ones the first
+abbrev pub better : Option Candidate → Candidate → Option Candidate
+better None c = Some c
+better (Some b) c = Some (if is_gt (slice_cmp nat_cmp c.merit b.merit) then c else b)
+
+abbrev pub best : Pat → HttpRequest → List Shape → Option Candidate
+best pat request shapes = fold better None (candidates pat request shapes)
+
+-- ---- regular expressions
+
+abbrev pub path_pattern : PathMatch → List (List ℕ)
+path_pattern (Regex string) = string ∷ []
+path_pattern (Exact string) = []
+path_pattern (Prefix string) = []
+
+abbrev pub value_pattern : NameMatch → List (List ℕ)
+value_pattern part = if part.regex then part.value ∷ [] else []
+
+-- the regular expressions of a match
+abbrev pub patterns_of : HttpMatch → List (List ℕ)
+patterns_of m = path_pattern m.path ++ (flat_map value_pattern m.headers ++ flat_map value_pattern m.query)
+
+-- The match has a regular expression; where it is told which are refused, one of those.
+pub record HasPattern (refuses : Option (List ℕ → Bool)) (m : HttpMatch) : Type 0 where
+  pub pattern : List ℕ
+  pub among : Contains (patterns_of m) pattern
+  pub refused : IfSome refuses (λ f. f pattern ≡ true)
+
+-- the match at the place has one
+pub record NamesMatch (refuses : Option (List ℕ → Bool)) (shapes : List Shape) (route rule item : ℕ) : Type 0 where
+  pub shape : Shape
+  pub route_at : slice_get shapes route ≡ Some shape
+  pub matches : List HttpMatch
+  pub rule_at : slice_get shape.1 rule ≡ Some matches
+  pub found : HttpMatch
+  pub item_at : slice_get matches item ≡ Some found
+  pub has_pattern : HasPattern refuses found
+
+-- ---- what is shown of a route
+
+-- what the choice looks at of a row
+abbrev pub row_shape : RouteRow → Shape
+row_shape row = (row.hosts, map (λ rule. rule.matches) row.rules)
+
+-- ---- the best of a list
+
+-- it is better than the other
+abbrev pub is_better : Candidate → Candidate → Bool
+is_better c other = is_gt (slice_cmp nat_cmp c.merit other.merit)
+
+-- It stands in the list, none is better, and each before it is less good.
+pub record IsFirstOfTheBest (candidates : List Candidate) (c : Candidate) : Type 0 where
+  pub place : ℕ
+  pub stands : slice_get candidates place ≡ Some c
+  pub none_better : All (λ other. is_better other c ≡ false) candidates
+  pub better_than_before : All (λ other. is_better c other ≡ true) (take place candidates)
+
+-- the best match is the first of the best of those that hold, and there is none exactly where none holds
+abbrev pub BestIsFirst : Type 0
+BestIsFirst = (pat : Pat) (request : HttpRequest) (shapes : List Shape)
+    → MatchOption (best pat request shapes) (candidates pat request shapes ≡ []) (IsFirstOfTheBest (candidates pat request shapes))

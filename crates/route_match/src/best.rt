@@ -1,0 +1,164 @@
+ghost use Rattle.std.specs.Prelude.{◌≡◌, ◌≤◌, Some, IfErr, IfOk, fold, map, option_to_list};
+ghost use Rattle.std.specs.List.{slice_get};
+ghost use Rattle.mesh_outside.specs.Causes.{Rose};
+ghost use Rattle.route_match.specs.Faults.{AsksIn, HasMatch, HasRule, IsNamed, MetRefused};
+ghost use Rattle.route_match.specs.Matching.{Pat, best, better, flat_from, in_match, in_route, row_shape};
+
+use crate::fault::MatchFault;
+use crate::holds::holds;
+use crate::merit::{is_more, merit};
+use mesh_base::list::List;
+use mesh_base::text::Text;
+use mesh_outside::{PatternFault, Patterns};
+use std::alloc::Global;
+use view_types::request::HttpRequest;
+use view_types::route::HttpMatch;
+use view_types::server_view::{RouteRow, RuleRow};
+
+/// A match that holds for a request: how good it is, and its places, counted from 0.
+#[derive(Clone, Copy, Debug)]
+pub struct Candidate {
+    /// The greater the better, the first number first.
+    pub merit: [usize; 5],
+    pub route: usize,
+    pub rule: usize,
+    pub item: usize,
+}
+
+/// The places of a rule, counted from 0.
+#[derive(Clone, Copy)]
+struct RulePlace {
+    route: usize,
+    rule: usize,
+}
+
+/// The best match of all routes. Matches are tried in the order of their places, and the parts of a match in the order of hostnames,
+/// method, path, headers and query, up to the first that fails.
+pub fn best_match<P: Patterns>(
+    alloc: Global,
+    patterns: &mut P,
+    request: &HttpRequest,
+    routes: &[RouteRow],
+) -> Result<Option<Candidate>, MatchFault>
+    ensures best { (pat : Pat) → P.tells patterns.old ≡ Some pat → IfOk result (λ found. found ≡ best pat request.now (map row_shape routes.now)) }
+    ensures named { IfErr result (λ fault. IsNamed (P.refuses patterns.old) (map row_shape routes.now) fault) }
+    ensures cause { MetRefused result → Rose (P.refusals patterns.old) (P.refusals patterns.new) }
+    ensures later { P.refusals patterns.old ≤ P.refusals patterns.new }
+    ensures tells_same { P.tells patterns.new ≡ P.tells patterns.old }
+    ensures refuses_same { P.refuses patterns.new ≡ P.refuses patterns.old }
+{
+    let mut found = None;
+    for (place, route) in routes.iter().enumerate() {
+        match over_route(alloc, patterns, request, place, found, route) {
+            Ok(kept) => found = kept,
+            Err(fault) => return Err(fault),
+        }
+    }
+    Ok(found)
+}
+
+fn over_route<P: Patterns>(
+    alloc: Global,
+    patterns: &mut P,
+    request: &HttpRequest,
+    place: usize,
+    found: Option<Candidate>,
+    route: &RouteRow,
+) -> Result<Option<Candidate>, MatchFault>
+    ensures best { (pat : Pat) → P.tells patterns.old ≡ Some pat → IfOk result (λ next. next ≡ fold better found (in_route pat request.now place (row_shape route.now))) }
+    ensures asks { AsksIn (P.refuses patterns.old) (P.refusals patterns.old) (P.refusals patterns.new) (λ shapes. slice_get shapes place ≡ Some (row_shape route.now)) result }
+    ensures tells_same { P.tells patterns.new ≡ P.tells patterns.old }
+    ensures refuses_same { P.refuses patterns.new ≡ P.refuses patterns.old }
+{
+    let mut next = found;
+    for (rule_place, rule) in route.rules.as_slice().iter().enumerate() {
+        let at = RulePlace {
+            route: place,
+            rule: rule_place,
+        };
+        match over_rule(alloc, patterns, request, &route.hosts, at, next, rule) {
+            Ok(kept) => next = kept,
+            Err(fault) => return Err(fault),
+        }
+    }
+    Ok(next)
+}
+
+fn over_rule<P: Patterns>(
+    alloc: Global,
+    patterns: &mut P,
+    request: &HttpRequest,
+    hosts: &List<Text>,
+    at: RulePlace,
+    found: Option<Candidate>,
+    rule: &RuleRow,
+) -> Result<Option<Candidate>, MatchFault>
+    ensures best { (pat : Pat) → P.tells patterns.old ≡ Some pat → IfOk result (λ next. next ≡ fold better found (flat_from (in_match pat request.now hosts.now at.route at.rule) 0 rule.now.matches)) }
+    ensures asks { AsksIn (P.refuses patterns.old) (P.refusals patterns.old) (P.refusals patterns.new) (HasRule at.route at.rule rule.now.matches) result }
+    ensures tells_same { P.tells patterns.new ≡ P.tells patterns.old }
+    ensures refuses_same { P.refuses patterns.new ≡ P.refuses patterns.old }
+{
+    let mut next = found;
+    for (place, item) in rule.matches.as_slice().iter().enumerate() {
+        match candidate_at(alloc, patterns, request, hosts, at, place, item) {
+            Ok(other) => next = better_of(next, other),
+            Err(fault) => return Err(fault),
+        }
+    }
+    Ok(next)
+}
+
+/// The match, where it holds.
+fn candidate_at<P: Patterns>(
+    alloc: Global,
+    patterns: &mut P,
+    request: &HttpRequest,
+    hosts: &List<Text>,
+    at: RulePlace,
+    place: usize,
+    item: &HttpMatch,
+) -> Result<Option<Candidate>, MatchFault>
+    ensures best { (pat : Pat) → P.tells patterns.old ≡ Some pat → IfOk result (λ found. option_to_list found ≡ in_match pat request.now hosts.now at.route at.rule place item.now) }
+    ensures asks { AsksIn (P.refuses patterns.old) (P.refusals patterns.old) (P.refusals patterns.new) (HasMatch at.route at.rule place item.now) result }
+    ensures tells_same { P.tells patterns.new ≡ P.tells patterns.old }
+    ensures refuses_same { P.refuses patterns.new ≡ P.refuses patterns.old }
+{
+    match holds(alloc, patterns, request, hosts, item) {
+        Ok(true) => Ok(Some(Candidate {
+            merit: merit(item),
+            route: at.route,
+            rule: at.rule,
+            item: place,
+        })),
+        Ok(false) => Ok(None),
+        Err(PatternFault::Refused) => Err(MatchFault::Refused {
+            route: at.route,
+            rule: at.rule,
+            item: place,
+        }),
+        Err(PatternFault::Memory) => Err(MatchFault::Memory),
+    }
+}
+
+fn better_of(best: Option<Candidate>, other: Option<Candidate>) -> Option<Candidate>
+    ensures { result ≡ fold better best (option_to_list other) }
+{
+    match other {
+        Some(other) => better(best, other),
+        None => best,
+    }
+}
+
+/// The better of the two, of equal ones the first.
+fn better(best: Option<Candidate>, other: Candidate) -> Option<Candidate>
+    ensures { result ≡ better best other }
+{
+    match best {
+        Some(best) => Some(if is_more(&other.merit, &best.merit) {
+            other
+        } else {
+            best
+        }),
+        None => Some(other),
+    }
+}

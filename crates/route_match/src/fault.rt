@@ -1,0 +1,11 @@
+/// Why there is no best match.
+#[derive(Clone, Copy, Debug, PartialEq, Eq)]
+pub enum MatchFault {
+    Memory,
+    /// A regular expression of the match at these places, counted from 0, was refused.
+    Refused {
+        route: usize,
+        rule: usize,
+        item: usize,
+    },
+}

@@ -1,0 +1,78 @@
+ghost use Rattle.std.specs.Prelude.{◌≡◌, Some, IfOk, flat_map};
+ghost use Rattle.std.specs.List.{list_all};
+ghost use Rattle.std.specs.Str.{str_eq_ignore_ascii_case};
+ghost use Rattle.route_match.specs.Asking.{AsksAmong};
+ghost use Rattle.route_match.specs.Matching.{Pat, header_holds, is_wanted, value_pattern};
+
+use crate::value::value_holds;
+use mesh_base::text::Text;
+use mesh_outside::{PatternFault, Patterns};
+use std::alloc::Global;
+use view_types::route::NameMatch;
+
+/// Whether each of the wanted headers is there.
+pub(crate) fn headers_hold<P: Patterns>(
+    alloc: Global,
+    patterns: &mut P,
+    headers: &[(Text, Text)],
+    wanted: &[NameMatch],
+) -> Result<bool, PatternFault>
+    ensures told { (pat : Pat) → P.tells patterns.old ≡ Some pat → IfOk result (λ all. all ≡ list_all (header_holds pat headers.now) wanted.now) }
+    ensures asks { AsksAmong (P.refuses patterns.old) (P.refusals patterns.old) (P.refusals patterns.new) (flat_map value_pattern wanted.now) result }
+    ensures tells_same { P.tells patterns.new ≡ P.tells patterns.old }
+    ensures refuses_same { P.refuses patterns.new ≡ P.refuses patterns.old }
+{
+    for part in wanted {
+        match header_holds(alloc, patterns, headers, part) {
+            Ok(true) => {}
+            Ok(false) => return Ok(false),
+            Err(fault) => return Err(fault),
+        }
+    }
+    Ok(true)
+}
+
+fn header_holds<P: Patterns>(
+    alloc: Global,
+    patterns: &mut P,
+    headers: &[(Text, Text)],
+    part: &NameMatch,
+) -> Result<bool, PatternFault>
+    ensures told { (pat : Pat) → P.tells patterns.old ≡ Some pat → IfOk result (λ some. some ≡ header_holds pat headers.now part.now) }
+    ensures asks { AsksAmong (P.refuses patterns.old) (P.refusals patterns.old) (P.refusals patterns.new) (value_pattern part.now) result }
+    ensures tells_same { P.tells patterns.new ≡ P.tells patterns.old }
+    ensures refuses_same { P.refuses patterns.new ≡ P.refuses patterns.old }
+{
+    for header in headers {
+        match is_wanted(alloc, patterns, header, part) {
+            Ok(true) => return Ok(true),
+            Ok(false) => {}
+            Err(fault) => return Err(fault),
+        }
+    }
+    Ok(false)
+}
+
+fn is_wanted<P: Patterns>(
+    alloc: Global,
+    patterns: &mut P,
+    header: &(Text, Text),
+    part: &NameMatch,
+) -> Result<bool, PatternFault>
+    ensures told { (pat : Pat) → P.tells patterns.old ≡ Some pat → IfOk result (λ wanted. wanted ≡ is_wanted pat part.now header.now) }
+    ensures asks { AsksAmong (P.refuses patterns.old) (P.refusals patterns.old) (P.refusals patterns.new) (value_pattern part.now) result }
+    ensures tells_same { P.tells patterns.new ≡ P.tells patterns.old }
+    ensures refuses_same { P.refuses patterns.new ≡ P.refuses patterns.old }
+{
+    if is_same_name(&header.0, &part.name) {
+        value_holds(alloc, patterns, part, header.1.as_str())
+    } else {
+        Ok(false)
+    }
+}
+
+fn is_same_name(name: &Text, other: &Text) -> bool
+    ensures { result ≡ str_eq_ignore_ascii_case name.now other.now }
+{
+    name.as_str().eq_ignore_ascii_case(other.as_str())
+}

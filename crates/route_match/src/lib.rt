@@ -1,0 +1,16 @@
+//! Which match of the routes of a Server is the best for a request.
+//!
+//! Stands on view_types for routes and requests and on mesh_outside for patterns. `best_match` answers `best` of `specs/Matching`, or
+//! names a match whose regular expression is refused (`specs/Faults`).
+#![tactic(auto)]
+
+pub mod best;
+pub mod fault;
+mod header;
+mod holds;
+mod host;
+pub mod laws;
+mod merit;
+mod path;
+mod query;
+mod value;
