@@ -11,4 +11,4 @@ mod folding;
 mod frame;
 mod line;
 mod number;
-mod view_text;
+pub mod view_text;

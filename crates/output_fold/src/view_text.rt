@@ -36,7 +36,7 @@ fn push_messages(
 }
 
 /// Writes the messages that bring a subscriber who has no view to this one.
-pub(crate) fn push_view(
+pub fn push_view(
     alloc: Global,
     id: SubId,
     limits: &Limits,

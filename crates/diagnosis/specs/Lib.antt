@@ -1,0 +1,3 @@
+pub mod Diagnosed
+pub mod Headline
+pub mod Stand
