@@ -27,7 +27,7 @@ passed_over (lines.Cancel id) = lines.Blank
 passed_over (lines.Drain id) = lines.Blank
 passed_over (lines.Simulate request) = lines.Blank
 
--- They have to read all the same.
+-- They must read all the same.
 abbrev pub if_read : Result Line LineFault → Result Line LineFault
 if_read (Ok line) = Ok (passed_over line)
 if_read (Err fault) = Err fault
