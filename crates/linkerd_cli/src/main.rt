@@ -1,8 +1,8 @@
 //! The program: the destination and policy controllers of a Linkerd 2 control plane, over a recorded feed.
 //!
-//! Stands on replay_core for what the commands do and on mesh_outside for standard input and output. `main` hands
-//! the words of the command line to `top`, whose contract cites `specs/Command` and replay_core's `specs/Headline`;
-//! what standard error is told is `report`.
+//! Stands on replay_core and output_fold for what the commands do, on mesh_outside for standard input and output, and on
+//! regex_patterns for the regular expressions of routes. `main` hands the words of the command line to `top`, whose contract
+//! cites `specs/Command` and the `specs/Headline` of replay_core and output_fold; what standard error is told is `report`.
 #![tactic(auto)]
 
 mod command;
