@@ -1,12 +1,14 @@
 -- Strings are UTF-8, and names aren't empty.
-use Rattle.std.proofs.Common.{◌≡◌, ◌≢◌, ℕ, Bool, true, false, List, [], ◌∷◌, codes, Option, Some, None, Ok, Err, if◌then◌else◌, refl, ap, subst, option_and_then}
+use Rattle.std.proofs.Common.{◌≡◌, ◌≢◌, ◌==◌, ℕ, Bool, true, false, not, List, [], ◌∷◌, codes, length, Option, Some, None, Ok, Err, if◌then◌else◌, refl, ap, subst, option_and_then}
+use Rattle.std.specs.Prelude.{◌||◌, nat_lt}
+use Rattle.std.specs.List.{list_any}
 use lib.Utf8.{encode}
 use Rattle.std.specs.Str.{IsUtf8, chars, is_utf8}
 use Rattle.std.proofs.lemmas.Str.{IsUtf8-from_is_utf8}
 use Rattle.serde_json.specs.Data.{Data}
 use Rattle.serde_json.specs.Find.{as_str}
 use Rattle.k8s_meta.specs.Given.{GivesOnly}
-use Rattle.k8s_meta.specs.Lawful.{IsString}
+use Rattle.k8s_meta.specs.Lawful.{HasOnly, IsString}
 use Rattle.k8s_meta.specs.Scalars.{is_label_byte, is_made_of, is_name_byte, label_within, name_within, named, namespace}
 use Rattle.k8s_meta.specs.Spots.{Reading}
 use Rattle.k8s_meta.specs.Words.{default, filled, if_utf8, optional, string_in, text, typed}
@@ -71,7 +73,33 @@ some_bytes : (byte : ℕ → Bool) (most : ℕ) (t : List ℕ) → is_made_of by
 some_bytes byte most [] e = absurd cc
 some_bytes byte most (c ∷ cs) e = λ h. cc
 
+-- no byte fails
+none_fails : (passes : ℕ → Bool) (t : List ℕ) → not (list_any (λ (b : ℕ). not (passes b)) t) ≡ true → HasOnly passes t
+none_fails passes [] e = tt
+none_fails passes (c ∷ cs) e = by_first (passes c) refl e (none_fails passes cs)
+  where
+    by_first : (first : Bool) → passes c ≡ first → not (not first || list_any (λ (b : ℕ). not (passes b)) cs) ≡ true
+        → (not (list_any (λ (b : ℕ). not (passes b)) cs) ≡ true → HasOnly passes cs) → HasOnly passes (c ∷ cs)
+    by_first true is rest go_on = (is, go_on rest)
+    by_first false is rest go_on = absurd cc
+
+only_such : (passes : ℕ → Bool) (most : ℕ) (t : List ℕ) → is_made_of passes most t ≡ true → HasOnly passes t
+only_such passes most t = by_length (length t == 0) (nat_lt most (length t))
+  where
+    by_length : (empty long : Bool) → (if empty then false else (if long then false else not (list_any (λ (b : ℕ). not (passes b)) t))) ≡ true → HasOnly passes t
+    by_length true long e = absurd cc
+    by_length false true e = absurd cc
+    by_length false false e = none_fails passes t e
+
 module _ (most : ℕ) where
+  pub name_bytes : GivesOnly (HasOnly is_name_byte) (name_within most)
+  unfolding name_within
+  name_bytes s = after (HasOnly is_name_byte) _ _ (λ t _ u e. only_such is_name_byte most u (named_is (is_made_of is_name_byte most) s.at t u e).1)
+
+  label_bytes : GivesOnly (HasOnly is_label_byte) (label_within most)
+  unfolding label_within
+  label_bytes s = after (HasOnly is_label_byte) _ _ (λ t _ u e. only_such is_label_byte most u (named_is (is_made_of is_label_byte most) s.at t u e).1)
+
   pub name_gives : GivesOnly (λ (t : List ℕ). t ≢ []) (name_within most)
   unfolding name_within
   name_gives s = after (λ (t : List ℕ). t ≢ []) _ _ (λ t _ u e. some_bytes is_name_byte most u (named_is (is_made_of is_name_byte most) s.at t u e).1)
@@ -86,6 +114,13 @@ module _ (most : ℕ) where
 
 pub namespace_or_gives : (own : List ℕ) → IsUtf8 own → GivesOnly IsUtf8 (default own namespace)
 namespace_or_gives own is = default_gives IsUtf8 own namespace is (label_utf8 63)
+
+pub default_bytes : HasOnly is_label_byte (codes "default")
+unfolding is_label_byte
+default_bytes = (refl, (refl, (refl, (refl, (refl, (refl, (refl, tt)))))))
+
+pub namespace_bytes_or : (own : List ℕ) → HasOnly is_label_byte own → GivesOnly (HasOnly is_label_byte) (default own namespace)
+namespace_bytes_or own is = default_gives (HasOnly is_label_byte) own namespace is (label_bytes 63)
 
 pub some_namespace_gives : GivesOnly IsString (optional namespace)
 some_namespace_gives = optional_gives IsString namespace tt (label_utf8 63)

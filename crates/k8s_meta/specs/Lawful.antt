@@ -1,5 +1,7 @@
 -- What holds of metadata, strings, ports and times that were read, and later calls require.
-use Rattle.std.specs.Prelude.{ℕ, ◌≢◌, ◌<◌, ◌^◌, List, [], Option, Some, None, IsUtf8}
+use Rattle.std.specs.Prelude.{ℕ, ◌≡◌, ◌≢◌, ◌<◌, ◌^◌, Bool, true, List, [], Option, Some, None, IsUtf8}
+use Rattle.std.specs.List.{AllByRecursion}
+use Rattle.k8s_meta.specs.Scalars.{is_label_byte, is_name_byte}
 use Rattle.k8s_meta.specs.declared.meta.Meta.{Meta}
 
 -- no string, or one in UTF-8
@@ -14,11 +16,17 @@ abbrev pub IsSomePort : Option ℕ → Type 0
 IsSomePort None = Unit {0}
 IsSomePort (Some port) = IsPort port
 
--- There is a name, and a creation time isn't the empty string.
+-- Each byte of the string passes.
+abbrev pub HasOnly : (ℕ → Bool) → List ℕ → Type 0
+HasOnly passes text = AllByRecursion (λ (byte : ℕ). passes byte ≡ true) text
+
+-- There is a name, it and the namespace have the bytes of names alone, and a creation time isn't the empty string.
 pub record IsLawfulMeta (meta : Meta) : Type 0 where
   pub name : meta.name ≢ []
   pub name_text : IsUtf8 meta.name
+  pub name_bytes : HasOnly is_name_byte meta.name
   pub ns_text : IsUtf8 meta.ns
+  pub ns_bytes : HasOnly is_label_byte meta.ns
   pub created : meta.created ≢ Some []
   pub created_text : IsString meta.created
 

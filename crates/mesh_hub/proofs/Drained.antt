@@ -1,5 +1,5 @@
 -- What a drain comes to at the place where its subscription stands, and a call on an id that isn't live.
-use Rattle.std.proofs.Common.{◌≡◌, ℕ, suc, false, List, [], ◌∷◌, ◌++◌, get_or, take, drop, Option, Some, None, Ok, Err, sym, ap, ◌∙◌}
+use Rattle.std.proofs.Common.{◌≡◌, ℕ, suc, false, List, [], ◌∷◌, ◌++◌, get_or, take, drop, Some, None, Ok, Err, sym, ap, ◌∙◌}
 use Rattle.std.proofs.lemmas.List.{set_split}
 use Rattle.view_types.specs.declared.view.View.{View}
 use Rattle.view_rules.specs.Views.{view_of}

@@ -1,5 +1,5 @@
 -- What the steps of a drain come to: where the subscription stands, what it is due, and what becomes of it.
-use Rattle.std.specs.Prelude.{◌≡◌, ℕ, Bool, true, false, List, Option, Some, None, Result, Ok, Err, nat_lt, length, remove, slice_index_or, slice_set}
+use Rattle.std.specs.Prelude.{◌≡◌, ℕ, Bool, true, false, List, Some, None, Result, Ok, Err, nat_lt, length, remove, slice_index_or, slice_set}
 use Rattle.view_types.specs.declared.message.Message.{Message}
 use Rattle.view_types.specs.declared.view.View.{View}
 use Rattle.view_rules.specs.Fold.{IsOrderlyIfShown}

@@ -1,5 +1,5 @@
 -- What is written of an input: why its first bad row doesn't read, or the view that the frames of the id show.
-use Rattle.std.specs.Prelude.{ℕ, Bool, true, List, [], ◌∷◌, Option, Some, None, Result, Ok, Err}
+use Rattle.std.specs.Prelude.{ℕ, Bool, true, List, [], ◌∷◌, Option, Some, None, Ok, Err}
 use Rattle.std.specs.List.{enumerate_from, filter_map, list_any}
 use Rattle.mesh_base.specs.declared.limits.Limits.{Limits}
 use Rattle.line_run.specs.Rows.{Row, rows_of}

@@ -37,12 +37,12 @@ pub record NamesRow (ns : List ℕ) (refuses : Option (List ℕ → Bool)) (rout
   pub text_is : text ≡ route_text ns row.name
   pub named : NamesMatch refuses (map row_shape routes) place rule item
 
--- the fault names a match of these rows, or is want of memory
+-- the fault names a match of these rows, or is that memory ran out
 abbrev pub IsOfRows : List ℕ → Option (List ℕ → Bool) → List RouteRow → SimFault → Type 0
 IsOfRows ns refuses routes (Pattern route rule item) = NamesRow ns refuses routes route rule item
 IsOfRows ns refuses routes Memory = Unit {0}
 
--- the fault names this place of the route with the text, or is want of memory
+-- the fault names this place of the route with the text, or is that memory ran out
 abbrev pub Names : List ℕ → ℕ → ℕ → SimFault → Type 0
 Names text rule item (Pattern found at_rule at_item) = (found ≡ text) × (at_rule ≡ rule) × (at_item ≡ item)
 Names text rule item Memory = Unit {0}

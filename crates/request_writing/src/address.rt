@@ -3,11 +3,11 @@ ghost use Rattle.std.specs.Prelude.{◌≡◌, ◌++◌, OnOk};
 ghost use Rattle.proto_wire.specs.Wire.{spelling};
 ghost use Rattle.proxy_proto.specs.Endpoints.{address_records, ip_records};
 
-use crate::fields::{put_fixed64_field, put_number_field};
 use mesh_base::list::List;
 use mesh_base::memory::Memory;
 use net_cidr::ip::Ip;
 use proto_wire::writing::{put_chunk, put_fixed32};
+use proxy_proto::fields::{put_fixed64_field, put_number_field};
 use std::alloc::Global;
 
 /// What the high half of an IPv6 address counts.

@@ -7,6 +7,5 @@
 
 mod address;
 pub mod ask;
-mod fields;
 pub mod laws;
 pub mod writing;

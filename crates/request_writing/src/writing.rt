@@ -5,11 +5,11 @@ ghost use Rattle.request_writing.specs.Asks.{ask_records, canonical_ask, destina
 
 use crate::address::put_address;
 use crate::ask::{Ask, GetDestination, PortSpec, TrafficSpec};
-use crate::fields::{put_number_field, put_text_field};
 use bytes::Bytes;
 use mesh_base::list::List;
 use mesh_base::memory::Memory;
 use proto_wire::writing::put_chunk;
+use proxy_proto::fields::{put_number_field, put_text_field};
 use std::alloc::Global;
 
 #[tactic(auto, using(proto_wire::proofs::Spellings::spellings), unfolding(crate::specs::Asks::destination_records))]

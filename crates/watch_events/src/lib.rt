@@ -2,7 +2,7 @@
 //!
 //! Stands on k8s_core, profile_objects, policy_objects and route_objects for objects, on mesh_text for JSON and the short
 //! texts, on k8s_meta for members and on view_types for what a line may say. `read_row` gives `row_says` of `specs/Lines`
-//! for the rows that line_run cuts, `read_line` the same for a line of any length, and what they give is lawful
+//! for the rows that line_run cuts (a simulated request is told by `specs/Simulations`), `read_line` the same for a line of any length, and what they give is lawful
 //! (`specs/Lawful`).
 #![tactic(auto)]
 

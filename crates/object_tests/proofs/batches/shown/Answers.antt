@@ -1,9 +1,8 @@
-use Rattle.std.proofs.Common.{◌≡◌, [], ◌∷◌, Some, IfOk, sym, ap, subst, ◌∙◌}
+use Rattle.std.proofs.Common.{◌≡◌, [], ◌∷◌, Some, sym, ap, subst, ◌∙◌}
 use Rattle.std.specs.Option.{option_copied}
 use Rattle.std.proofs.lemmas.Result.{IfOk-weaker}
 use Rattle.view_fold.proofs.Orderly.{folds_are_orderly}
 use Rattle.view_rules.specs.Fold.{IsOrderly, shown_after}
-use Rattle.view_types.specs.declared.view.View.TheVariants.{Endpoints}
 use Rattle.object_tests.proofs.batches.shown.Goals as goal
 
 -- what is seen by folding is in order
