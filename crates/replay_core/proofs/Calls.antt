@@ -1,6 +1,6 @@
 -- What an answer of a call of the machine comes to.
-use Rattle.std.proofs.Common.{◌≡◌, ℕ, List, [], ◌∷◌, ◌++◌, Option, Some, None, refl, sym, ap, ◌∙◌, append-nil}
-use Rattle.std.specs.Prelude.{Result, Ok, Err, flat_map, option_map}
+use Rattle.std.proofs.Common.{◌≡◌, ◌<◌, ℕ, ◌^◌, List, [], ◌∷◌, ◌++◌, Option, Some, None, refl, sym, ap, ◌∙◌, subst, append-nil}
+use Rattle.std.specs.Prelude.{IfSome, Result, Ok, Err, flat_map, option_map}
 use Rattle.mesh_base.specs.declared.sub_id.SubId.{SubId}
 use Rattle.view_types.specs.declared.message.Message.{Message}
 use Rattle.mesh_hub.specs.Drains.{frames_of, frames_unless, too_long}
@@ -18,7 +18,7 @@ use Rattle.mesh_hub.specs.declared.refusal.NoSuchId.{NoSuchId as NotLive}
 use Rattle.mesh_hub.specs.declared.refusal.Refusal.{Refusal}
 use Rattle.mesh_hub.specs.declared.refusal.Refusal.TheVariants as refusals
 use Rattle.replay_core.specs.Said.{reply_text}
-use Rattle.replay_core.specs.Take.{Drains, IsRefusalBy, IsUndrained, Makes, Replied, Unreplied, drain_refusal, drained_as, drained_lines, drained_unless}
+use Rattle.replay_core.specs.Take.{Drains, IsRefusalBy, IsUndrained, LengthFits, Makes, Replied, Unreplied, drain_refusal, drained_as, drained_lines, drained_unless}
 use Rattle.replay_core.specs.declared.drain.Drained.{Drained}
 use Rattle.replay_core.specs.declared.drain.Drained.TheVariants.{Sent, Ended, Undrained}
 
@@ -88,30 +88,34 @@ unreplied_err e refusal old new same = absurd (let apart = same.1 in cc)
 
 -- ---- a drain
 
+-- a length, if there is one, is below 2 ^ 64
+abbrev BytesFit : Option ℕ → Type 0
+BytesFit bytes = IfSome bytes (λ n. n < 2 ^ 64)
+
 module _ (now : HubState) (id : ℕ) where
   sent_as : (frames : List (List ℕ)) (found : Option Subscription) → Ok frames ≡ frames_for now id found
-      → (Sent ≡ drained_as now id found) × (flat_map (frame_line id) frames ≡ drained_lines now id found)
+      → (Sent ≡ drained_as now id found) × (flat_map (frame_line id) frames ≡ drained_lines now id found) × LengthFits now found
   sent_as frames None is = absurd cc
   sent_as frames (Some sub) is = by_length (messages_for now sub) (too_long now.limits.message (messages_for now sub)) is
     where
       by_length : (messages : List Message) (bytes : Option ℕ) → Ok frames ≡ frames_unless bytes messages
-          → (Sent ≡ drained_unless bytes) × (flat_map (frame_line id) frames ≡ lines_unless id messages bytes)
-      by_length messages None is = let same : frames ≡ frames_of messages = cc in (refl, ap (flat_map (frame_line id)) same)
+          → (Sent ≡ drained_unless bytes) × (flat_map (frame_line id) frames ≡ lines_unless id messages bytes) × BytesFit bytes
+      by_length messages None is = let same : frames ≡ frames_of messages = cc in (refl, ap (flat_map (frame_line id)) same, tt)
       by_length messages (Some n) is = absurd cc
 
-  ended_as : (bytes : ℕ) (found : Option Subscription) → Err (Oversize bytes) ≡ frames_for now id found
-      → (Ended ≡ drained_as now id found) × (oversize_line id bytes ≡ drained_lines now id found)
-  ended_as bytes None is = absurd cc
-  ended_as bytes (Some sub) is = by_length (messages_for now sub) (too_long now.limits.message (messages_for now sub)) is
+  ended_as : (bytes : ℕ) (found : Option Subscription) → bytes < 2 ^ 64 → Err (Oversize bytes) ≡ frames_for now id found
+      → (Ended ≡ drained_as now id found) × (oversize_line id bytes ≡ drained_lines now id found) × LengthFits now found
+  ended_as bytes None fits is = absurd cc
+  ended_as bytes (Some sub) fits is = by_length (messages_for now sub) (too_long now.limits.message (messages_for now sub)) is
     where
       by_length : (messages : List Message) (longer : Option ℕ) → Err (Oversize bytes) ≡ frames_unless longer messages
-          → (Ended ≡ drained_unless longer) × (oversize_line id bytes ≡ lines_unless id messages longer)
+          → (Ended ≡ drained_unless longer) × (oversize_line id bytes ≡ lines_unless id messages longer) × BytesFit longer
       by_length messages None is = absurd cc
-      by_length messages (Some n) is = let same : bytes ≡ n = cc in (refl, ap (oversize_line id) same)
+      by_length messages (Some n) is = let same : bytes ≡ n = cc in (refl, ap (oversize_line id) same, subst (λ (k : ℕ). k < 2 ^ 64) same fits)
 
   undrained_as : (cause : HubFault) (found : Option Subscription) → ((bytes : ℕ) → cause ≡ Oversize bytes → ⊥) → Err cause ≡ frames_for now id found
-      → (Undrained cause ≡ drained_as now id found) × ([] ≡ drained_lines now id found)
-  undrained_as cause None other is = let same : cause ≡ NoSuchId id = cc in (ap Undrained same, refl)
+      → (Undrained cause ≡ drained_as now id found) × ([] ≡ drained_lines now id found) × LengthFits now found
+  undrained_as cause None other is = let same : cause ≡ NoSuchId id = cc in (ap Undrained same, refl, tt)
   undrained_as cause (Some sub) other is = absurd (by_length (messages_for now sub) (too_long now.limits.message (messages_for now sub)) is)
     where
       by_length : (messages : List Message) (longer : Option ℕ) → Err cause ≡ frames_unless longer messages → ⊥
@@ -122,19 +126,19 @@ module _ (id : SubId) (out out_new : List ℕ) (old new : HubState) where
   pub drains_ok : (frames : List (List ℕ)) → Answers old (frames_at old id.0) (drained old id.0) (Ok frames) new → out_new ≡ out ++ flat_map (frame_line id.0) frames → Drains id Sent out out_new old new
   drains_ok frames goes writes =
       let sent = sent_as old id.0 frames (sub_at id.0 old.subs) goes.answer in
-      record { outcome_is = sent.0; state = goes.state; text = writes ∙ ap (λ (xs : List ℕ). out ++ xs) sent.1 }
+      record { outcome_is = sent.0; fits = sent.2; state = goes.state; text = writes ∙ ap (λ (xs : List ℕ). out ++ xs) sent.1 }
 
   undrained_so : (cause : HubFault) (outcome : Drained) → ((bytes : ℕ) → cause ≡ Oversize bytes → ⊥) → Err cause ≡ frames_at old id.0 → new ≡ drained old id.0
       → (outcome ≡ Undrained cause) × (out_new ≡ out) → Drains id outcome out out_new old new
   undrained_so cause outcome other answer state is =
       let left = undrained_as old id.0 cause (sub_at id.0 old.subs) other answer in
-      record { outcome_is = is.0 ∙ left.0; state = state; text = is.1 ∙ sym (append-nil out) ∙ ap (λ (xs : List ℕ). out ++ xs) left.1 }
+      record { outcome_is = is.0 ∙ left.0; fits = left.2; state = state; text = is.1 ∙ sym (append-nil out) ∙ ap (λ (xs : List ℕ). out ++ xs) left.1 }
 
   pub drains_err : (cause : HubFault) (outcome : Drained) → Answers old (frames_at old id.0) (drained old id.0) (Err cause) new → IsUndrained id.0 cause out out_new outcome → Drains id outcome out out_new old new
   drains_err Memory outcome answers is = absurd is
   drains_err (Oversize bytes) outcome answers is =
-      let ended = ended_as old id.0 bytes (sub_at id.0 old.subs) answers.answer in
-      record { outcome_is = is.0 ∙ ended.0; state = answers.state; text = is.1 ∙ ap (λ (xs : List ℕ). out ++ xs) ended.1 }
+      let ended = ended_as old id.0 bytes (sub_at id.0 old.subs) is.2 answers.answer in
+      record { outcome_is = is.0 ∙ ended.0; fits = ended.2; state = answers.state; text = is.1 ∙ ap (λ (xs : List ℕ). out ++ xs) ended.1 }
   drains_err (Full held) outcome answers is = undrained_so (Full held) outcome (λ bytes same. absurd cc) answers.answer answers.state is
   drains_err (TooManySubs live) outcome answers is = undrained_so (TooManySubs live) outcome (λ bytes same. absurd cc) answers.answer answers.state is
   drains_err (IdOrder last) outcome answers is = undrained_so (IdOrder last) outcome (λ bytes same. absurd cc) answers.answer answers.state is

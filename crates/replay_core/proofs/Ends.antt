@@ -24,11 +24,13 @@ use Rattle.mesh_hub.specs.Program.{Program, replay_of}
 use Rattle.mesh_hub.specs.Seen.{seen, seen_sub}
 use Rattle.mesh_hub.specs.declared.machine.Reply.{Reply}
 use Rattle.mesh_hub.specs.declared.refusal.Refusal.{Refusal}
+use Rattle.mesh_hub.proofs.Lists.{all_joined}
 use Rattle.mesh_hub.proofs.Optional.{Becomes-then}
 use Rattle.mesh_hub.proofs.SeenBy.{drained_seen, found_behind, found_here, placed_behind, placed_here, sub_seen}
+use Rattle.replay_core.specs.Lengths.{HasLength}
 use Rattle.replay_core.specs.Said.{Saying, refused_said, reply_text, said_from, saying_left, text_said}
 use Rattle.replay_core.specs.Stand.{Ended, EndedByState, Ending, EndingByReplies, EndingByState, FromNew, PatternsNow, after_some}
-use Rattle.replay_core.specs.Take.{Drains, Replied, drained_lines}
+use Rattle.replay_core.specs.Take.{Drains, LengthFits, Replied, drained_lines}
 use Rattle.replay_core.specs.declared.drain.Drained.{Drained}
 
 -- ---- the item at a place
@@ -139,6 +141,9 @@ module _ (program : Program) where
     next_text : drained_lines (seen program here) asked.id.0 (sub_at asked.id.0 (seen program here).subs) ≡ sub_lines program now.objects asked
     next_text = ap (drained_lines (seen program here) asked.id.0) (sub_seen program here asked.id.0 ∙ ap (option_map (seen_sub program.config)) next_found)
 
+    next_length : LengthFits (seen program here) (sub_at asked.id.0 (seen program here).subs) → HasLength program now.objects asked
+    next_length fits = subst (LengthFits (seen program here)) (sub_seen program here asked.id.0 ∙ ap (option_map (seen_sub program.config)) next_found) fits
+
   module _ (ascends : LiveIdsAscend program) (known : PatternsNow) (live : List ℕ) (n id : ℕ) (past : List Row) (refused : Bool) (sent out out_new : List ℕ) (outcome : Drained) (at : slice_get live n ≡ Some id) (old new : HubState)
       (drains : Drains (record { 0 = id }) outcome out out_new old new) (ending : EndingByState program known live n past (sent ++ out) refused old) where
     abbrev now : State
@@ -158,6 +163,9 @@ module _ (program : Program) where
         let f = sub_lines program now.objects in record {
           marked = ending.marked;
           are_marked = ending.are_marked;
+          lengths = ending.lengths;
+          end_lengths = subst (AllByRecursion (HasLength program now.objects)) (sym (taken_more now.subs n asked more_at.1))
+              (all_joined (HasLength program now.objects) (take n now.subs) (asked ∷ []) ending.end_lengths (next_length now n asked ascend more_at.1 more_drains.fits, tt));
           state = more_drains.state ∙ next_state now n asked ascend more_at.1;
           live_ids = ending.live_ids;
           writes = λ told. ap (λ (xs : List ℕ). sent ++ xs) (more_drains.text ∙ ap (λ (xs : List ℕ). out ++ xs) (next_text now n asked ascend more_at.1))
@@ -177,6 +185,7 @@ module _ (program : Program) where
       let all = take_all n now.subs short in record {
         marked = ending.marked;
         are_marked = ending.are_marked;
+        lengths = record { rows = ending.lengths; end = subst (AllByRecursion (HasLength program now.objects)) all ending.end_lengths };
         state = ending.state ∙ ap (λ (subs : List Asked). seen program (record now { subs = subs }))
             (ap (λ (xs : List Asked). flat_map (told_now program now.objects) xs ++ drop n now.subs) all
             ∙ ap (λ (xs : List Asked). flat_map (told_now program now.objects) now.subs ++ xs) (drop_all n now.subs short)

@@ -171,6 +171,13 @@ plain_output program known rows held held_new refused unrisen output =
       refuses = output.refuses ∙ ap (refused_after program) none;
     }
 
+-- what was written where no pattern was refused, from what was written
+pub plain_written : (config : Config) (limits : Limits) (known : PatternsNow) (state : Option HubState) (left held held_new : Option (List ℕ)) (refused : Bool)
+    → WritesOutput config limits known state left held held_new refused → WritesPlain config limits known state left held held_new refused
+plain_written config limits known state left held held_new refused output unrisen =
+    IfSome-weaker state _ _ (λ told by_input.
+    IfSome-weaker left _ _ (λ bytes by pat tells. plain_output (replay_of config limits pat) known (past_of limits.line bytes) held held_new refused unrisen (by pat tells)) by_input) output
+
 module _ (config : Config) (limits : Limits) (left held held_new : Option (List ℕ)) where
   -- a machine that told its state was made as new
   abbrev pub Begun : Option HubState → Option HubState → Type 0
@@ -218,6 +225,7 @@ module _ (config : Config) (limits : Limits) (left held held_new : Option (List 
         let by = now_told config limits pat s0 r0 start.0 start.1 start.2 s1 (EndedByState program known (past_of limits.line input) output refused) (ended.by_state pat) in record {
           marked = by.1.marked;
           are_marked = by.1.are_marked;
+          lengths = by.1.lengths;
           writes = subst (λ (xs : List ℕ). Appends held held_new xs) (by.1.writes tells) written;
           refuses = by.1.refuses;
         }
@@ -226,11 +234,6 @@ module _ (config : Config) (limits : Limits) (left held held_new : Option (List 
     output_whole begun written = IfSome-told before _ (λ old told. IfSome-input left input
         (λ bytes. (pat : Pat) → IsTold (replay_of config limits pat) known.tells (unmarked (past_of limits.line bytes)) → IsOutput (replay_of config limits pat) known (past_of limits.line bytes) held held_new refused) read
         (λ pat tells. output_at pat old told begun written tells))
-
-    pub plain_whole : Begun before s0 → Appends held held_new output → WritesPlain config limits known before left held held_new refused
-    plain_whole begun written unrisen = IfSome-told before _ (λ old told. IfSome-input left input
-        (λ bytes. (pat : Pat) → IsTold (replay_of config limits pat) known.tells (unmarked (past_of limits.line bytes)) → IsPlainOutput (replay_of config limits pat) (past_of limits.line bytes) held held_new refused) read
-        (λ pat tells. plain_output (replay_of config limits pat) known (past_of limits.line input) held held_new refused unrisen (output_at pat old told begun written tells)))
 
     state_at : (pat : Pat) → Begun before s0 → Becomes before s1 (λ old new. IfSome left (λ bytes.
         new ≡ seen (replay_of config limits pat) (after_end (replay_of config limits pat) (after (replay_of config limits pat) (unmarked (past_of limits.line bytes))))))

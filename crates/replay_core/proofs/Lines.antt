@@ -1,6 +1,6 @@
 -- What a line comes to, from what the call that it asks for comes to.
 use Rattle.std.proofs.Common.{◌≡◌, ℕ, Bool, false, ◌||◌, List, [], ◌∷◌, ◌++◌, map, Option, Some, None, refl, sym, ap, ◌∙◌, subst, append-nil, inl, inr}
-use Rattle.std.specs.Prelude.{IfOk, Result, Ok, Err, is_some, option_map}
+use Rattle.std.specs.Prelude.{IfOk, IfSome, Result, Ok, Err, is_some, option_map}
 use Rattle.std.proofs.lemmas.List.{map-append}
 use Rattle.mesh_base.specs.declared.limits.Limits.{Limits}
 use Rattle.mesh_base.specs.declared.sub_id.SubId.{SubId}
@@ -30,9 +30,10 @@ use Rattle.mesh_hub.specs.declared.refusal.HubFault.{HubFault}
 use Rattle.mesh_hub.specs.declared.refusal.Refusal.{Refusal}
 use Rattle.mesh_hub.specs.declared.refusal.Refusal.TheVariants as refusals
 use Rattle.mesh_hub.proofs.SeenBy.{applied_seen, cancelled_seen, drained_seen, found_has_id, mapped_in_place, same_in_place, sub_seen, subscribe_refused, subscribed_seen, unknown_refused}
+use Rattle.replay_core.specs.Lengths.{HasLength, RowHasLength}
 use Rattle.replay_core.specs.Said.{Saying, refusal_in, reply_text, said_by, saying, sim_text, with_reply}
 use Rattle.replay_core.specs.Stand.{PatternsNow, ids_of, known_of}
-use Rattle.replay_core.specs.Take.{Drains, IsMetIfAny, IsSimulated, IsTold, IsUnread, Makes, MayMeetBy, Replied, TakesByReplies, TakesFrom, Unreplied, drain_refusal, drained_as, drained_lines, drained_unless, led_to, live_drained, live_unless, text_unless}
+use Rattle.replay_core.specs.Take.{Drains, IsMetIfAny, IsSimulated, IsTold, IsUnread, LengthFits, Makes, MayMeetBy, Replied, TakesByReplies, TakesFrom, Unreplied, drain_refusal, drained_as, drained_lines, drained_unless, led_to, live_drained, live_unless, text_unless}
 use Rattle.replay_core.specs.declared.drain.Drained.{Drained}
 use Rattle.replay_core.proofs.Marks.{none_more}
 
@@ -50,6 +51,16 @@ no_text (Some refusal) out = sym (append-nil out)
 
 -- ---- by what is held
 
+-- the length that a drain tells, where the machine stands where a history leads
+length_here : (program : Program) (now : State) (found : Option Asked) → LengthFits (seen program now) (option_map (seen_sub program.config) found) → IfSome found (HasLength program now.objects)
+length_here program now None fits = tt
+length_here program now (Some asked) fits = fits
+
+-- a refused line tells none
+length_unless : (program : Program) (now : State) (line : Result Line LineFault) (refusal : Option Refusal) → RowHasLength program now None line → RowHasLength program now refusal line
+length_unless program now line None fits = fits
+length_unless program now line (Some refused) fits = tt
+
 -- where no pattern was matched
 module _ (config : Config) (limits : Limits) (pat : Pat) (tells : Option Pat) (refuses : Option (List ℕ → Bool)) (count number : ℕ) where
   abbrev program : Program
@@ -60,15 +71,15 @@ module _ (config : Config) (limits : Limits) (pat : Pat) (tells : Option Pat) (r
 
   pub blank_from : (live out : List ℕ) (state : HubState) → TakesFrom program still number (Ok lines.Blank) None live live out out state state
   blank_from live out state now here lives =
-      record { met = None; counted = none_more count; may_meet = tt; refusal_is = refl; state = here; live_ids = lives; text = λ told. sym (append-nil out) }
+      record { met = None; counted = none_more count; may_meet = tt; refusal_is = refl; fits = tt; state = here; live_ids = lives; text = λ told. sym (append-nil out) }
 
   pub stop_from : (live out : List ℕ) (state : HubState) → TakesFrom program still number (Ok lines.Stop) (Some refusals.NotHere) live live out out state state
   stop_from live out state now here lives =
-      record { met = None; counted = none_more count; may_meet = tt; refusal_is = refl; state = here; live_ids = lives; text = λ told. sym (append-nil out) }
+      record { met = None; counted = none_more count; may_meet = tt; refusal_is = refl; fits = tt; state = here; live_ids = lives; text = λ told. sym (append-nil out) }
 
   pub unread_from : (fault : LineFault) (live out : List ℕ) (state : HubState) → TakesFrom program still number (Err fault) (Some (refusals.Line fault)) live live out out state state
   unread_from fault live out state now here lives =
-      record { met = None; counted = none_more count; may_meet = tt; refusal_is = refl; state = here; live_ids = lives; text = λ told. sym (append-nil out) }
+      record { met = None; counted = none_more count; may_meet = tt; refusal_is = refl; fits = tt; state = here; live_ids = lives; text = λ told. sym (append-nil out) }
 
   -- a call leads where its line leads
   led : (now : State) (line : Line) (refusal : Option Refusal) (new : HubState) → refusal ≡ option_map refusals.Hub (hub_refusal program now line)
@@ -91,6 +102,7 @@ module _ (config : Config) (limits : Limits) (pat : Pat) (tells : Option Pat) (r
         counted = none_more count;
         may_meet = tt;
         refusal_is = made.refusal_is;
+        fits = length_unless program now (Ok (lines.Event event)) refusal tt;
         state = led now (lines.Event event) refusal new made.refusal_is (made.state ∙ applied_seen program now event);
         live_ids = lives ∙ event_ids now event refusal;
         text = λ told. no_text refusal out;
@@ -110,6 +122,7 @@ module _ (config : Config) (limits : Limits) (pat : Pat) (tells : Option Pat) (r
         counted = none_more count;
         may_meet = tt;
         refusal_is = is;
+        fits = length_unless program now (Ok (lines.Subscribe id query)) refusal tt;
         state = led now (lines.Subscribe id query) refusal new is (made.state ∙ subscribed_seen program now id query);
         live_ids = adds ∙ new_ids now id query live refusal lives;
         text = λ told. no_text refusal out;
@@ -130,6 +143,7 @@ module _ (config : Config) (limits : Limits) (pat : Pat) (tells : Option Pat) (r
         counted = none_more count;
         may_meet = tt;
         refusal_is = is;
+        fits = length_unless program now (Ok (lines.Cancel id)) refusal tt;
         state = led now (lines.Cancel id) refusal new is (made.state ∙ cancelled_seen program now id);
         live_ids = removes ∙ cancelled_ids now id live refusal lives;
         text = λ told. no_text refusal out;
@@ -196,6 +210,7 @@ module _ (config : Config) (limits : Limits) (pat : Pat) (tells : Option Pat) (r
         counted = none_more count;
         may_meet = tt;
         refusal_is = is;
+        fits = length_unless program now (Ok (lines.Drain id)) refusal (length_here program now found (subst (LengthFits (seen program now)) (sub_seen program now id.0) drained.fits));
         state = led now (lines.Drain id) refusal new is (drained.state ∙ drained_seen program now id);
         live_ids = leaves ∙ ap (λ (o : Drained). live_drained id.0 o live) outcome_is ∙ drained_ids now id live found lives refl
             ∙ ap (λ (r : Option Refusal). ids_of (led_to program now r (Ok (lines.Drain id))).subs) (sym refusal_is);
@@ -224,6 +239,7 @@ module _ (config : Config) (limits : Limits) (pat : Pat) (known : PatternsNow) (
         counted = made.counted;
         may_meet = may_meet_by now made.met made.may_meet;
         refusal_is = made.refusal_is;
+        fits = length_unless program now (Ok (lines.Simulate request)) refusal tt;
         state = made.state ∙ ap (seen program) led;
         live_ids = lives ∙ ap (λ (s : State). ids_of s.subs) led;
         text = λ told. elim told [ inl is ↦ made.text pat is | inr none ↦ absurd (none request refl) ];

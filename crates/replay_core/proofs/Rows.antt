@@ -22,6 +22,7 @@ use Rattle.mesh_hub.specs.Text.{refused_line}
 use Rattle.mesh_hub.specs.declared.machine.Reply.{Reply}
 use Rattle.mesh_hub.specs.declared.refusal.Refusal.{Refusal}
 use Rattle.mesh_hub.proofs.Optional.{Becomes-same, Becomes-then}
+use Rattle.replay_core.specs.Lengths.{RowHasLength}
 use Rattle.replay_core.specs.Said.{Saying, refused_said, said_from, text_said}
 use Rattle.replay_core.specs.Stand.{AreMarked, FromNew, GoOn, IsOfRun, Stands, StandsByReplies, StandsByState, ids_of, known_of}
 use Rattle.replay_core.specs.Take.{TakesByReplies, TakesByState, TakesFrom, led_to, text_unless}
@@ -86,6 +87,7 @@ module _ (program : Program) (tells : Option Pat) (refuses : Option (List ℕ �
   stands_by_state = record {
     marked = (row, takes.met) ∷ marked;
     are_marked = row_marked;
+    lengths = (subst (λ (r : Option Refusal). RowHasLength program here r line) takes.refusal_is takes.fits, stood.lengths);
     state = takes.state ∙ ap (λ (r : Option Refusal). seen program (led_to program here r line)) takes.refusal_is;
     live_ids = takes.live_ids ∙ ap (λ (r : Option Refusal). ids_of (led_to program here r line).subs) takes.refusal_is;
     writes = row_writes;
@@ -129,6 +131,7 @@ stands_new config limits tells refuses count state told live none = record {
       Becomes-same state (FromNew program (StandsByState program (known_of tells refuses count count) live [] [] false)) (λ start as_new. record {
         marked = [];
         are_marked = record { rows_are = refl; few = none_more count; fair = tt };
+        lengths = tt;
         state = as_new;
         live_ids = none;
         writes = λ told. refl;

@@ -19,13 +19,15 @@ use Rattle.mesh_hub.specs.Output.{output_after, refused_after}
 use Rattle.mesh_hub.specs.Program.{Program, replay_of}
 use Rattle.mesh_hub.specs.Seen.{seen}
 use Rattle.mesh_hub.specs.declared.machine.Reply.{Reply}
+use Rattle.replay_core.specs.Lengths.{LengthsFit}
 use Rattle.replay_core.specs.Said.{refused_said, said, text_said}
 use Rattle.replay_core.specs.Stand.{AreMarked, PatternsNow}
 
--- What was written is the output of the rows, marked so, and some row was refused or none.
+-- What was written is the output of the rows, marked so, each length that it tells is below 2 ^ 64, and some row was refused or none.
 pub record IsOutput (program : Program) (known : PatternsNow) (rows : List Row) (held held_new : Option (List ℕ)) (refused : Bool) : Type 0 where
   pub marked : List MarkedRow
   pub are_marked : AreMarked program known rows marked
+  pub lengths : LengthsFit program marked
   pub writes : Appends held held_new (output_after program marked)
   pub refuses : refused ≡ refused_after program marked
 

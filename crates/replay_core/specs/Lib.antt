@@ -1,4 +1,5 @@
 pub mod Headline
+pub mod Lengths
 pub mod Said
 pub mod Stand
 pub mod Take

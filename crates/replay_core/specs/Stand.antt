@@ -2,6 +2,7 @@
 -- told, and by its replies, where those are told.
 use Rattle.std.specs.Prelude.{◌≡◌, ◌≤◌, ℕ, ◌+◌, Bool, List, [], ◌++◌, length, map, take, drop, flat_map, reverse}
 use Rattle.std.proofs.Common.{append-nil, refl, sym, ap, subst, ◌∙◌, arith}
+use Rattle.std.specs.List.{AllByRecursion}
 use Rattle.std.specs.declared.option.Option.{Option}
 use Rattle.mesh_base.specs.declared.limits.Limits.{Limits}
 use Rattle.line_run.specs.Rows.{Row}
@@ -16,6 +17,7 @@ use Rattle.mesh_hub.specs.Output.{output_after, refused_after, sub_lines, writte
 use Rattle.mesh_hub.specs.Program.{Program, replay_of}
 use Rattle.mesh_hub.specs.Seen.{seen}
 use Rattle.mesh_hub.specs.declared.machine.Reply.{Reply}
+use Rattle.replay_core.specs.Lengths.{HasLength, LengthsFit, RowsHaveLengths}
 use Rattle.replay_core.specs.Said.{Saying, refused_said, said_from, saying_left, text_said}
 
 -- ---- the patterns
@@ -63,6 +65,7 @@ ids_of subs = map id_of subs
 pub record StandsByState (program : Program) (known : PatternsNow) (live : List ℕ) (past : List Row) (text : List ℕ) (refused : Bool) (now : HubState) : Type 0 where
   pub marked : List MarkedRow
   pub are_marked : AreMarked program known past marked
+  pub lengths : RowsHaveLengths program marked
   pub state : now ≡ seen program (after program marked)
   pub live_ids : live ≡ ids_of (after program marked).subs
   pub writes : IsTold program known.tells (unmarked past) → text ≡ written_after program marked
@@ -75,6 +78,8 @@ after_some program sent now = record now { subs = flat_map (told_now program now
 pub record EndingByState (program : Program) (known : PatternsNow) (live : List ℕ) (sent : ℕ) (past : List Row) (text : List ℕ) (refused : Bool) (now : HubState) : Type 0 where
   pub marked : List MarkedRow
   pub are_marked : AreMarked program known past marked
+  pub lengths : RowsHaveLengths program marked
+  pub end_lengths : AllByRecursion (HasLength program (after program marked).objects) (take sent (after program marked).subs)
   pub state : now ≡ seen program (after_some program sent (after program marked))
   pub live_ids : live ≡ ids_of (after program marked).subs
   pub writes : IsTold program known.tells (unmarked past)
@@ -84,6 +89,7 @@ pub record EndingByState (program : Program) (known : PatternsNow) (live : List 
 pub record EndedByState (program : Program) (known : PatternsNow) (past : List Row) (text : List ℕ) (refused : Bool) (now : HubState) : Type 0 where
   pub marked : List MarkedRow
   pub are_marked : AreMarked program known past marked
+  pub lengths : LengthsFit program marked
   pub state : now ≡ seen program (after_end program (after program marked))
   pub writes : IsTold program known.tells (unmarked past) → text ≡ output_after program marked
   pub refuses : refused ≡ refused_after program marked
@@ -140,6 +146,8 @@ ending_by_state program known live sent past text refused now none stood =
     subst (λ (n : ℕ). EndingByState program known live n past text refused now) (sym none) (record {
       marked = stood.marked;
       are_marked = stood.are_marked;
+      lengths = stood.lengths;
+      end_lengths = tt;
       state = stood.state;
       live_ids = stood.live_ids;
       writes = λ told. stood.writes told ∙ sym (append-nil (written_after program stood.marked));

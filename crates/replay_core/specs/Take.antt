@@ -1,5 +1,5 @@
 -- What a step of a replay comes to, by what the machine holds and by its replies.
-use Rattle.std.specs.Prelude.{◌≡◌, ◌≤◌, ◌⊎◌, ◌+◌, ◌-◌, ◌^◌, ℕ, Bool, List, [], ◌∷◌, ◌++◌, Option, Some, None, Result, Ok, is_some, min, option_map}
+use Rattle.std.specs.Prelude.{◌≡◌, ◌≤◌, ◌<◌, ◌⊎◌, ◌+◌, ◌-◌, ◌^◌, ℕ, Bool, List, [], ◌∷◌, ◌++◌, Option, Some, None, Result, Ok, IfSome, is_some, min, option_map}
 use Rattle.mesh_base.specs.declared.sub_id.SubId.{SubId}
 use Rattle.view_types.specs.declared.request.Request.{Request}
 use Rattle.watch_events.specs.declared.line.Line.{Line}
@@ -27,6 +27,7 @@ use Rattle.mesh_hub.specs.declared.refusal.HubFault.{HubFault}
 use Rattle.mesh_hub.specs.declared.refusal.HubFault.TheVariants as faults
 use Rattle.mesh_hub.specs.declared.refusal.Refusal.{Refusal}
 use Rattle.mesh_hub.specs.declared.refusal.Refusal.TheVariants as refusals
+use Rattle.replay_core.specs.Lengths.{RowHasLength}
 use Rattle.replay_core.specs.Said.{Saying, refusal_in, refused_said, said_by, text_said}
 use Rattle.replay_core.specs.Stand.{PatternsNow, ids_of}
 use Rattle.replay_core.specs.declared.drain.Drained.{Drained}
@@ -86,8 +87,14 @@ abbrev pub drained_as : HubState → ℕ → Option Subscription → Drained
 drained_as now id None = Undrained (faults.NoSuchId id)
 drained_as now id (Some sub) = drained_unless (too_long now.limits.message (messages_for now sub))
 
+-- the length of a message that is too long is below 2 ^ 64
+abbrev pub LengthFits : HubState → Option Subscription → Type 0
+LengthFits now None = Unit {0}
+LengthFits now (Some sub) = IfSome (too_long now.limits.message (messages_for now sub)) (λ bytes. bytes < 2 ^ 64)
+
 pub record Drains (id : SubId) (outcome : Drained) (out out_new : List ℕ) (old new : HubState) : Type 0 where
   pub outcome_is : outcome ≡ drained_as old id.0 (sub_at id.0 old.subs)
+  pub fits : LengthFits old (sub_at id.0 old.subs)
   pub state : new ≡ drained old id.0
   pub text : out_new ≡ out ++ drained_lines old id.0 (sub_at id.0 old.subs)
 
@@ -105,7 +112,7 @@ live_drained id (Undrained fault) live = live
 -- what comes of a drain that a fault ended
 abbrev pub IsUndrained : ℕ → HubFault → List ℕ → List ℕ → Drained → Type 0
 IsUndrained id faults.Memory out out_new outcome = ⊥
-IsUndrained id (faults.Oversize bytes) out out_new outcome = (outcome ≡ Ended) × (out_new ≡ out ++ oversize_line id bytes)
+IsUndrained id (faults.Oversize bytes) out out_new outcome = (outcome ≡ Ended) × (out_new ≡ out ++ oversize_line id bytes) × (bytes < 2 ^ 64)
 IsUndrained id (faults.Full held) out out_new outcome = (outcome ≡ Undrained (faults.Full held)) × (out_new ≡ out)
 IsUndrained id (faults.TooManySubs live) out out_new outcome = (outcome ≡ Undrained (faults.TooManySubs live)) × (out_new ≡ out)
 IsUndrained id (faults.IdOrder last) out out_new outcome = (outcome ≡ Undrained (faults.IdOrder last)) × (out_new ≡ out)
@@ -162,12 +169,14 @@ MayMeetBy now refuses line (Some fault) = MeetsBy now refuses line fault
 abbrev pub IsToldFor : Program → Option Pat → Result Line LineFault → Type 0
 IsToldFor program tells line = (tells ≡ Some program.matches) ⊎ ((request : Request) → line ≡ Ok (lines.Simulate request) → ⊥)
 
--- The line of this number is refused for its cause or done, its text is added, and the machine stands where the line leads.
+-- The line of this number is refused for its cause or done, its text is added, and the machine stands where the line leads. A length
+-- that the text tells fits its type.
 pub record TakesByState (program : Program) (known : PatternsNow) (number : ℕ) (line : Result Line LineFault) (refusal : Option Refusal) (live_new : List ℕ) (out out_new : List ℕ) (now : State) (new : HubState) : Type 0 where
   pub met : Option SimFault
   pub counted : min (mark met + known.before) (2 ^ 64 - 1) ≤ known.now
   pub may_meet : MayMeetBy now known.refuses line met
   pub refusal_is : refusal ≡ refusal_of program now met line
+  pub fits : RowHasLength program now refusal line
   pub state : new ≡ seen program (led_to program now refusal line)
   pub live_ids : live_new ≡ ids_of (led_to program now refusal line).subs
   pub text : IsToldFor program known.tells line → out_new ≡ out ++ text_unless refusal (line_text program number now line)

@@ -27,7 +27,8 @@ pub fn replay<H: Machine, S: Source, K: Sink, P: Patterns>(
 ) -> Status
     requires { 1 ≤ limits.now.frame_addrs }
 
-    // Read to the end: what was written is the defined output, and a line was refused or none.
+    // Read to the end: what was written is the defined output, each length that it tells is below 2 ^ 64, and a line was refused
+    // or none.
     ensures output { OnEnd result (WritesOutput config.now limits.now (known_of (P.tells patterns.old) (P.refuses patterns.old) (P.refusals patterns.old) (P.refusals patterns.new))
         (H.state hub.old) (S.left input.old) (K.held out.old) (K.held out.new)) }
 

@@ -1,7 +1,7 @@
 use Rattle.std.proofs.Common.{◌≡◌, refl, rules, sym}
 use Rattle.line_run.proofs.Progress.{OnEnd-weaker, OnStop-weaker}
 use Rattle.replay_core.specs.Stand.{GoOn, IsOfRun, known_of}
-use Rattle.replay_core.proofs.Fronts.{begun, nothing_written, output_front, output_whole, plain_whole, said_whole, state_whole}
+use Rattle.replay_core.proofs.Fronts.{begun, nothing_written, output_front, output_whole, plain_written, said_whole, state_whole}
 use Rattle.replay_core.proofs.Marks.{at_most}
 use Rattle.replay_core.proofs.Rows.{stands_new}
 use Rattle.replay_core.proofs.replay.replay.Goals as goal
@@ -32,18 +32,7 @@ returns-clause-output g c =
     search (rules, wrote, same_patterns)) c.run_lines.ensures.whole
 
 pub returns-clause-quiet : goal.returns-clause-quiet
-returns-clause-quiet g c =
-    let state = g.H.Machine.state in
-    let replies = g.H.Machine.replies in
-    let patterns = c.args.patterns.now in
-    let machine = c.run_lines.new.machine in
-    let known = known_of (g.P.Patterns.tells patterns) (g.P.Patterns.refuses patterns) (g.P.Patterns.refusals patterns) (g.P.Patterns.refusals machine.patterns.now) in
-    OnEnd-weaker c.run_lines.result _ _ (λ refused whole.
-    let same_patterns = sym whole.at_end.1 in
-    let wrote = plain_whole c.args.config.now c.args.limits.now (g.S.Source.left c.args.input.now) (g.K.Sink.held c.args.out.now) (g.K.Sink.held c.run_lines.new.sink) known (state c.args.hub.now) (state c.begin.new.self) (state machine.hub.now)
-    (replies c.begin.new.self) (replies machine.hub.now) whole.input whole.output refused whole.read whole.at_end.3
-    (begun c.args.config.now c.in-Ok.copy c.args.limits.now (state c.args.hub.now) (state c.begin.new.self) c.in-Ok-begin.field-0 c.in-Ok.ensures c.in-Ok-begin.ensures.state) whole.written in
-    search (rules, wrote, same_patterns)) c.run_lines.ensures.whole
+returns-clause-quiet g c = OnEnd-weaker c.run_lines.result _ _ (λ refused output. plain_written _ _ _ _ _ _ _ refused output) (returns-clause-output g c)
 
 pub returns-clause-front : goal.returns-clause-front
 returns-clause-front g c =
