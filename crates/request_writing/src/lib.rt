@@ -5,7 +5,6 @@
 //! ask for each query. Public laws in `laws` tie them to the reader.
 #![tactic(auto)]
 
-mod address;
 pub mod ask;
 pub mod laws;
 pub mod writing;

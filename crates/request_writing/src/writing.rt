@@ -3,13 +3,13 @@ ghost use Rattle.std.specs.Prelude.{◌≡◌, ◌++◌, OnOk, IfOk};
 ghost use Rattle.proto_wire.specs.Wire.{spelling};
 ghost use Rattle.request_writing.specs.Asks.{ask_records, canonical_ask, destination_records, port_records, traffic_records};
 
-use crate::address::put_address;
 use crate::ask::{Ask, GetDestination, PortSpec, TrafficSpec};
 use bytes::Bytes;
 use mesh_base::list::List;
 use mesh_base::memory::Memory;
 use proto_wire::writing::put_chunk;
 use proxy_proto::fields::{put_number_field, put_text_field};
+use proxy_proto::part::write_in;
 use std::alloc::Global;
 
 #[tactic(auto, using(proto_wire::proofs::Spellings::spellings), unfolding(crate::specs::Asks::destination_records))]
@@ -33,11 +33,7 @@ fn put_traffic(alloc: Global, out: &mut List<u8>, spec: &TrafficSpec) -> Result<
     ensures { OnOk result (out.new ≡ out.old ++ spelling (traffic_records spec.now)) }
 {
     match spec {
-        TrafficSpec::Addr { ip, port } => {
-            let mut address = List::new(alloc);
-            put_address(alloc, &mut address, *ip, *port)?;
-            put_chunk(out, 2, address.as_slice())
-        }
+        TrafficSpec::Addr { ip, port } => write_in(alloc, out, 2, &(*ip, *port)),
         TrafficSpec::Authority(authority) => put_chunk(out, 3, authority.as_bytes()),
     }
 }
