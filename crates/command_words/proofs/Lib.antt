@@ -1,0 +1,4 @@
+pub mod Configured
+pub mod Nets
+pub mod Tables
+pub mod Written

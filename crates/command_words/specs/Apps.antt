@@ -1,0 +1,59 @@
+-- The commands as clap's definitions see them: the options of each.
+use Rattle.std.specs.Prelude.{ℕ, Bool, List, [], ◌∷◌, Option, Some, None, true, false, bytes_eq, codes, if◌then◌else◌}
+use Rattle.clap.specs.Words.{App, Rule, Text, new_app, new_rule, takes, with_rule}
+use Rattle.clap.specs.declared.builder.ArgAction.TheVariants.{Set}
+use Rattle.command_words.specs.Arguments.{argument_text}
+use Rattle.command_words.specs.declared.argument.Argument.{Argument}
+use Rattle.command_words.specs.declared.argument.Argument.TheVariants.{Id, Method, Path, Workload, Port, Token, ClusterDomain, TrustDomain, ControlPlaneNamespace, ClusterNetworks, DefaultPolicy, Number}
+use Rattle.command_words.specs.declared.command.Name.{Name}
+use Rattle.command_words.specs.declared.command.Name.TheVariants as names
+
+-- no help or version flag, and the words come without the program's name
+abbrev pub plain : Text → App
+plain name = let a = new_app name in record a { top = record a.top { no_binary_name = true; disable_help_flag = true; disable_version_flag = true } }
+
+-- `--name VALUE`
+abbrev pub option_rule : Text → Rule
+option_rule name = record (new_rule name) { long = Some name; action = Some Set }
+
+-- a value that stands alone
+abbrev pub word_rule : Text → Rule
+word_rule name = record (new_rule name) { action = Some Set }
+
+-- a command with more options
+unfoldable pub with_options : App → List Argument → App
+with_options app [] = app
+with_options app (argument ∷ more) = with_options (with_rule app (option_rule (argument_text argument))) more
+
+abbrev pub settings : List Argument
+settings = ClusterDomain ∷ TrustDomain ∷ ControlPlaneNamespace ∷ ClusterNetworks ∷ DefaultPolicy ∷ []
+
+abbrev pub subscription : List Argument
+subscription = Id ∷ Method ∷ []
+
+abbrev pub query : List Argument
+query = Path ∷ Workload ∷ Port ∷ Token ∷ []
+
+-- what may stand behind a command's name
+unfoldable pub app_for : Name → App
+app_for names.Replay = with_options (plain (codes "replay")) settings
+app_for names.Diagnose = with_options (with_options (with_options (plain (codes "diagnose")) subscription) query) settings
+app_for names.Fold = with_options (plain (codes "fold")) subscription
+app_for names.Sample = with_options (with_rule (plain (codes "sample")) (word_rule (argument_text Number))) settings
+
+-- the command that the first word names
+unfoldable pub name_of : List ℕ → Option Name
+name_of word =
+    if bytes_eq word (codes "replay") then Some names.Replay else
+    if bytes_eq word (codes "diagnose") then Some names.Diagnose else
+    if bytes_eq word (codes "fold") then Some names.Fold else
+    if bytes_eq word (codes "sample") then Some names.Sample else None
+
+abbrev pub accepts_named : Option Name → List Text → Bool
+accepts_named (Some name) words = takes (app_for name) words
+accepts_named None words = false
+
+-- The first word names a command, and clap's definition accepts the others as its words.
+abbrev pub are_accepted : List Text → Bool
+are_accepted [] = false
+are_accepted (first ∷ rest) = accepts_named (name_of first) rest

@@ -1,0 +1,54 @@
+-- The query that `diagnose` is asked for. What its method doesn't need isn't looked at.
+use Rattle.std.specs.Prelude.{List, [], Option, Some, None, unwrap_or}
+use Rattle.clap.specs.Words.{Row}
+use Rattle.mesh_text.specs.Contexts.{context_of}
+use Rattle.mesh_text.specs.Targets.{target_of}
+use Rattle.mesh_text.specs.Workloads.{workload_of}
+use Rattle.view_types.specs.declared.config.Config.{Config}
+use Rattle.view_types.specs.declared.query.Context.{Context}
+use Rattle.view_types.specs.declared.query.Method.{Method}
+use Rattle.view_types.specs.declared.query.Method.TheVariants as methods
+use Rattle.view_types.specs.declared.query.Query.{Query}
+use Rattle.view_types.specs.declared.query.Query.TheVariants as queries
+use Rattle.view_types.specs.declared.query.Target.{Target}
+use Rattle.view_types.specs.declared.query.Target.TheVariants.{Service, Address}
+use Rattle.command_words.specs.Arguments.{text_at}
+use Rattle.command_words.specs.Gives.{◌>>=◌, needed}
+use Rattle.command_words.specs.Numbers.{number_within}
+use Rattle.command_words.specs.declared.argument.Argument.TheVariants as arguments
+
+-- An absent token is as the empty one.
+unfoldable pub context_in : List Row → Context
+context_in rows = context_of (unwrap_or (text_at arguments.Token rows) [])
+
+-- Only a port of a Service has endpoints.
+abbrev pub get_of : Context → Target → Option Query
+get_of ctx (Service ns name port) = Some (queries.Get ns name port ctx)
+get_of ctx (Address ip port) = None
+
+unfoldable pub get_in : Config → List Row → Option Query
+get_in config rows = do
+  target ← needed (target_of config) (text_at arguments.Path rows)
+  get_of (context_in rows) target
+
+unfoldable pub profile_in : Config → List Row → Option Query
+profile_in config rows = do
+  target ← needed (target_of config) (text_at arguments.Path rows)
+  Some (queries.Profile target (context_in rows))
+
+unfoldable pub port_in : List Row → Option Query
+port_in rows = do
+  pod ← needed workload_of (text_at arguments.Workload rows)
+  port ← needed (number_within 1 65535) (text_at arguments.Port rows)
+  Some (queries.Port pod.0 pod.1 port)
+
+unfoldable pub traffic_in : Config → List Row → Option Query
+traffic_in config rows = do
+  target ← needed (target_of config) (text_at arguments.Path rows)
+  Some (queries.Traffic target)
+
+unfoldable pub query_in : Config → List Row → Method → Option Query
+query_in config rows methods.Get = get_in config rows
+query_in config rows methods.GetProfile = profile_in config rows
+query_in config rows methods.WatchPort = port_in rows
+query_in config rows methods.Watch = traffic_in config rows

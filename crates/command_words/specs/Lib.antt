@@ -1,0 +1,9 @@
+pub mod Apps
+pub mod Arguments
+pub mod Commands
+pub mod Configured
+pub mod Diagnosed
+pub mod Gives
+pub mod Numbers
+pub mod Settings
+pub mod Written

@@ -1,0 +1,6 @@
+-- Words that are written out.
+use Rattle.std.specs.Prelude.{ℕ, List, [], ◌∷◌, codes}
+
+-- a value as the next word, and a value in its option's word
+abbrev pub fold_words : List (List ℕ)
+fold_words = codes "fold" ∷ codes "--id" ∷ codes "7" ∷ codes "--method=Get" ∷ []

@@ -1,0 +1,151 @@
+ghost use Rattle.std.specs.Prelude.{◌≡◌, [], IfOk, unwrap_or};
+ghost use Rattle.mesh_text.specs.Targets.{target_of};
+ghost use Rattle.mesh_text.specs.Workloads.{workload_of};
+ghost use Rattle.command_words.specs.Arguments.{rows_in, text_at};
+ghost use Rattle.command_words.specs.Diagnosed.{context_in, get_in, get_of, port_in, profile_in, query_in, traffic_in};
+ghost use Rattle.command_words.specs.Gives.{Gives, needed};
+ghost use Rattle.command_words.specs.declared.argument.Argument.TheVariants as arguments;
+
+use crate::argument::Argument;
+use crate::fault::WordsFault;
+use crate::parse::given;
+use crate::value::read_number_at;
+use clap::ArgMatches;
+use mesh_base::memory::Memory;
+use mesh_base::text::Text;
+use mesh_text::target_text::{TargetFault, read_target};
+use mesh_text::token::read_context;
+use mesh_text::workload_text::read_workload;
+use std::alloc::Global;
+use view_types::config::Config;
+use view_types::query::{Context, Method, Query, Target};
+
+fn target_at<'a>(
+    alloc: Global,
+    config: &Config,
+    matches: &ArgMatches<'a>,
+) -> Result<Target, WordsFault>
+    ensures { Gives result (needed (target_of config.now) (text_at arguments.Path (rows_in matches.now))) }
+{
+    let Some(text) = given(matches, Argument::Path) else {
+        return Err(WordsFault::Usage);
+    };
+    match read_target(alloc, text.as_bytes(), config) {
+        Ok(target) => Ok(target),
+        Err(TargetFault::Bad) => Err(WordsFault::Usage),
+        Err(TargetFault::Memory) => Err(WordsFault::Memory),
+    }
+}
+
+fn pod_at<'a>(alloc: Global, matches: &ArgMatches<'a>) -> Result<(Text, Text), WordsFault>
+    ensures { Gives result (needed workload_of (text_at arguments.Workload (rows_in matches.now))) }
+{
+    let Some(text) = given(matches, Argument::Workload) else {
+        return Err(WordsFault::Usage);
+    };
+    match read_workload(alloc, text.as_bytes()) {
+        Ok(pod) => Ok(pod),
+        Err(TargetFault::Bad) => Err(WordsFault::Usage),
+        Err(TargetFault::Memory) => Err(WordsFault::Memory),
+    }
+}
+
+fn token_at<'a>(matches: &ArgMatches<'a>) -> &'a str
+    ensures { result.now ≡ unwrap_or (text_at arguments.Token (rows_in matches.now)) [] }
+{
+    match given(matches, Argument::Token) {
+        Some(token) => token,
+        None => "",
+    }
+}
+
+/// What a client says of itself, who says nothing without a token.
+#[tactic(auto, unfolding(crate::specs::Diagnosed::context_in))]
+fn context_at<'a>(alloc: Global, matches: &ArgMatches<'a>) -> Result<Context, Memory>
+    ensures { IfOk result (λ ctx. ctx ≡ context_in (rows_in matches.now)) }
+{
+    read_context(alloc, token_at(matches).as_bytes())
+}
+
+fn get_of(target: Target, ctx: Context) -> Result<Query, WordsFault>
+    ensures { Gives result (get_of ctx target) }
+{
+    match target {
+        Target::Service { ns, name, port } => Ok(Query::Get {
+            ns,
+            name,
+            port,
+            ctx,
+        }),
+        Target::Address { .. } => Err(WordsFault::Usage),
+    }
+}
+
+#[tactic(auto, unfolding(crate::specs::Gives::then, crate::specs::Diagnosed::get_in))]
+fn read_get<'a>(
+    alloc: Global,
+    config: &Config,
+    matches: &ArgMatches<'a>,
+) -> Result<Query, WordsFault>
+    ensures { Gives result (get_in config.now (rows_in matches.now)) }
+{
+    let target = target_at(alloc, config, matches)?;
+    let ctx = context_at(alloc, matches)?;
+    get_of(target, ctx)
+}
+
+#[tactic(auto, unfolding(crate::specs::Gives::then, crate::specs::Diagnosed::profile_in))]
+fn read_profile<'a>(
+    alloc: Global,
+    config: &Config,
+    matches: &ArgMatches<'a>,
+) -> Result<Query, WordsFault>
+    ensures { Gives result (profile_in config.now (rows_in matches.now)) }
+{
+    let target = target_at(alloc, config, matches)?;
+    let ctx = context_at(alloc, matches)?;
+    Ok(Query::Profile { target, ctx })
+}
+
+#[tactic(auto, unfolding(crate::specs::Gives::then, crate::specs::Diagnosed::port_in))]
+fn read_port<'a>(alloc: Global, matches: &ArgMatches<'a>) -> Result<Query, WordsFault>
+    ensures { Gives result (port_in (rows_in matches.now)) }
+{
+    let (ns, pod) = pod_at(alloc, matches)?;
+    let port = read_number_at(matches, Argument::Port, 1, 65535)?;
+    Ok(Query::Port {
+        ns,
+        pod,
+        port: port as u16,
+    })
+}
+
+#[tactic(auto, unfolding(crate::specs::Gives::then, crate::specs::Diagnosed::traffic_in))]
+fn read_traffic<'a>(
+    alloc: Global,
+    config: &Config,
+    matches: &ArgMatches<'a>,
+) -> Result<Query, WordsFault>
+    ensures { Gives result (traffic_in config.now (rows_in matches.now)) }
+{
+    let target = target_at(alloc, config, matches)?;
+    Ok(Query::Traffic { target })
+}
+
+/// The query that the options of the method make.
+#[tactic(auto, unfolding(crate::specs::Diagnosed::query_in))]
+pub(crate) fn read_query<'a>(
+    alloc: Global,
+    config: &Config,
+    method: Method,
+    matches: &ArgMatches<'a>,
+) -> Result<Query, WordsFault>
+    ensures { Gives result (query_in config.now (rows_in matches.now) method) }
+{
+    match method {
+        Method::Get => read_get(alloc, config, matches),
+        Method::GetProfile => read_profile(alloc, config, matches),
+        Method::WatchPort => read_port(alloc, matches),
+        Method::Watch => read_traffic(alloc, config, matches),
+    }
+}

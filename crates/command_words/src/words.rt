@@ -1,0 +1,68 @@
+ghost use Rattle.std.specs.Prelude.{◌≡◌, ◌≢◌, Err, IfOk, IsSome, Some, map, true};
+ghost use Rattle.clap.specs.Words.{matches_of, takes};
+ghost use Rattle.command_words.specs.Apps.{app_for, are_accepted, name_of};
+ghost use Rattle.command_words.specs.Commands.{command_in, command_of};
+
+use crate::command::{Command, Name, read_command};
+use crate::fault::WordsFault;
+use crate::parse::parse;
+use mesh_base::memory::Memory;
+use mesh_base::text::Text;
+use std::alloc::Global;
+
+#[tactic(auto, unfolding(crate::specs::Apps::name_of))]
+fn name_of(word: &str) -> Option<Name>
+    ensures { result ≡ name_of word.now }
+{
+    if word == "replay" {
+        Some(Name::Replay)
+    } else if word == "diagnose" {
+        Some(Name::Diagnose)
+    } else if word == "fold" {
+        Some(Name::Fold)
+    } else if word == "sample" {
+        Some(Name::Sample)
+    } else {
+        None
+    }
+}
+
+fn texts_of<'w>(alloc: Global, words: &'w [Text]) -> Result<Vec<&'w str>, Memory>
+    ensures { IfOk result (λ texts. map (λ text. text.now) texts.items ≡ words.now) }
+{
+    let mut texts = Vec::new(alloc);
+    for word in words {
+        texts.push(word.as_str())?;
+    }
+    Ok(texts)
+}
+
+fn read_named<'a>(alloc: Global, name: Name, words: &'a [&'a str]) -> Result<Command, WordsFault>
+    ensures accepted { takes (app_for name) (map (λ w. w.now) words.entry.now) ≡ true
+        → IsSome (command_of name (matches_of (app_for name) (map (λ w. w.now) words.entry.now))) → result ≢ Err WordsFault.Usage }
+    ensures found { IfOk result (λ command. command_of name (matches_of (app_for name) (map (λ w. w.now) words.entry.now)) ≡ Some command) }
+{
+    match parse(alloc, name, words) {
+        Ok(matches) => read_command(alloc, name, &matches),
+        Err(fault) => Err(fault),
+    }
+}
+
+/// What the words of the command line ask for, without the program's name.
+pub fn read_words(alloc: Global, words: &[Text]) -> Result<Command, WordsFault>
+    // Where clap's definition accepts them, and all that is needed can be read, they are a command.
+    ensures accepted { are_accepted words.now ≡ true → IsSome (command_in words.now) → result ≢ Err WordsFault.Usage }
+    // The command is the one that the matches give.
+    ensures found { IfOk result (λ command. command_in words.now ≡ Some command) }
+{
+    let [first, rest @ ..] = words else {
+        return Err(WordsFault::Usage);
+    };
+    let Some(name) = name_of(first.as_str()) else {
+        return Err(WordsFault::Usage);
+    };
+    let Ok(texts) = texts_of(alloc, rest) else {
+        return Err(WordsFault::Memory);
+    };
+    read_named(alloc, name, texts.as_slice())
+}
