@@ -1,0 +1,4 @@
+pub mod Lines
+pub mod Sampled
+pub mod Told
+pub mod Totals

@@ -1,0 +1,84 @@
+ghost use Rattle.std.specs.Prelude.{◌≡◌, ◌≢◌, ◌≤◌, ◌<◌, length, Some};
+ghost use Rattle.mesh_outside.specs.Causes.{Rose, Unrisen};
+ghost use Rattle.line_run.specs.Run.{OnEnd, OnStop, IsAnswered, IsTooLong};
+ghost use Rattle.gen_cluster.specs.Generated.{generated};
+ghost use Rattle.replay_core.specs.Headline.{StandsAtEnd};
+ghost use Rattle.replay_core.specs.Stand.{known_of};
+ghost use Rattle.cluster_sample.specs.Headline.{WritesSample, WritesSampleFront};
+
+use crate::counting::write_counts;
+use crate::counts::count_lines;
+use gen_cluster::cluster::generate;
+use line_run::Status;
+use mesh_base::limits::Limits;
+use mesh_hub::machine::Machine;
+use mesh_outside::{Patterns, Sink, SinkFault, SureSink, SureSource};
+use replay_core::replay::replay;
+use std::alloc::Global;
+use view_types::config::Config;
+
+/// Replays the lines of the generated cluster of n, and writes one line that counts them and what they write: refused
+/// lines, frames, the bytes of the frames with their first five, and verdicts.
+pub fn sample<H: Machine, K: Sink, P: Patterns>(
+    alloc: Global,
+    hub: &mut H,
+    config: &Config,
+    limits: &Limits,
+    n: u32,
+    out: &mut K,
+    patterns: &mut P,
+) -> Status
+    requires { 1 ≤ limits.now.frame_addrs }
+
+    // The lines were replayed to their end: the counts of what a replay writes were written, and a line was refused or none.
+    ensures output { OnEnd result (WritesSample config.now limits.now (known_of (P.tells patterns.old) (P.refuses patterns.old) (P.refusals patterns.old) (P.refusals patterns.new))
+        (H.state hub.old) (H.replies hub.old) (H.replies hub.new) n (K.held out.old) (K.held out.new)) }
+
+    // Else it is nothing, or a front of them.
+    ensures front { OnStop result (WritesSampleFront config.now limits.now (known_of (P.tells patterns.old) (P.refuses patterns.old) (P.refusals patterns.old) (P.refusals patterns.new))
+        (H.state hub.old) (H.replies hub.old) (H.replies hub.new) n (K.held out.old) (K.held out.new)) }
+
+    // The machine then stands where the lines lead.
+    ensures state { OnEnd result (λ refused. StandsAtEnd config.now limits.now (H.state hub.old) (H.state hub.new) (Some (generated n))) }
+
+    // The count of refusals hasn't fallen.
+    ensures later { P.refusals patterns.old ≤ P.refusals patterns.new }
+
+    // When each status comes.
+    ensures read { result ≢ Status.ReadFault }
+    ensures write { result ≡ Status.WriteFault → Rose (K.faults out.old) (K.faults out.new) }
+    ensures long { result ≡ Status.InputTooLong → limits.now.input ≤ length (generated n) }
+    ensures complete { Unrisen (K.faults out.old) (K.faults out.new) → length (generated n) < limits.now.input → IsAnswered result }
+    ensures too_long { Unrisen (K.faults out.old) (K.faults out.new) → limits.now.input ≤ length (generated n) → IsTooLong result }
+    ensures usage { result ≢ Status.Usage }
+{
+    let Ok(lines) = generate(alloc, n) else {
+        return Status::Memory;
+    };
+    let mut input = SureSource {
+        bytes: lines.as_slice(),
+    };
+    let mut written = SureSink {
+        bytes: Vec::new(alloc),
+    };
+    let status = replay(
+        alloc,
+        hub,
+        config,
+        limits,
+        &mut input,
+        &mut written,
+        patterns,
+    );
+    match status {
+        Status::Done | Status::SomeRefused => {
+            let count = count_lines(lines.as_slice());
+            match write_counts(alloc, limits, n, count, &written.bytes, out) {
+                Ok(()) => status,
+                Err(SinkFault::Failed) => Status::WriteFault,
+                Err(SinkFault::Memory) => Status::Memory,
+            }
+        }
+        stopped => stopped,
+    }
+}
