@@ -1,0 +1,39 @@
+-- That a subscriber's frames and the objects agree: who folds the output of a replay is written the lines of the view that filters over
+-- the objects give.
+use Rattle.std.specs.Prelude.{◌≡◌, ◌<◌, ◌≤◌, ◌^◌, ℕ, Bool, List, Option, Some, length}
+use Rattle.std.specs.List.{AllByRecursion}
+use Rattle.line_run.specs.Rows.{lines_of}
+use Rattle.view_types.specs.declared.query.Method.{Method}
+use Rattle.view_types.specs.declared.query.Method.TheVariants.{Get, GetProfile, WatchPort, Watch}
+use Rattle.view_types.specs.declared.query.Query.{Query}
+use Rattle.view_types.specs.declared.query.Query.TheVariants as queries
+use Rattle.view_rules.specs.Views.{view_of}
+use Rattle.mesh_hub.specs.Fair.{AreFair}
+use Rattle.mesh_hub.specs.History.{Asked, after}
+use Rattle.mesh_hub.specs.Marks.{MarkedRow}
+use Rattle.mesh_hub.specs.Output.{output_after}
+use Rattle.mesh_hub.specs.Program.{Program}
+use Rattle.mesh_hub.specs.Sendable.{HasLimit, IsLawfulConfig}
+use Rattle.mesh_hub.specs.Sent.{IsDrained}
+use Rattle.replay_core.specs.Lengths.{LengthsFit}
+use Rattle.output_fold.specs.Folded.{folded_of, view_lines}
+
+-- the method that a query is asked by
+abbrev pub method_for : Query → Method
+method_for (queries.Get ns name port ctx) = Get
+method_for (queries.Profile target ctx) = GetProfile
+method_for (queries.Port ns pod port) = WatchPort
+method_for (queries.Traffic target) = Watch
+
+-- no line of a text is longer than the limit
+abbrev pub LinesAreWithin : ℕ → List ℕ → Type 0
+LinesAreWithin limit text = AllByRecursion (λ (line : List ℕ). length line ≤ limit) (lines_of text)
+
+-- Whoever folds the output of a replay for an id that is live at its end, and is sent all that is due to it there, is written the
+-- lines of the view over the objects: each message that leads to it from none, or how long the first is that is too long.
+abbrev pub FoldAgrees : Program → Type 0
+FoldAgrees program = 1 ≤ program.limits.frame_addrs → IsLawfulConfig program.config → HasLimit program
+    → (refuses : Option (List ℕ → Bool)) (past : List MarkedRow) → length past < 2 ^ 64 → AreFair program refuses past → LengthsFit program past
+    → (id : ℕ) (asked : Asked) → IsDrained program past id asked → LinesAreWithin program.limits.line (output_after program past)
+    → folded_of (method_for asked.query) id program.limits (output_after program past)
+    ≡ view_lines id program.limits (Some (view_of program.config (after program past).objects asked.query))
