@@ -1,20 +1,17 @@
 //! The program: the destination and policy controllers of a Linkerd 2 control plane, over a recorded feed.
 //!
-//! Stands on replay_core and output_fold for what the commands do, on mesh_outside for standard input and output, and on
-//! regex_patterns for the regular expressions of routes. `main` hands the words of the command line to `top`, whose contract
-//! cites `specs/Command` and the `specs/Headline` of replay_core and output_fold; what standard error is told is `report`.
+//! Stands on command_words for the words of the command line, on replay_core, diagnosis, output_fold and cluster_sample for
+//! what the commands do, on mesh_outside for standard input and output, on regex_patterns for the regular expressions of
+//! routes, and on run_report for what standard error is told. `main` hands the words to `top`, whose contract cites
+//! `specs/Commands` of command_words and `specs/Headline` of each crate that does a command.
 #![tactic(auto)]
 
 mod command;
 mod exit;
-mod report;
-mod tally;
 mod top;
 
 use crate::command::words_of;
 use crate::exit::exit_code;
-use crate::report::Report;
-use crate::tally::Tally;
 use crate::top::{Outcome, top};
 use line_run::Status;
 use mesh_base::limits::Limits;
@@ -22,8 +19,9 @@ use mesh_base::memory::Memory;
 use mesh_hub::hub::Hub;
 use mesh_outside::{ReadSource, WriteSink};
 use regex_patterns::RegexPatterns;
+use run_report::{InputTally, OutputTally, Progress, Report, Run, StartTime};
 use std::alloc::Global;
-use std::io::IsTerminal;
+use std::io::{IsTerminal, Stderr};
 use std::process::ExitCode;
 use view_types::config::Config;
 
@@ -32,8 +30,30 @@ fn new_hub(alloc: Global) -> Result<Hub, Memory> {
     Hub::new(alloc, Config::usual(alloc)?, Limits::usual())
 }
 
+// The terminal that progress is shown on. Where the input is typed, there is none: its lines stand on the screen themselves.
+fn screen(rt: &HostRuntime) -> Option<Stderr> {
+    if rt.stdin().is_terminal() || !rt.stderr().is_terminal() {
+        return None;
+    }
+    Some(rt.stderr())
+}
+
+fn progress(rt: &HostRuntime, start: StartTime) -> Option<Progress<&HostRuntime, Stderr>> {
+    Some(Progress::new(rt, start, screen(rt)?))
+}
+
+// The same terminal, where the output goes there, too.
+fn output_screen(rt: &HostRuntime) -> Option<Stderr> {
+    if rt.stdout().is_terminal() {
+        screen(rt)
+    } else {
+        None
+    }
+}
+
 // What the words of the command line come to.
 fn run(rt: &HostRuntime) -> Report {
+    let start = StartTime::now(rt);
     let words = match words_of(rt) {
         Ok(words) => words,
         Err(status) => return Report::of(status),
@@ -41,8 +61,8 @@ fn run(rt: &HostRuntime) -> Report {
     let Ok(mut hub) = new_hub(rt.alloc()) else {
         return Report::of(Status::Memory);
     };
-    let mut input = ReadSource::new(rt.stdin());
-    let mut out = Tally::new(WriteSink::new(rt.stdout()));
+    let mut input = InputTally::new(ReadSource::new(rt.stdin()), progress(rt, start));
+    let mut out = OutputTally::new(WriteSink::new(rt.stdout()), output_screen(rt));
     let Outcome::Ended(status) = top(
         rt.alloc(),
         &words,
@@ -52,10 +72,14 @@ fn run(rt: &HostRuntime) -> Report {
         &mut out,
         &mut RegexPatterns::new(rt.alloc()),
     );
-    Report {
+    Report::after(
         status,
-        counts: out.counts,
-    }
+        Run {
+            read: input.end(),
+            written: out.counts,
+            elapsed: start.elapsed(rt),
+        },
+    )
 }
 
 fn main(rt: HostRuntime) -> ExitCode {

@@ -1,95 +1,79 @@
-use crate::command::status_without_words;
-use crate::report::Report;
-use crate::tally::Tally;
+use crate::command::{status_without_words, words_of};
 use line_run::Status;
-use mesh_outside::{Sink, SureSink};
+use std::alloc::Global;
+use std::env::{Env, FillError};
 use std::io::ErrorKind;
 use std::test::Fail;
 
-// What standard error is told, with and without a terminal.
 #[test]
-fn reports(rt: HostRuntime) -> Result<(), Fail> {
-    let alloc = rt.alloc();
-    for (status, expected) in [
-        (Status::Done, ""),
-        (Status::SomeRefused, ""),
-        (Status::Usage, "usage: linkerd_cli replay|fold\n"),
-        (Status::Memory, "linkerd_cli: out of memory\n"),
-        (
-            Status::ReadFault,
-            "linkerd_cli: reading standard input failed\n",
-        ),
-        (
-            Status::WriteFault,
-            "linkerd_cli: writing standard output failed\n",
-        ),
-        (
-            Status::InputTooLong,
-            "linkerd_cli: standard input has the limit of 4294967296 bytes or more\n",
-        ),
-    ] {
-        let report = Report::of(status);
-        for is_terminal in [false, true] {
-            let text = report.text(is_terminal);
-            assert_eq!(rt; format!(in alloc; "{text}")?.as_str(), expected);
-        }
-    }
-    Ok(())
-}
-
-// The counts of what went through, in pieces of each length, and what a terminal is told of them.
-#[test]
-fn refusals(rt: HostRuntime) -> Result<(), Fail> {
-    let alloc = rt.alloc();
-    for (output, refused, not_json, expected) in [
-        ("frame 1 00\nrefused", 0, 0, ""),
-        (
-            "refused 1 NoForm\n",
-            1,
-            0,
-            "linkerd_cli: 1 line was refused\n",
-        ),
-        (
-            "refused 1 NotJson\nframe 1 00\nrefused 22 NotJson\nrefused 3 NoForm\n",
-            3,
-            2,
-            "linkerd_cli: 3 lines were refused\nlinkerd_cli: indented JSON must be put on one line first, as by jq -c .\n",
-        ),
-        (
-            "refused 1 NotJsonx\n refused 2 NotJson\nrefused 3 Not\nrefusal 4 NotJson\nrefused 5 NotJson\n",
-            3,
-            1,
-            "linkerd_cli: 3 lines were refused\n",
-        ),
-    ] {
-        for size in 1..9 {
-            let mut tally = Tally::new(SureSink {
-                bytes: Vec::new(alloc),
-            });
-            for piece in output.as_bytes().chunks(size) {
-                assert_eq!(rt; tally.write(piece), Ok(piece.len()));
-            }
-            assert_eq!(rt; tally.counts.refused, refused, "at {output}");
-            assert_eq!(rt; tally.counts.not_json, not_json, "at {output}");
-            let report = Report {
-                status: Status::SomeRefused,
-                counts: tally.counts,
-            };
-            let text = report.text(true);
-            assert_eq!(rt; format!(in alloc; "{text}")?.as_str(), expected);
-            let text = report.text(false);
-            assert_eq!(rt; format!(in alloc; "{text}")?.as_str(), "");
-        }
-    }
-    Ok(())
-}
-
-#[test]
-fn words_that_cannot_be_had(rt: HostRuntime) -> Result<(), Fail> {
+fn words_that_cannot_be_had(rt: HostRuntime) {
     assert_eq!(rt;
         status_without_words(ErrorKind::OutOfMemory),
         Status::Memory
     );
     assert_eq!(rt; status_without_words(ErrorKind::InvalidData), Status::Usage);
+}
+
+// The arguments of a program that is called with one word.
+#[derive(Clone, Copy, Drop)]
+struct OneWord<'a> {
+    word: &'a [u8],
+}
+
+impl<'a> Env for OneWord<'a> {
+    fn arg(&self, i: usize, buf: &mut [u8]) -> Result<usize, FillError> {
+        let argument = match i {
+            0 => b"linkerd_cli" as &[u8],
+            1 => self.word,
+            _ => return Err(FillError::NotPresent),
+        };
+        let size = argument.len();
+        let Some(start) = buf.get_mut(..size) else {
+            return Err(FillError::TooLong);
+        };
+        start.copy_from_slice(argument);
+        Ok(size)
+    }
+
+    fn var(&self, _name: &str, _buf: &mut [u8]) -> Result<usize, FillError> {
+        Err(FillError::NotPresent)
+    }
+
+    fn var_at(&self, _i: usize, _buf: &mut [u8]) -> Result<usize, FillError> {
+        Err(FillError::NotPresent)
+    }
+}
+
+// The word of arguments, or why it can't be had.
+fn word_of(alloc: Global, word: &[u8]) -> Result<Result<String, Status>, Fail> {
+    let words = match words_of(&(OneWord { word }, alloc)) {
+        Ok(words) => words,
+        Err(status) => return Ok(Err(status)),
+    };
+    let mut text = String::new(alloc);
+    for word in &words {
+        text.push_str(word.as_str())?;
+        text.push_str(";")?;
+    }
+    Ok(Ok(text))
+}
+
+// The words are all arguments but the name. One that isn't UTF-8 is no command.
+#[test]
+fn words_of_arguments(rt: HostRuntime) -> Result<(), Fail> {
+    let alloc = rt.alloc();
+    let words = word_of(alloc, b"replay")?;
+    assert!(rt; words.is_ok_and(|words| words.as_str() == "replay;"));
+    let words = word_of(alloc, b"")?;
+    assert!(rt; words.is_ok_and(|words| words.as_str() == ";"));
+    for bytes in [
+        b"\xff" as &[u8],
+        b"replay\xff",
+        b"\xc3\x28",
+        b"\xed\xa0\x80",
+    ] {
+        let words = word_of(alloc, bytes)?;
+        assert!(rt; words.is_err_and(|status| status == Status::Usage));
+    }
     Ok(())
 }

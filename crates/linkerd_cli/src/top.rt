@@ -1,17 +1,25 @@
-ghost use Rattle.std.specs.Prelude.{◌≡◌, ◌≢◌, ◌↔◌, ◌≤◌, ◌<◌, ℕ, List, length, Some};
+ghost use Rattle.std.specs.Prelude.{◌≡◌, ◌≢◌, ◌≤◌, ◌<◌, ℕ, IsSome, List, None, Some, length, true};
 ghost use Rattle.mesh_outside.specs.Causes.{Rose, Unrisen};
-ghost use Rattle.line_run.specs.Run.{OnEnd, OnStop, TookLimit, IsAnswered, IsTooLong};
-ghost use Rattle.view_types.specs.Defaults.{usual_config};
+ghost use Rattle.line_run.specs.Run.{TookLimit, IsAnswered, IsTooLong};
+ghost use Rattle.gen_cluster.specs.Generated.{generated};
 ghost use Rattle.replay_core.specs.Headline.{StandsAtEnd, WritesFront, WritesOutput, WritesPlain, WritesSaid};
 ghost use Rattle.replay_core.specs.Stand.{known_of};
 ghost use Rattle.output_fold.specs.Headline.{WritesFolded, WritesFoldedFront};
-ghost use Rattle.linkerd_cli.specs.Command.{IsCommand, IsFold, IsReplay, fold_asked};
-ghost use Rattle.linkerd_cli.specs.Outcome.{EndsWith};
-ghost use Rattle.linkerd_cli.specs.declared.command.FoldAsked.{FoldAsked};
+ghost use Rattle.diagnosis.specs.Headline.{WritesDiagnosed, WritesDiagnosedFront};
+ghost use Rattle.cluster_sample.specs.Headline.{WritesSample, WritesSampleFront};
+ghost use Rattle.command_words.specs.Apps.{are_accepted};
+ghost use Rattle.command_words.specs.Commands.{command_in};
+ghost use Rattle.command_words.specs.declared.command.Command.TheVariants as commands;
+ghost use Rattle.linkerd_cli.specs.Outcome.{Asks, AtEnd, AtStop, EndsWith, IsUnread, read_by};
 
-use crate::command::{fold_asked, is_replay};
+use cluster_sample::sample::sample;
+use command_words::command::Command;
+use command_words::fault::WordsFault;
+use command_words::words::read_words;
+use diagnosis::diagnose::diagnose;
 use line_run::Status;
 use mesh_base::limits::Limits;
+use mesh_base::sub_id::SubId;
 use mesh_base::text::Text;
 use mesh_hub::machine::Machine;
 use mesh_outside::{Patterns, Sink, Source};
@@ -19,6 +27,7 @@ use output_fold::fold::fold_file;
 use replay_core::replay::replay;
 use std::alloc::Global;
 use view_types::config::Config;
+use view_types::query::{Method, Query};
 
 /// What a call of the program came to.
 #[derive(Clone, Copy, Debug, PartialEq, Eq)]
@@ -39,57 +48,104 @@ pub fn top<H: Machine, S: Source, K: Sink, P: Patterns>(
 ) -> Outcome
     requires { 1 ≤ limits.now.frame_addrs }
 
-    // A replay that read to the end, where the machine tells what it holds: what was written is the defined output, in which
+    // ---- which words are a command
+
+    // Where clap's definition accepts the words, and all that the command needs can be read, they aren't refused.
+    ensures usage { are_accepted words.now ≡ true → IsSome (command_in words.now) → EndsWith result (λ status. status ≢ Status.Usage) }
+    // Words that give no command are refused, unless memory ran out.
+    ensures refused { command_in words.now ≡ None → EndsWith result IsUnread }
+    // In both cases nothing was read or written.
+    ensures untouched { EndsWith result (λ status. status ≡ Status.Usage → (hub.new ≡ hub.old) × (input.new ≡ input.old) × (out.new ≡ out.old) × (patterns.new ≡ patterns.old)) }
+    ensures unread { command_in words.now ≡ None → (hub.new ≡ hub.old) × (input.new ≡ input.old) × (out.new ≡ out.old) × (patterns.new ≡ patterns.old) }
+
+    // ---- replay
+
+    // Read to the end, where the machine tells what it holds: what was written is the defined output, in which
     // simulations may have met patterns that are refused, at most as many as refusals rose, and a line was refused or none.
-    ensures output { IsReplay words.now → EndsWith result (λ status. OnEnd status (WritesOutput usual_config limits.now (known_of (P.tells patterns.old) (P.refuses patterns.old) (P.refusals patterns.old) (P.refusals patterns.new))
-        (H.state hub.old) (S.left input.old) (K.held out.old) (K.held out.new))) }
+    ensures output { (config : Config) → command_in words.now ≡ Some (commands.Replay config) → AtEnd result (WritesOutput config limits.now
+        (known_of (P.tells patterns.old) (P.refuses patterns.old) (P.refusals patterns.old) (P.refusals patterns.new)) (H.state hub.old) (S.left input.old) (K.held out.old) (K.held out.new)) }
 
     // Where no pattern was refused, no simulation met one.
-    ensures quiet { IsReplay words.now → EndsWith result (λ status. OnEnd status (WritesPlain usual_config limits.now (known_of (P.tells patterns.old) (P.refuses patterns.old) (P.refusals patterns.old) (P.refusals patterns.new))
-        (H.state hub.old) (S.left input.old) (K.held out.old) (K.held out.new))) }
+    ensures quiet { (config : Config) → command_in words.now ≡ Some (commands.Replay config) → AtEnd result (WritesPlain config limits.now
+        (known_of (P.tells patterns.old) (P.refuses patterns.old) (P.refusals patterns.old) (P.refusals patterns.new)) (H.state hub.old) (S.left input.old) (K.held out.old) (K.held out.new)) }
 
     // The machine then stands where the input leads.
-    ensures state { IsReplay words.now → EndsWith result (λ status. OnEnd status (λ refused. StandsAtEnd usual_config limits.now (H.state hub.old) (H.state hub.new) (S.left input.old))) }
+    ensures state { (config : Config) → command_in words.now ≡ Some (commands.Replay config) → AtEnd result (λ refused. StandsAtEnd config limits.now (H.state hub.old) (H.state hub.new) (S.left input.old)) }
 
     // Where it tells its replies, what was written is what they and the lines say.
-    ensures said { IsReplay words.now → EndsWith result (λ status. OnEnd status (WritesSaid usual_config limits.now (H.replies hub.old) (H.replies hub.new) (S.left input.old) (K.held out.old) (K.held out.new))) }
+    ensures said { (config : Config) → command_in words.now ≡ Some (commands.Replay config) → AtEnd result (WritesSaid config limits.now
+        (H.replies hub.old) (H.replies hub.new) (S.left input.old) (K.held out.old) (K.held out.new)) }
 
     // Else it is a front of the defined output.
-    ensures front { IsReplay words.now → EndsWith result (λ status. OnStop status (WritesFront usual_config limits.now (known_of (P.tells patterns.old) (P.refuses patterns.old) (P.refusals patterns.old) (P.refusals patterns.new))
-        (H.state hub.old) (S.left input.old) (K.held out.old) (K.held out.new))) }
+    ensures front { (config : Config) → Asks words.now (commands.Replay config) → AtStop result (WritesFront config limits.now
+        (known_of (P.tells patterns.old) (P.refuses patterns.old) (P.refusals patterns.old) (P.refusals patterns.new)) (H.state hub.old) (S.left input.old) (K.held out.old) (K.held out.new)) }
+
+    // ---- diagnose
+
+    // Read to the end: what was written is the defined text, and a line was refused or none. Else it is a front of that text.
+    // The machine stays as it is.
+    ensures diagnosed { (id : SubId) (query : Query) (config : Config) → command_in words.now ≡ Some (commands.Diagnose id query config)
+        → AtEnd result (WritesDiagnosed config limits.now id.0 query (S.left input.old) (K.held out.old) (K.held out.new)) }
+    ensures diagnosed_front { (id : SubId) (query : Query) (config : Config) → Asks words.now (commands.Diagnose id query config)
+        → AtStop result (WritesDiagnosedFront config limits.now id.0 query (S.left input.old) (K.held out.old) (K.held out.new)) }
+    ensures undiagnosed { (id : SubId) (query : Query) (config : Config) → command_in words.now ≡ Some (commands.Diagnose id query config) → (hub.new ≡ hub.old) × (patterns.new ≡ patterns.old) }
+
+    // ---- fold
+
+    // Read to the end: what was written is the defined text, and a line didn't read or none. Else it is a front of that text.
+    // The machine stays as it is.
+    ensures folded { (id : SubId) (method : Method) → command_in words.now ≡ Some (commands.Fold id method)
+        → AtEnd result (WritesFolded method id.0 limits.now (S.left input.old) (K.held out.old) (K.held out.new)) }
+    ensures folded_front { (id : SubId) (method : Method) → Asks words.now (commands.Fold id method)
+        → AtStop result (WritesFoldedFront method id.0 limits.now (S.left input.old) (K.held out.old) (K.held out.new)) }
+    ensures unheld { (id : SubId) (method : Method) → command_in words.now ≡ Some (commands.Fold id method) → (hub.new ≡ hub.old) × (patterns.new ≡ patterns.old) }
+
+    // ---- sample
+
+    // The lines of the generated cluster were replayed to their end: the counts of what a replay writes were written, and a
+    // line was refused or none. Else it is nothing, or a front of them.
+    ensures sampled { (n : ℕ) (config : Config) → command_in words.now ≡ Some (commands.Sample n config) → AtEnd result (WritesSample config limits.now
+        (known_of (P.tells patterns.old) (P.refuses patterns.old) (P.refusals patterns.old) (P.refusals patterns.new)) (H.state hub.old) (H.replies hub.old) (H.replies hub.new) n (K.held out.old) (K.held out.new)) }
+    ensures sampled_front { (n : ℕ) (config : Config) → Asks words.now (commands.Sample n config) → AtStop result (WritesSampleFront config limits.now
+        (known_of (P.tells patterns.old) (P.refuses patterns.old) (P.refusals patterns.old) (P.refusals patterns.new)) (H.state hub.old) (H.replies hub.old) (H.replies hub.new) n (K.held out.old) (K.held out.new)) }
+
+    // The machine then stands where the lines lead.
+    ensures sampled_state { (n : ℕ) (config : Config) → command_in words.now ≡ Some (commands.Sample n config)
+        → AtEnd result (λ refused. StandsAtEnd config limits.now (H.state hub.old) (H.state hub.new) (Some (generated n))) }
+
+    // The input isn't read.
+    ensures sampled_alone { (n : ℕ) (config : Config) → command_in words.now ≡ Some (commands.Sample n config) → (input.new ≡ input.old) × EndsWith result (λ status. status ≢ Status.ReadFault) }
+
+    // ---- any command
 
     // The count of refusals hasn't fallen.
     ensures later { P.refusals patterns.old ≤ P.refusals patterns.new }
 
-    // A fold that read to the end: what was written is the defined text, and a line didn't read or none. Else it is a front
-    // of the defined text. The machine stays as it is.
-    ensures folded { (asked : FoldAsked) → fold_asked words.now ≡ Some asked → EndsWith result (λ status. OnEnd status (WritesFolded asked.method asked.id.0 limits.now (S.left input.old) (K.held out.old) (K.held out.new))) }
-    ensures folded_front { (asked : FoldAsked) → fold_asked words.now ≡ Some asked → EndsWith result (λ status. OnStop status (WritesFoldedFront asked.method asked.id.0 limits.now (S.left input.old) (K.held out.old) (K.held out.new))) }
-    ensures unheld { IsFold words.now → (hub.new ≡ hub.old) × (patterns.new ≡ patterns.old) }
-
-    // For words that are no command nothing was read or written.
-    ensures usage { EndsWith result (λ status. (status ≡ Status.Usage) ↔ (¬ IsCommand words.now)) }
-    ensures untouched { EndsWith result (λ status. status ≡ Status.Usage → (hub.new ≡ hub.old) × (input.new ≡ input.old) × (out.new ≡ out.old) × (patterns.new ≡ patterns.old)) }
-
     // When each other status comes.
     ensures read { EndsWith result (λ status. status ≡ Status.ReadFault → Rose (S.faults input.old) (S.faults input.new)) }
     ensures write { EndsWith result (λ status. status ≡ Status.WriteFault → Rose (K.faults out.old) (K.faults out.new)) }
-    ensures long { EndsWith result (λ status. status ≡ Status.InputTooLong → TookLimit limits.now.input (S.left input.old)) }
-    ensures complete { IsCommand words.now → EndsWith result (λ status. Unrisen (S.faults input.old) (S.faults input.new) → Unrisen (K.faults out.old) (K.faults out.new)
-        → (bytes : List ℕ) → S.left input.old ≡ Some bytes → length bytes < limits.now.input → IsAnswered status) }
-    ensures too_long { IsCommand words.now → EndsWith result (λ status. Unrisen (S.faults input.old) (S.faults input.new) → Unrisen (K.faults out.old) (K.faults out.new)
-        → (bytes : List ℕ) → S.left input.old ≡ Some bytes → limits.now.input ≤ length bytes → IsTooLong status) }
+    ensures long { (command : Command) → command_in words.now ≡ Some command → EndsWith result (λ status. status ≡ Status.InputTooLong → TookLimit limits.now.input (read_by command (S.left input.old))) }
+    ensures complete { (command : Command) → Asks words.now command → EndsWith result (λ status. Unrisen (S.faults input.old) (S.faults input.new) → Unrisen (K.faults out.old) (K.faults out.new)
+        → (bytes : List ℕ) → read_by command (S.left input.old) ≡ Some bytes → length bytes < limits.now.input → IsAnswered status) }
+    ensures too_long { (command : Command) → Asks words.now command → EndsWith result (λ status. Unrisen (S.faults input.old) (S.faults input.new) → Unrisen (K.faults out.old) (K.faults out.new)
+        → (bytes : List ℕ) → read_by command (S.left input.old) ≡ Some bytes → limits.now.input ≤ length bytes → IsTooLong status) }
 {
-    if is_replay(words) {
-        let Ok(config) = Config::usual(alloc) else {
-            return Outcome::Ended(Status::Memory);
-        };
-        return Outcome::Ended(replay(alloc, hub, &config, limits, input, out, patterns));
+    match read_words(alloc, words) {
+        Ok(Command::Replay(config)) => {
+            Outcome::Ended(replay(alloc, hub, &config, limits, input, out, patterns))
+        }
+        Ok(Command::Diagnose { id, query, config }) => {
+            Outcome::Ended(diagnose(alloc, &config, limits, id, &query, input, out))
+        }
+        Ok(Command::Fold { id, method }) => {
+            Outcome::Ended(fold_file(alloc, method, id, limits, input, out))
+        }
+        Ok(Command::Sample { n, config }) => {
+            Outcome::Ended(sample(alloc, hub, &config, limits, n, out, patterns))
+        }
+        Err(WordsFault::Usage) => Outcome::Ended(Status::Usage),
+        Err(WordsFault::Memory) => Outcome::Ended(Status::Memory),
     }
-    let Some(asked) = fold_asked(words) else {
-        return Outcome::Ended(Status::Usage);
-    };
-    Outcome::Ended(fold_file(alloc, asked.method, asked.id, limits, input, out))
 }
 
 #[cfg(test)]

@@ -1,8 +1,10 @@
 mod cases;
+mod commands;
 mod drains;
 mod folds;
 mod inbound;
 mod lines;
+mod options;
 mod outbound;
 mod pods;
 mod profiles;
@@ -11,9 +13,7 @@ mod script;
 mod simulations;
 mod verdicts;
 
-ghost use Rattle.std.specs.Prelude.{◌<◌, ◌≤◌, length};
-ghost use Rattle.line_run.specs.Run.{IsAnswered, IsTooLong};
-ghost use Rattle.linkerd_cli.specs.Command.{IsCommand};
+ghost use Rattle.std.specs.Prelude.{◌≤◌};
 
 use super::{Outcome, top};
 use crate::top::tests::cases::holds_within;
@@ -76,8 +76,6 @@ fn replayed(
     out: &mut SureSink,
 ) -> Status
     requires { 1 ≤ limits.now.frame_addrs }
-    ensures complete { IsCommand words.now → length bytes.now < limits.now.input → IsAnswered result }
-    ensures too_long { IsCommand words.now → limits.now.input ≤ length bytes.now → IsTooLong result }
 {
     let Ok(mut hub) = hub_of(alloc) else {
         return Status::Memory;
@@ -250,6 +248,30 @@ fn long_lines(rt: HostRuntime) -> Result<(), Fail> {
     Ok(())
 }
 
+// How words end over a source and a sink.
+fn tried(
+    alloc: Global,
+    words: &str,
+    limits: &Limits,
+    input: &mut MemSource,
+    out: &mut MemSink,
+) -> Result<Status, Fail>
+    requires { 1 ≤ limits.now.frame_addrs }
+{
+    let words = words_of(alloc, words)?;
+    let mut hub = hub_of(alloc)?;
+    let Outcome::Ended(status) = top(
+        alloc,
+        &words,
+        limits,
+        &mut hub,
+        input,
+        out,
+        &mut RegexPatterns::new(alloc),
+    );
+    Ok(status)
+}
+
 // How a replay of three lines ends where these reads and writes fail and the input has this limit, and how many bytes are
 // written.
 fn failing(
@@ -260,20 +282,10 @@ fn failing(
 ) -> Result<(Status, usize), Fail>
     requires { 1 ≤ limits.now.frame_addrs }
 {
-    let words = words_of(alloc, "replay")?;
     let text = format!(in alloc; "{SERVICE}\n{SLICE}\n{GET}\n")?;
     let mut input = source_of(alloc, &text, reads)?;
     let mut out = sink_of(alloc, writes)?;
-    let mut hub = hub_of(alloc)?;
-    let Outcome::Ended(status) = top(
-        alloc,
-        &words,
-        limits,
-        &mut hub,
-        &mut input,
-        &mut out,
-        &mut RegexPatterns::new(alloc),
-    );
+    let status = tried(alloc, "replay", limits, &mut input, &mut out)?;
     Ok((status, out.bytes.len()))
 }
 
@@ -293,17 +305,6 @@ fn faults_and_limits(rt: HostRuntime) -> Result<(), Fail> {
     let (status, written) = failing(alloc, &[], &[], &Limits::USUAL)?;
     assert_eq!(rt; status, Status::Done);
     assert!(rt; written > 0);
-    Ok(())
-}
-
-#[test]
-fn words_that_are_no_command(rt: HostRuntime) -> Result<(), Fail> {
-    let alloc = rt.alloc();
-    for words in ["", "replya", "replay replay", " ", "replay "] {
-        let (status, written) = run_of(alloc, &Limits::USUAL, words, GET)?;
-        assert_eq!(rt; status, Status::Usage, "at {words}");
-        assert!(rt; written.is_empty(), "at {words}");
-    }
     Ok(())
 }
 

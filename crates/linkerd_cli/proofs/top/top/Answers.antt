@@ -1,11 +1,10 @@
-use Rattle.view_types.specs.Defaults.{usual_config}
 use Rattle.replay_core.specs.Stand.{known_of}
 use Rattle.replay_core.proofs.Fronts.{nothing_written}
 use Rattle.replay_core.proofs.Marks.{at_most}
 use Rattle.linkerd_cli.proofs.top.top.Goals as goal
 
-pub returns-in_default-clause-front : goal.returns-in_default-clause-front
-returns-in_default-clause-front g c =
+pub returns-in-Err-Memory-clause-front : goal.returns-in-Err-Memory-clause-front
+returns-in-Err-Memory-clause-front g c =
     let patterns = c.args.patterns.now in
     let known = known_of (g.P.Patterns.tells patterns) (g.P.Patterns.refuses patterns) (g.P.Patterns.refusals patterns) (g.P.Patterns.refusals patterns) in
-    λ is. nothing_written usual_config c.args.limits.now known (g.H.Machine.state c.args.hub.now) (g.S.Source.left c.args.input.now) (g.K.Sink.held c.args.out.now) (at_most _)
+    λ config asks. nothing_written config c.args.limits.now known (g.H.Machine.state c.args.hub.now) (g.S.Source.left c.args.input.now) (g.K.Sink.held c.args.out.now) (at_most _)

@@ -47,15 +47,29 @@ fn output_of(alloc: Global, names: &'static str, outputs: &str) -> Result<String
 
 // How a run ends that writes this.
 pub fn status_of(output: &str) -> Status {
-    if output.contains("refused ") {
-        Status::SomeRefused
-    } else {
-        Status::Done
+    for line in output.lines() {
+        if line.starts_with("refused ") {
+            return Status::SomeRefused;
+        }
     }
+    Status::Done
 }
 
-// Whether a case holds: `what it is about: names of lines => what is written`.
+// Whether a case holds for a replay: `what it is about: names of lines => what is written`.
 pub fn holds(alloc: Global, limits: &Limits, names: &'static str, row: &str) -> Result<bool, Fail>
+    requires { 1 ≤ limits.now.frame_addrs }
+{
+    holds_by(alloc, limits, names, "replay", row)
+}
+
+// Whether a case holds for a command.
+pub fn holds_by(
+    alloc: Global,
+    limits: &Limits,
+    names: &'static str,
+    command: &str,
+    row: &str,
+) -> Result<bool, Fail>
     requires { 1 ≤ limits.now.frame_addrs }
 {
     let Some((_, case)) = row.split_once(": ") else {
@@ -66,7 +80,7 @@ pub fn holds(alloc: Global, limits: &Limits, names: &'static str, row: &str) -> 
     };
     let text = input_of(alloc, names, words)?;
     let expected = output_of(alloc, names, outputs)?;
-    let (status, written) = run_of(alloc, limits, "replay", &text)?;
+    let (status, written) = run_of(alloc, limits, command, &text)?;
     Ok(status == status_of(&expected) && written.as_str() == expected.as_str())
 }
 

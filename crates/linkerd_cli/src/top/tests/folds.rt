@@ -220,8 +220,9 @@ fold --id 1 --method get => usage
 fold --id 7 --method WatchPort => nothing
 fold --id 7 --method Watch => nothing
 fold --id 1 --method watch => usage
-fold --id=1 --method=Get => usage
-fold --method Get --id 1 => usage
+fold --id=1 --method=Get => view 1 00000000021a00
+fold --method Get --id 1 => view 1 00000000021a00
+fold --method=Get --id 1 => view 1 00000000021a00
 fold --id 1 --method => usage
 fold --id 1 --method Get --id => usage
 fold => usage

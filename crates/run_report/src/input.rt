@@ -1,0 +1,107 @@
+// Counts what is read.
+ghost use Rattle.std.specs.Prelude.{◌≡◌, ◌++◌, ℕ, List, [], take, IfOk, OnErr};
+ghost use Rattle.std.specs.Io.{ReadsAtMost};
+ghost use Rattle.std.specs.Io.KnownBytes.{ReadConsumes};
+ghost use Rattle.mesh_outside.specs.Causes.{HasCause};
+ghost use Rattle.run_report.specs.Counts.{AreCounts};
+
+use crate::lines::LineCount;
+use crate::progress::Progress;
+use mesh_outside::{Failed, Source};
+use std::io::Write;
+use std::time::Clock;
+
+/// How much was read.
+#[derive(Clone, Copy)]
+pub struct InputCounts {
+    /// Something was asked for.
+    pub was_asked: bool,
+    pub bytes: u64,
+    pub lines: LineCount,
+}
+
+impl InputCounts {
+    /// Nothing was read.
+    pub const NONE: InputCounts = InputCounts {
+        was_asked: false,
+        bytes: 0,
+        lines: LineCount::NONE,
+    };
+
+    fn new() -> InputCounts
+        ensures { AreCounts result [] }
+    {
+        InputCounts::NONE
+    }
+
+    fn take(&mut self, piece: &[u8])
+        ensures { (bytes : List ℕ) → AreCounts self.old bytes → AreCounts self.new (bytes ++ piece.now) }
+    {
+        self.was_asked = true;
+        self.bytes = self.bytes.saturating_add(piece.len() as u64);
+        self.lines.take(piece);
+    }
+}
+
+/// A source that passes all on from another, counts it, and shows it where there is a line for it.
+#[derive(Drop)]
+pub struct InputTally<S, C, W> {
+    source: S,
+    counts: InputCounts,
+    pub(crate) progress: Option<Progress<C, W>>,
+}
+
+impl<S: Source, C: Clock, W: Write> InputTally<S, C, W> {
+    pub fn new(source: S, progress: Option<Progress<C, W>>) -> InputTally<S, C, W>
+        ensures source { result.source ≡ source }
+        ensures counts { AreCounts result.counts [] }
+    {
+        InputTally {
+            source,
+            counts: InputCounts::new(),
+            progress,
+        }
+    }
+
+    /// What was read. No progress stands on the screen then.
+    pub fn end(&mut self) -> InputCounts
+        ensures source { self.new.source ≡ self.old.source }
+        ensures counts { result ≡ self.old.counts }
+    {
+        if let Some(progress) = &mut self.progress {
+            progress.clear();
+        }
+        self.counts
+    }
+}
+
+fn show<C: Clock, W: Write>(progress: &mut Option<Progress<C, W>>, bytes: u64) {
+    if let Some(progress) = progress {
+        progress.show(bytes);
+    }
+}
+
+impl<S: Source, C: Clock, W: Write> Source for InputTally<S, C, W> {
+    ghost left = { λ s. S.left s.source };
+
+    ghost faults = { λ s. S.faults s.source };
+
+    fn read(&mut self, buf: &mut [u8]) -> Result<usize, Failed>
+        ensures bound { ReadsAtMost result buf.new }
+        ensures bytes { ReadConsumes (S.left self.old.source) (S.left self.new.source) result buf.new }
+        ensures cause { HasCause (S.faults self.old.source) (S.faults self.new.source) result }
+
+        // What is given is counted.
+        ensures counts { (bytes : List ℕ) → AreCounts self.old.counts bytes → IfOk result (λ n. AreCounts self.new.counts (bytes ++ take n buf.new)) }
+        ensures same { OnErr result (self.new.counts ≡ self.old.counts) }
+    {
+        match self.source.read(buf) {
+            Ok(n) => {
+                self.counts.take(&buf[..n]);
+                show(&mut self.progress, self.counts.bytes);
+                Ok(n)
+            }
+            Err(fault) => Err(fault),
+        }
+    }
+}

@@ -1,0 +1,46 @@
+/// What is told for words that are no command, `--help` among them.
+pub(crate) const USAGE: &str = "\
+usage: linkerd_cli replay|diagnose|fold|sample
+
+  replay      reads a feed, and writes the frames that its subscribers are sent
+  diagnose    reads a feed, and writes the view of one query at its end
+  fold        reads what replay wrote, and writes the view of one subscriber
+  sample N    replays a generated cluster of N Services, 0 to 1000, and writes
+              one line of counts
+
+Input is standard input. A feed has one JSON value a line: watch events and
+lists of Kubernetes objects, and control lines, as docs/FEED.md describes.
+
+Options are written --name VALUE or --name=VALUE.
+
+Options of replay, diagnose and sample, with their defaults:
+  --cluster-domain NAME            cluster.local
+  --trust-domain NAME              cluster.local
+  --control-plane-namespace NAME   linkerd
+  --cluster-networks NETWORK,..
+      10.0.0.0/8,100.64.0.0/10,172.16.0.0/12,192.168.0.0/16
+  --default-policy POLICY          all-unauthenticated
+      or all-authenticated, cluster-unauthenticated, cluster-authenticated,
+      deny, audit
+
+Options of diagnose and fold, which need both:
+  --id ID                          0 to 4294967295
+  --method METHOD                  Get, GetProfile, WatchPort or Watch
+
+Options of diagnose, by method:
+  --path TARGET                    needed by Get, GetProfile and Watch:
+                                   NAME.NAMESPACE.svc.DOMAIN[:PORT], or for
+                                   GetProfile and Watch also IP[:PORT]
+  --workload NAMESPACE:POD         needed by WatchPort
+  --port PORT                      needed by WatchPort, 1 to 65535
+  --token TOKEN                    for Get and GetProfile: what a proxy says
+                                   about itself, as JSON
+
+Examples:
+  linkerd_cli replay < feed.jsonl
+  linkerd_cli diagnose --id 1 --method Get \\
+      --path web.app.svc.cluster.local:80 < feed.jsonl
+
+Exit status: 0 done, 1 done with refused lines, 2 usage, 3 out of memory,
+4 reading failed, 5 writing failed, 6 input too long.
+";
