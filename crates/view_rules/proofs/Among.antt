@@ -1,6 +1,6 @@
 -- The items of lists that are made of other lists.
 use Rattle.std.proofs.Common.{◌≡◌, ℕ, zero, suc, ◌<◌, ◌⊎◌, inl, inr, Bool, true, false, cond, List, [], ◌∷◌, ◌++◌, map, get_or, length, Option, Some, None, refl, sym, ap, subst, ◌∙◌, arith}
-use Rattle.std.specs.List.{Contains, filter, filter_map, cons_option, flat_map}
+use Rattle.std.specs.List.{AllByRecursion, Contains, filter, filter_map, cons_option, flat_map}
 
 -- x is an item
 abbrev pub Among : {X : Type 0} → X → List X → Type 0
@@ -21,6 +21,10 @@ contained (y ∷ ys) x h = elim h [
   | inl e ↦ (0, omega arith, e)
   | inr r ↦ let rest = contained ys x r in (suc rest.0, omega (arith, rest.1), rest.2)
 ]
+
+pub all_among : {X : Type 0} (P : X → Type 0) (xs : List X) → ((x : X) → Among x xs → P x) → AllByRecursion P xs
+all_among P [] each = tt
+all_among P (x ∷ xs) each = (each x (inl refl), all_among P xs (λ y at. each y (inr at)))
 
 pub among_map : {X Y : Type 0} (f : X → Y) (xs : List X) (x : X) → Among x xs → Among (f x) (map f xs)
 among_map f [] x h = absurd h

@@ -3,11 +3,12 @@ use Rattle.std.proofs.Common.{◌≡◌, Bool, true, false, cond, ◌&&◌, List
 use lib.Dec.{T}
 use Rattle.std.specs.FinMap.{FinMap, entries, entries_sorted, find, get, get-entries, is_sorted, values}
 use Rattle.std.specs.FinMap.Entries.{below_all}
+use Rattle.std.specs.List.{AllByRecursion}
 use Rattle.std.specs.Ordering.{eq_by_cmp, is_eq, is_lt, ordering_reverse}
 use Rattle.std.specs.Cmp.{IsTotalOrder, tied_itself}
 use Rattle.std.specs.declared.cmp.Ordering.{Ordering}
 use Rattle.std.specs.declared.cmp.Ordering.TheVariants.{Less, Equal, Greater}
-use Rattle.view_rules.proofs.Among.{Among, among_map, from_map}
+use Rattle.view_rules.proofs.Among.{Among, all_among, among_map, from_map}
 
 pub first : (a b : Bool) → T (a && b) → T a
 first true b p = tt
@@ -70,3 +71,7 @@ module _ {K V : Type 0} {R : K → K → Ordering} (o : IsTotalOrder R) where
   stands m k v is =
       let entry = entry_at m k v is in
       subst (λ v. Among v (values m)) entry.2 (among_map (λ (e : K × V). e.1) (entries m) entry.0 entry.1)
+
+  -- what holds of all that is held holds of each value
+  pub all_values : (P : V → Type 0) (m : FinMap R V) → ((k : K) (v : V) → get m k ≡ Some v → P v) → AllByRecursion P (values m)
+  all_values P m each = all_among P (values m) (λ v at. let place = held_somewhere m v at in each place.0 v place.1)

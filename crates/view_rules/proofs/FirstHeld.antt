@@ -24,15 +24,22 @@ fits_at (f ∷ fs) e fits at = elim at [ inl is ↦ subst (λ (e : Entry). key_o
 not_greater : (r : Ordering) → r ≡ Less → r ≢ Greater
 not_greater r e g = cc
 
-module _ (p : Object → Bool) where
-  first_passes : (os : List Object) (o : Object) → find p os ≡ Some o → (p o ≡ true) × Among o os
-  first_passes [] o e = absurd (cc e)
-  first_passes (x ∷ xs) o e =
-      elim (p x) as (λ b. p x ≡ b → cond b (Some x) (find p xs) ≡ Some o → (p o ≡ true) × Among o (x ∷ xs)) [
-        | true ↦ λ t e. let is : x ≡ o = cc e in (ap p (sym is) ∙ t, inl is)
-        | false ↦ λ t e. let rest = first_passes xs o e in (rest.0, inr rest.1)
-      ] refl e
+-- an object that is held and passes, and none that does comes before it
+pub record IsFirstHeld (p : Object → Bool) (held : ObjectMap) (o : Object) : Type 0 where
+  pub at_key : get held (key_of o) ≡ Some o
+  pub passes : p o ≡ true
+  pub least : (other : Object) → get held (key_of other) ≡ Some other → p other ≡ true → key_cmp (key_of o) (key_of other) ≢ Greater
 
+-- the first that passes is among them and passes
+pub first_passes : {X : Type 0} (p : X → Bool) (xs : List X) (x : X) → find p xs ≡ Some x → (p x ≡ true) × Among x xs
+first_passes p [] x e = absurd (cc e)
+first_passes p (y ∷ ys) x e =
+    elim (p y) as (λ b. p y ≡ b → cond b (Some y) (find p ys) ≡ Some x → (p x ≡ true) × Among x (y ∷ ys)) [
+      | true ↦ λ t e. let is : y ≡ x = cc e in (ap p (sym is) ∙ t, inl is)
+      | false ↦ λ t e. let rest = first_passes p ys x e in (rest.0, inr rest.1)
+    ] refl e
+
+module _ (p : Object → Bool) where
   first_least : (es : List Entry) (o : Object) → T (is_sorted key_cmp es) → Fits es → find p (map (λ (e : Entry). e.1) es) ≡ Some o
       → (e : Entry) → Among e es → p e.1 ≡ true → key_cmp (key_of o) (key_of e.1) ≢ Greater
   first_least [] o sorted fits found e at is = absurd at
@@ -53,16 +60,21 @@ module _ (p : Object → Bool) where
       ] refl found
 
   module _ (held : ObjectMap) (at_keys : AtKeys held) where
-    found_held : (o : Object) → find p (values held) ≡ Some o → get held (key_of o) ≡ Some o
-    found_held o found =
-        let somewhere = held_somewhere keys_total held o (first_passes (values held) o found).1 in
-        ap (get held) (at_keys somewhere.0 o somewhere.1) ∙ somewhere.1
+    pub first_passing : (o : Object) → find p (values held) ≡ Some o → IsFirstHeld p held o
+    first_passing o found =
+        let first = first_passes p (values held) o found in
+        let somewhere = held_somewhere keys_total held o first.1 in
+        record {
+          at_key = ap (get held) (at_keys somewhere.0 o somewhere.1) ∙ somewhere.1;
+          passes = first.0;
+          least = λ other at is.
+              let e = entry_at keys_total held (key_of other) other at in
+              subst (λ other. key_cmp (key_of o) (key_of other) ≢ Greater) e.2
+              (first_least (entries held) o (entries_sorted held) (entries_fit held at_keys (entries held) (λ e at. at)) found e.0 e.1 (ap p e.2 ∙ is));
+        }
 
-    found_least : (o other : Object) → find p (values held) ≡ Some o → get held (key_of other) ≡ Some other → p other ≡ true → key_cmp (key_of o) (key_of other) ≢ Greater
-    found_least o other found at is =
-        let e = entry_at keys_total held (key_of other) other at in
-        subst (λ other. key_cmp (key_of o) (key_of other) ≢ Greater) e.2
-        (first_least (entries held) o (entries_sorted held) (entries_fit held at_keys (entries held) (λ e at. at)) found e.0 e.1 (ap p e.2 ∙ is))
+    pub none_passing : find p (values held) ≡ None → (o : Object) → get held (key_of o) ≡ Some o → p o ≡ true → ⊥
+    none_passing none o at is = passes p (λ (o : Object). o ∷ []) (values held) o (stands keys_total held (key_of o) o at) is none
 
     -- what such an object holds, where the test passes for those of one kind alone
     module _ {X : Type 0} (meta : X → Meta) (Is : X → Type 0) (make : X → Object) (as' : Option Object → Option X) (as_none : as' None ≡ None) (as_made : (x : X) → as' (Some (make x)) ≡ Some x)
@@ -71,16 +83,18 @@ module _ (p : Object → Bool) where
         (tells : (o : Object) → p o ≡ true → get held (key_of o) ≡ Some o → (x : X) × (make x ≡ o) × Is x) where
       is_least : (x : X) (o : Object) → find p (values held) ≡ Some o → as' (Some o) ≡ Some x → IsLeastOf meta Is x
       is_least x o found e =
-          let y = tells o (first_passes (values held) o found).0 (found_held o found) in
+          let first = first_passing o found in
+          let y = tells o first.passes first.at_key in
           let same : y.0 ≡ x = cc (as_made y.0, ap (λ o. as' (Some o)) y.1, e) in
           subst (IsLeastOf meta Is) same (record {
             is = y.2;
-            least = λ other is. subst (λ r. r ≢ Greater) (level y.0 other) (subst (λ o. key_cmp (key_of o) (key_of (make other)) ≢ Greater) (sym y.1) (found_least o (make other) found (told other is).1 (told other is).0));
+            least = λ other is. subst (λ r. r ≢ Greater) (level y.0 other) (subst (λ o. key_cmp (key_of o) (key_of (make other)) ≢ Greater) (sym y.1) (first.least (make other) (told other is).1 (told other is).0));
           })
 
       is_found : (o : Object) → find p (values held) ≡ Some o → as' (Some o) ≡ None → ⊥
       is_found o found e =
-          let y = tells o (first_passes (values held) o found).0 (found_held o found) in
+          let first = first_passing o found in
+          let y = tells o first.passes first.at_key in
           let no : Some y.0 ≡ None = sym (as_made y.0) ∙ ap (λ o. as' (Some o)) y.1 ∙ e in
           cc no
 
@@ -91,7 +105,7 @@ module _ (p : Object → Bool) where
           | Some o ↦ λ t e. is_least x o t e
         ] refl;
         none = elim (find p (values held)) as (λ f. find p (values held) ≡ f → as' f ≡ None → (x : X) → Is x → ⊥) [
-          | None ↦ λ t e x is. passes p (λ (o : Object). o ∷ []) (values held) (make x) (stands keys_total held (key_of (make x)) (make x) (told x is).1) (told x is).0 t
+          | None ↦ λ t e x is. none_passing t (make x) (told x is).1 (told x is).0
           | Some o ↦ λ t e. absurd (is_found o t e)
         ] refl;
       }

@@ -146,7 +146,7 @@ by_service row_of own held ns name number ip port (Some s) =
     ]
 
 -- what a Pod adds leaves the address and port
-keeps_pair : (config : Config) (pod : Option Pod) (ip : Ip) (port : ℕ) → pair_of (row_of config pod ip port) ≡ (ip, port)
+pub keeps_pair : (config : Config) (pod : Option Pod) (ip : Ip) (port : ℕ) → pair_of (row_of config pod ip port) ≡ (ip, port)
 keeps_pair config None ip port = refl
 keeps_pair config (Some pod) ip port =
     let row = labelled_row pod (bare_row ip port) in

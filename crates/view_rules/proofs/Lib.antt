@@ -3,17 +3,18 @@ pub mod Attached
 pub mod Backends
 pub mod ByAddress
 pub mod Entries
-mod FirstHeld
+pub mod FirstHeld
 pub mod FirstOfEach
 pub mod FirstRows
-mod Firsts
-mod FoundInOrder
+pub mod Firsts
+pub mod FoundInOrder
 pub mod Given
 pub mod KeptOnce
 mod Least
 pub mod Orderly
 pub mod Pairs
 pub mod RowMaps
+pub mod RowsOfPods
 pub mod SamePolicies
 pub mod SameProfile
 pub mod SameRequest

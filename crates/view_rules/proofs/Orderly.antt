@@ -11,9 +11,9 @@ use Rattle.view_rules.specs.Laws.{EndpointsAreOrderly}
 use Rattle.view_rules.specs.PodRows.{row_for}
 use Rattle.view_rules.proofs.FirstRows.{are_first}
 
-none : IsOrderly no_endpoints
+pub none_is_orderly : IsOrderly no_endpoints
 unfolding IsStrictlySortedBy
-none = record { rise = tt; absent = λ e. refl }
+none_is_orderly = record { rise = tt; absent = λ e. refl }
 
 rows_rise : (row_of : RowFor) (slices : List Slice) (named : Option (List ℕ)) → IsStrictlySortedBy pair_cmp (map pair_of (rows_from row_of slices named))
 unfolding IsStrictlySortedBy
@@ -21,10 +21,10 @@ rows_rise row_of slices None = tt
 rows_rise row_of slices (Some name) = (are_first (flat_map (slice_rows row_of name) slices)).rise
 
 orderly : (row_of : RowFor) (slices : List Slice) (port : ℕ) (found : Option Service) → IsOrderly (endpoints_from row_of slices port found)
-orderly row_of slices port None = none
+orderly row_of slices port None = none_is_orderly
 orderly row_of slices port (Some s) =
     elim s.external as (λ b. IsOrderly (cond {A = EndpointView} b no_endpoints (record { exists = true; rows = rows_from row_of slices (port_name port s.ports) }))) [
-      | true ↦ none
+      | true ↦ none_is_orderly
       | false ↦ record { rise = rows_rise row_of slices (port_name port s.ports); absent = λ e. absurd (cc e) }
     ]
 

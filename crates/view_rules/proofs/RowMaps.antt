@@ -1,12 +1,14 @@
 -- Rows by their addresses and ports, as a map and as a list in order.
-use Rattle.std.proofs.Common.{◌≡◌, ℕ, Bool, true, false, cond, ◌||◌, List, [], ◌∷◌, ◌++◌, map, Option, Some, None, refl, sym, ap, subst, ◌∙◌}
+use Rattle.std.proofs.Common.{◌≡◌, ◌≢◌, ℕ, Bool, true, false, cond, ◌&&◌, ◌||◌, List, [], ◌∷◌, ◌++◌, map, Option, Some, None, refl, sym, ap, subst, ◌∙◌}
 use lib.Dec.{T}
 use Rattle.std.specs.Cmp.{tied_itself}
 use Rattle.std.specs.FinMap.{empty, entries, entries_sorted, find, get, get-empty, get-entries, get-from_sorted, get-insert, get-remove, insert, is_sorted, remove, same_map, values}
 use Rattle.std.specs.FinMap.Entries.{below_all}
 use Rattle.std.specs.List.{AllByRecursion, list_any}
-use Rattle.std.specs.Ordering.{is_eq, ordering_reverse}
-use Rattle.std.specs.declared.cmp.Ordering.TheVariants.{Greater}
+use Rattle.std.specs.List.Sorted.{IsStrictlySortedBy}
+use Rattle.std.specs.Ordering.{is_eq, is_lt, ordering_reverse}
+use Rattle.std.specs.declared.cmp.Ordering.{Ordering}
+use Rattle.std.specs.declared.cmp.Ordering.TheVariants.{Less, Greater}
 use Rattle.mesh_base.proofs.Keyed.{items_are_values}
 use Rattle.mesh_base.specs.Keyed.{keyed, IsKeyed, keyed_map}
 use Rattle.net_cidr.specs.declared.ip.Ip.{Ip}
@@ -14,8 +16,9 @@ use Rattle.view_rules.proofs.Entries.{equal, first, less, second}
 use Rattle.view_rules.proofs.Pairs.{pairs_exact, pairs_total}
 use Rattle.view_rules.specs.Batch.{has_pair, same_pair}
 use Rattle.view_rules.specs.Endpoints.{pair_cmp, pair_of}
-use Rattle.view_rules.specs.Fold.{RowMap, put_rows, row_map, take_out}
+use Rattle.view_rules.specs.Fold.{IsOrderly, RowMap, put_rows, row_map, take_out}
 use Rattle.view_types.specs.declared.endpoint.EndpointRow.{EndpointRow}
+use Rattle.view_types.specs.declared.endpoint.EndpointView.{EndpointView}
 
 abbrev pub Pair : Type 0
 Pair = Ip × ℕ
@@ -206,3 +209,31 @@ row_map_keyed rows h = same_map pairs_total pairs_exact (row_map rows) (keyed_ma
 
 pub rows_shown : (rows : List EndpointRow) → IsRising rows → values (row_map rows) ≡ rows
 rows_shown rows h = ap values (row_map_keyed rows h) ∙ items_are_values pair_cmp pair_of rows h
+
+-- ---- the rows of an orderly view
+
+both : (a b : Bool) → T a → T b → T (a && b)
+both true b p q = q
+both false b p q = absurd p
+
+lesser : (r : Ordering) → r ≡ Less → T (is_lt r)
+lesser r e = subst (λ r. T (is_lt r)) (sym e) tt
+
+below : (x : EndpointRow) (xs : List EndpointRow) → AllByRecursion (λ k. pair_cmp (pair_of x) k ≡ Less) (map pair_of xs) → T (below_all pair_cmp (pair_of x) (keyed pair_cmp pair_of (λ row. row) xs))
+below x [] h = tt
+below x (y ∷ ys) h = both _ _ (lesser _ h.0) (below x ys h.1)
+
+rises : (xs : List EndpointRow) → IsStrictlySortedBy pair_cmp (map pair_of xs) → IsRising xs
+unfolding IsStrictlySortedBy
+rises [] h = tt
+rises (x ∷ xs) h = both _ _ (below x xs h.0) (rises xs h.1)
+
+pub keyed_rows : (view : EndpointView) → IsOrderly view → IsRising view.rows
+keyed_rows view is = rises view.rows is.rise
+
+-- a Service with rows is there
+pub is_there : (view : EndpointView) → IsOrderly view → view.rows ≢ [] → view.exists ≡ true
+is_there view is some = elim view.exists as (λ b. view.exists ≡ b → b ≡ true) [
+  | true ↦ λ e. refl
+  | false ↦ λ e. absurd (some (is.absent e))
+] refl

@@ -46,7 +46,7 @@ pod_decides (Some s) pod =
 for_port_decides : (ns : List ℕ) (pod : Pod) (number : ℕ) (s : ServerSpec) → Decides (is_for_port ns pod number s) (((s.meta.ns ≡ ns) × IsSelected s.pods pod) × MeansPort s.port pod number)
 for_port_decides ns pod number s = Decides-and _ _ (Decides-and _ _ (bytes_decides s.meta.ns ns) (pod_decides s.pods pod)) (port_decides s.port pod number)
 
-server_is : (held : ObjectMap) (ns : List ℕ) (pod : Pod) (number : ℕ) (o : Object) → is_server_for ns pod number o ≡ true → get held (key_of o) ≡ Some o
+pub server_is : (held : ObjectMap) (ns : List ℕ) (pod : Pod) (number : ℕ) (o : Object) → is_server_for ns pod number o ≡ true → get held (key_of o) ≡ Some o
     → (s : ServerSpec) × (object.Server s ≡ o) × IsServerFor held ns pod number s
 server_is held ns pod number (object.Server s) e at =
     let is = (for_port_decides ns pod number s).0 e in (
@@ -62,7 +62,7 @@ server_is held ns pod number (object.Server s) e at =
     )
 server_is held ns pod number _ e at = absurd (cc e)
 
-server_told : (held : ObjectMap) → AtKeys held → (ns : List ℕ) (pod : Pod) (number : ℕ) (s : ServerSpec) → IsServerFor held ns pod number s
+pub server_told : (held : ObjectMap) → AtKeys held → (ns : List ℕ) (pod : Pod) (number : ℕ) (s : ServerSpec) → IsServerFor held ns pod number s
     → (is_server_for ns pod number (object.Server s) ≡ true) × (get held (key_of (object.Server s)) ≡ Some (object.Server s))
 server_told held at_keys ns pod number s is =
     let key = at_keys (server_key ns s.meta.name) (object.Server s) is.at_key in

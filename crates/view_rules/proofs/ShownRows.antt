@@ -101,18 +101,18 @@ module _ (config : Config) (held : ObjectMap) (ns : List ℕ) (applies : Object 
       subst RowsRise (sym (found_behind applies (authz_row config held) (values held)))
       (found_in_order row_cmp shown (λ (row : AuthzRow). (row.kind, row.name)) by_places held at_keys)
 
-policy_is_here : (held : ObjectMap) (ns : List ℕ) (is_target : RefKind → List ℕ → Bool) (policy : AuthzPolicy) → policy_applies held ns is_target policy ≡ true → policy.meta.ns ≡ ns
+pub policy_is_here : (held : ObjectMap) (ns : List ℕ) (is_target : RefKind → List ℕ → Bool) (policy : AuthzPolicy) → policy_applies held ns is_target policy ≡ true → policy.meta.ns ≡ ns
 policy_is_here held ns is_target policy e =
     let three = both_hold _ _ e in
     let two = both_hold _ _ three.0 in
     (bytes_decides policy.meta.ns ns).0 (both_hold _ _ two.0).0
 
-here_of_server : (held : ObjectMap) (server : ServerSpec) (o : Object) → applies_to_server held server o ≡ true → (meta_of o).ns ≡ server.meta.ns
+pub here_of_server : (held : ObjectMap) (server : ServerSpec) (o : Object) → applies_to_server held server o ≡ true → (meta_of o).ns ≡ server.meta.ns
 here_of_server held server (object.ServerAuthorization a) e = (bytes_decides a.meta.ns server.meta.ns).0 (both_hold _ _ e).0
 here_of_server held server (object.AuthorizationPolicy policy) e = policy_is_here held server.meta.ns (is_on_server server) policy e
 here_of_server held server _ e = absurd (cc e)
 
-here_of_route : (held : ObjectMap) (route : ObjKey) (o : Object) → applies_to_route held route o ≡ true → (meta_of o).ns ≡ route.ns
+pub here_of_route : (held : ObjectMap) (route : ObjKey) (o : Object) → applies_to_route held route o ≡ true → (meta_of o).ns ≡ route.ns
 here_of_route held route (object.AuthorizationPolicy policy) e = policy_is_here held route.ns (is_on_route route) policy e
 here_of_route held route _ e = absurd (cc e)
 

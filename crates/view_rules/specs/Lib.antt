@@ -10,6 +10,7 @@ pub mod Policies
 pub mod PolicyLaws
 pub mod Profiles
 pub mod Routes
+pub mod RowLaws
 pub mod Same
 pub mod SamePolicies
 pub mod Selects

@@ -1,6 +1,7 @@
 -- Where traffic to a target goes: through the routes of a Service, straight to a Pod or to an address that nobody has.
 use Rattle.std.specs.Prelude.{◌||◌, ℕ, Bool, false, if◌then◌else◌, List, [], Option, Some, None, map, not}
 use Rattle.std.specs.Option.{unwrap_or}
+use Rattle.k8s_meta.specs.PortSet.{is_within}
 use Rattle.mesh_text.specs.Mesh.{opaque_ranges}
 use Rattle.net_cidr.specs.declared.ip.Ip.{Ip}
 use Rattle.view_types.specs.Objects.{ObjectMap}
@@ -18,7 +19,7 @@ use Rattle.view_types.specs.declared.server_view.RouteRow.{RouteRow}
 use Rattle.view_types.specs.declared.server_view.RuleRow.{RuleRow}
 use Rattle.view_types.specs.declared.service.Service.{Service}
 use Rattle.view_rules.specs.Endpoints.{service_held}
-use Rattle.view_rules.specs.PodRows.{is_within, row_of}
+use Rattle.view_rules.specs.PodRows.{row_of}
 use Rattle.view_rules.specs.Profiles.{pod_at, pod_ranges, service_at}
 use Rattle.view_rules.specs.Routes.{attached_routes, is_service_parent, route_row}
 

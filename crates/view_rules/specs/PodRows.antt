@@ -1,9 +1,9 @@
 -- The row of an endpoint: its address and port, and what its Pod adds.
-use Rattle.std.specs.Prelude.{codes, ◌&&◌, ℕ, Bool, false, List, Option, Some, None, not, nat_le, if◌then◌else◌}
-use Rattle.std.specs.List.{list_any}
+use Rattle.std.specs.Prelude.{codes, ◌&&◌, ℕ, Bool, false, List, Option, Some, None, not, if◌then◌else◌}
 use Rattle.std.specs.Cmp.Lexicographic.{slice_cmp}
 use Rattle.std.specs.FinMap.{FinMap, empty, get, insert}
 use Rattle.std.specs.Ordering.{nat_cmp}
+use Rattle.k8s_meta.specs.PortSet.{is_within}
 use Rattle.mesh_base.specs.declared.key.Kind.TheVariants as kind
 use Rattle.mesh_base.specs.declared.key.ObjKey.{ObjKey}
 use Rattle.mesh_text.specs.Mesh.{identity_of, is_meshed, opaque_ranges}
@@ -38,10 +38,6 @@ pod_held held (Some target) = pod_found (get held (pod_key target.0 target.1))
 -- an endpoint of which only the address and port are known
 abbrev pub bare_row : Ip → ℕ → EndpointRow
 bare_row ip port = record { ip = ip; port = port; weight = 10000; labels = empty; identity = None; tunnel = None; h2 = false }
-
--- the port stands in one of the ranges
-abbrev pub is_within : List (ℕ × ℕ) → ℕ → Bool
-is_within ranges port = list_any (λ r. nat_le r.0 port && nat_le port r.1) ranges
 
 abbrev pub is_opaque : Pod → ℕ → Bool
 is_opaque pod port = is_within (opaque_ranges pod.meta) port

@@ -5,6 +5,7 @@ use Rattle.std.specs.FinMap.{get, values}
 use Rattle.std.specs.List.{list_any}
 use Rattle.std.specs.Option.{option_map, option_or}
 use Rattle.std.specs.Ordering.{eq_by_cmp}
+use Rattle.k8s_meta.specs.PortSet.{is_within}
 use Rattle.mesh_base.specs.declared.key.Kind.TheVariants as kind
 use Rattle.mesh_base.specs.declared.key.ObjKey.{ObjKey}
 use Rattle.mesh_text.specs.Mesh.{is_some_text, opaque_ranges, ranges_from}
@@ -24,7 +25,7 @@ use Rattle.view_types.specs.declared.query.Target.{Target}
 use Rattle.view_types.specs.declared.query.Target.TheVariants.{Service as ToService, Address as ToAddress}
 use Rattle.view_types.specs.declared.service.Service.{Service}
 use Rattle.view_rules.specs.Endpoints.{service_found, service_held}
-use Rattle.view_rules.specs.PodRows.{is_within, pod_found, row_of}
+use Rattle.view_rules.specs.PodRows.{pod_found, row_of}
 
 -- ---- the ServiceProfile of a Service
 

@@ -1,4 +1,5 @@
 ghost use Rattle.view_rules.specs.Laws.{EndpointsAreOrderly, FirstRowsAreFirst, PairsAreGiven, PodsAreTheLeast, RowsAreOfTheLeast, SameOutboundDecides, SameProfileDecides, SameRowDecides, SameServerDecides, ServicesAreTheLeast, SlicesByName};
+ghost use Rattle.view_rules.specs.RowLaws.{RowOfSaysOfThePod, RowsSayOfTheirPods};
 
 /// A pair of address and port stands in a view exactly where some place gives it.
 pub fn pairs_are_given()
@@ -24,6 +25,13 @@ pub fn endpoints_are_orderly()
 /// address and the port.
 pub fn rows_are_of_the_least()
     ensures { RowsAreOfTheLeast }
+{}
+
+/// Each row of a view of a Service has the address and port of its least place, and says of the endpoint there exactly what
+/// the Pod that it targets adds, where that Pod is held. So does a row that is made of the Pod at an address.
+pub fn rows_say_of_their_pods()
+    ensures endpoints { RowsSayOfTheirPods }
+    ensures of_pod { RowOfSaysOfThePod }
 {}
 
 /// An address leads to the Service, and to the Pod, that is the least by namespace and name of those held that have it; and

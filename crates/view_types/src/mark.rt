@@ -10,7 +10,7 @@ use net_cidr::ip::Ip;
 use std::alloc::Global;
 
 /// What a change of an object touches, and what a view reads.
-#[derive(Drop)]
+#[derive(Drop, PartialEq, Eq, PartialOrd, Ord)]
 pub enum Mark {
     /// The object at a key.
     Obj(ObjKey),
