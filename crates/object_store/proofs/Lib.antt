@@ -1,5 +1,10 @@
 pub mod Arranged
 pub mod AtKeys
+pub mod ByCmp
+pub mod Kept
+pub mod Leading
+pub mod OneMore
 pub mod PutAll
 pub mod Room
+pub mod SameKeys
 pub mod Spliced

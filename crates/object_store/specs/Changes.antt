@@ -6,7 +6,9 @@ use Rattle.std.specs.FinMap.{get, insert, remove, contains_key, len}
 use Rattle.mesh_base.specs.KeyOrder.{key_cmp}
 use Rattle.mesh_base.specs.declared.key.ObjKey.{ObjKey}
 use Rattle.view_types.specs.declared.object.Object.{Object}
-use Rattle.view_types.specs.Objects.{key_of, ObjectMap}
+use Rattle.view_types.specs.Objects.{AtKeys, key_of, ObjectMap}
+use Rattle.mark_rules.specs.Changes.{Leads}
+use Rattle.mark_rules.specs.Marks.{marks_of_all}
 use Rattle.object_store.specs.declared.change.Change.{Change}
 use Rattle.object_store.specs.declared.change.StoreFault.{StoreFault}
 use Rattle.object_store.specs.declared.change.StoreFault.TheVariants.{Memory, Full}
@@ -21,12 +23,16 @@ pub record Puts (old new : ObjectMap) (o : Object) (change : Change) : Type 0 wh
   pub objects : new ≡ insert old (key_of o) o
   pub before : change.old ≡ option_to_list (get old (key_of o))
   pub keys : change.new ≡ key_of o ∷ []
+  pub marks : change.marks ≡ marks_of_all (o ∷ change.old)
+  pub leads : AtKeys old → Leads change.marks old new
 
 -- what was held at the key is gone
 pub record Takes (old new : ObjectMap) (k : ObjKey) (change : Change) : Type 0 where
   pub objects : new ≡ remove old k
   pub before : change.old ≡ option_to_list (get old k)
   pub keys : change.new ≡ []
+  pub marks : change.marks ≡ marks_of_all change.old
+  pub leads : AtKeys old → Leads change.marks old new
 
 -- a refusal of the objects alone: `Full` comes where there is no room, says how many are held, and changes nothing
 abbrev pub IsFull : ObjectMap → ObjectMap → Bool → StoreFault → Type 0

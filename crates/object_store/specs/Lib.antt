@@ -1,4 +1,5 @@
 pub mod Changes
 pub mod Held
+pub mod KeyLists
 pub mod Kinds
 pub mod Relisted

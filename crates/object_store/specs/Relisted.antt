@@ -1,5 +1,5 @@
 -- A list that replaces all objects of a kind.
-use Rattle.std.specs.Prelude.{◌≡◌, ◌==◌, nat_lt, not, if◌then◌else◌, ℕ, Bool, List, [], ◌∷◌, map, Option}
+use Rattle.std.specs.Prelude.{◌≡◌, ◌==◌, nat_lt, not, if◌then◌else◌, ℕ, Bool, List, [], ◌∷◌, ◌++◌, map, Option}
 use Rattle.std.specs.List.{filter, find}
 use Rattle.std.specs.Ordering.{eq_by_cmp}
 use Rattle.std.specs.FinMap.{get, insert, retain_keys, values, len}
@@ -7,7 +7,10 @@ use Rattle.mesh_base.specs.KeyOrder.{key_cmp, kind_place}
 use Rattle.mesh_base.specs.declared.key.Kind.{Kind}
 use Rattle.mesh_base.specs.declared.key.ObjKey.{ObjKey}
 use Rattle.view_types.specs.declared.object.Object.{Object}
-use Rattle.view_types.specs.Objects.{key_of, ObjectMap, IsListOf}
+use Rattle.view_types.specs.Objects.{AtKeys, key_of, ObjectMap, IsListOf}
+use Rattle.view_types.specs.declared.mark.Mark.{Mark}
+use Rattle.mark_rules.specs.Changes.{Covers, Leads}
+use Rattle.mark_rules.specs.Marks.{marks_of_all}
 use Rattle.object_store.specs.declared.change.Change.{Change}
 
 abbrev pub is_of : Kind → ObjKey → Bool
@@ -39,8 +42,15 @@ pub record Relists (old new : ObjectMap) (kind : Kind) (items : List Object) (ch
   pub objects : new ≡ relisted old kind items
   pub before : change.old ≡ of_kind kind old
   pub keys : change.new ≡ map key_of (of_kind kind new)
+  pub marks : change.marks ≡ marks_of_all (of_kind kind new ++ change.old)
+  pub leads : AtKeys old → Leads change.marks old new
 
 -- key by key: the item with the key where it is of the kind, and else what was held
 abbrev pub RelistedByKey : Type 0
 RelistedByKey = (m : ObjectMap) (kind : Kind) (items : List Object) → IsListOf kind items → (k : ObjKey)
     → get (relisted m kind items) k ≡ (if is_of kind k then item_at k items else get m k)
+
+-- a list leads on by a change that has all marks of the objects of the kind, new and old
+abbrev pub RelistLeads : Type 0
+RelistLeads = (changed : List Mark) (held : ObjectMap) → AtKeys held → (kind : Kind) (items : List Object) → IsListOf kind items
+    → Covers changed (of_kind kind (relisted held kind items) ++ of_kind kind held) → Leads changed held (relisted held kind items)

@@ -8,13 +8,16 @@ ghost use Rattle.mesh_base.specs.Places.{IsHit, IsGap};
 ghost use Rattle.view_types.specs.Objects.{AtKeys, key_of, kind_of};
 ghost use Rattle.object_store.specs.Relisted.{exceeds, of_kind, relisted};
 ghost use Rattle.object_store.specs.Changes.{IsFull, lacks_room};
+ghost use Rattle.object_store.specs.Held.{key_with};
 
 use crate::change::StoreFault;
 use crate::kinds::{count_others, part};
 use mesh_base::key::{Kind, ObjKey};
 use mesh_base::list::List;
 use mesh_base::memory::Memory;
+use mesh_base::text::Text;
 use std::alloc::Global;
+use std::cmp::Ordering;
 use std::marker::Model;
 use std::mem;
 use view_types::object::Object;
@@ -64,11 +67,26 @@ impl Objects {
         self.items.as_slice()
     }
 
+    /// Each object stands at its own key. It looks at none of them.
+    pub fn stand_at_keys(&self)
+        ensures { AtKeys self.now }
+    {
+        let _objects = self.all();
+    }
+
     pub fn get(&self, key: &ObjKey) -> Option<&Object>
         ensures value { option_copied result ≡ map.get self.now key.now }
         ensures at_key { IfSome result (λ o. key_of o.now ≡ key.now) }
     {
-        match place(self.items.as_slice(), key) {
+        self.find(key.kind, &key.ns, &key.name)
+    }
+
+    /// The object at the key of this kind, namespace and name, which need not be put together.
+    pub fn find(&self, kind: Kind, ns: &Text, name: &Text) -> Option<&Object>
+        ensures value { option_copied result ≡ map.get self.now (key_with kind ns.now name.now) }
+        ensures at_key { IfSome result (λ o. key_of o.now ≡ key_with kind ns.now name.now) }
+    {
+        match place(self.items.as_slice(), kind, ns, name) {
             Ok(at) => Some(&self.items[at]),
             Err(_) => None,
         }
@@ -79,7 +97,7 @@ impl Objects {
         ensures before { result ≡ map.get self.old key.now }
         ensures removed { self.new ≡ map.remove self.old key.now }
     {
-        match place(self.items.as_slice(), key) {
+        match place(self.items.as_slice(), key.kind, &key.ns, &key.name) {
             Ok(at) => Some(self.items.remove(at)),
             Err(_) => None,
         }
@@ -100,7 +118,7 @@ impl Objects {
         ensures full { IfErr result (IsFull self.old self.new (lacks_room self.old limit key.now)) }
         ensures err { OnErr result (self.new ≡ self.old) }
     {
-        match place(self.items.as_slice(), key) {
+        match place(self.items.as_slice(), key.kind, &key.ns, &key.name) {
             Ok(at) => Ok(Some(mem::replace(&mut self.items[at], object))),
             Err(at) => {
                 if self.items.len() == limit as usize {
@@ -157,11 +175,25 @@ fn join(
     Ok(below)
 }
 
-/// Where the key stands, or where it would go.
-fn place(objects: &[Object], key: &ObjKey) -> Result<usize, usize>
+/// Where the key of this kind, namespace and name stands, or where it would go.
+fn place(objects: &[Object], kind: Kind, ns: &Text, name: &Text) -> Result<usize, usize>
     requires { IsKeyed key_cmp key_of (λ o. o) objects.now }
-    ensures hit { IfOk result (IsHit (λ o. key_cmp (key_of o) key.now) objects.now) }
-    ensures gap { IfErr result (IsGap (λ o. key_cmp (key_of o) key.now) objects.now) }
+    ensures hit { IfOk result (IsHit (λ o. key_cmp (key_of o) (key_with kind ns.now name.now)) objects.now) }
+    ensures gap { IfErr result (IsGap (λ o. key_cmp (key_of o) (key_with kind ns.now name.now)) objects.now) }
 {
-    objects.binary_search_by(|object| object.compare_key(key))
+    objects.binary_search_by(|object| compare_key(object, kind, ns, name))
+}
+
+/// How the object's key compares with that of this kind, namespace and name.
+fn compare_key(object: &Object, kind: Kind, ns: &Text, name: &Text) -> Ordering
+    ensures { result ≡ key_cmp (key_of object.now) (key_with kind ns.now name.now) }
+{
+    let meta = object.meta();
+    match object.kind().cmp(&kind) {
+        Ordering::Equal => match meta.ns.cmp(ns) {
+            Ordering::Equal => meta.name.cmp(name),
+            unequal => unequal,
+        },
+        unequal => unequal,
+    }
 }

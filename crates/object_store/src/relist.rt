@@ -8,9 +8,13 @@ ghost use Rattle.mesh_base.specs.Keyed.{IsKeyed};
 ghost use Rattle.view_types.specs.Objects.{key_of, IsListOf};
 ghost use Rattle.object_store.specs.Changes.{IsFull};
 ghost use Rattle.object_store.specs.Relisted.{Relists, exceeds};
+ghost use Rattle.object_store.specs.KeyLists.{AreKeysOf, StayUnlessSpent};
 
 use crate::change::{Change, StoreFault};
+use crate::mark_keys::MarkKeys;
 use crate::objects::Objects;
+use crate::upkeep::follow;
+use mark_rules::object_marks::add_all_marks;
 use mesh_base::key::{Kind, ObjKey};
 use mesh_base::list::List;
 use mesh_base::memory::Memory;
@@ -21,6 +25,7 @@ use view_types::object::Object;
 pub fn relist(
     alloc: Global,
     objects: &mut Objects,
+    keys: &mut MarkKeys,
     limit: u32,
     kind: Kind,
     items: List<Object>,
@@ -31,7 +36,10 @@ pub fn relist(
     ensures room { OnOk result (exceeds objects.old limit kind items ≡ false) }
     ensures full { IfErr result (IsFull objects.old objects.new (exceeds objects.old limit kind items)) }
     ensures kept { len objects.new ≤ limit }
+    ensures keys { OnOk result (AreKeysOf objects.old keys.old → AreKeysOf objects.new keys.new) }
+    ensures keys_stay { IfErr result (StayUnlessSpent keys.old keys.new) }
 {
+    objects.stand_at_keys();
     let items = arrange(items);
     if objects.lacks_room_for(limit, kind, items.as_slice()) {
         return Err(StoreFault::Full {
@@ -39,8 +47,12 @@ pub fn relist(
         });
     }
     let new = keys_of(alloc, items.as_slice())?;
+    let mut marks = List::new(alloc);
+    add_all_marks(alloc, &mut marks, items.as_slice())?;
     let old = objects.replace(alloc, kind, items)?;
-    Ok(Change { old, new })
+    let change = Change::from(alloc, marks, old, new)?;
+    follow(alloc, objects, keys, &change)?;
+    Ok(change)
 }
 
 /// The items in the order of their keys.

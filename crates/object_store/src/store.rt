@@ -1,24 +1,36 @@
 ghost use Rattle.std.specs.Prelude.{◌≡◌, ◌≤◌, ◌+◌, ◌-◌, ◌^◌, min, true, false, is_some, if◌then◌else◌, IsErr, IfSome, IfOk, IfErr, OnOk, OnErr, IsErrOf};
 ghost use Rattle.std.specs.Option.{option_copied};
 ghost use Rattle.std.specs.FinMap as map;
+ghost use Rattle.view_types.specs.declared.mark.Mark.TheVariants.{IpPod, IpService, PolicyOn, RouteOn, ServerAuthzIn, ServersIn, SlicesOf};
 ghost use Rattle.view_types.specs.Objects.{AtKeys, key_of, IsListOf};
 ghost use Rattle.object_store.specs.Relisted.{Relists, exceeds};
+ghost use Rattle.object_store.specs.KeyLists.{AreKeysOf, FindsFirst, FindsKeys, StayUnlessSpent, is_of_key};
+ghost use Rattle.object_store.specs.Held.{key_with};
 ghost use Rattle.object_store.specs.Changes.{Puts, Takes, Refuses, IsFull, lacks_room};
 
 use crate::change::{Change, StoreFault};
+use crate::mark_keys::MarkKeys;
 use crate::objects::Objects;
 use crate::relist::relist;
+use crate::upkeep::follow;
+use mark_rules::object_marks::marks_of;
 use mesh_base::key::{Kind, ObjKey};
 use mesh_base::list::List;
 use mesh_base::memory::Memory;
 use mesh_base::steps::Steps;
+use mesh_base::text::Text;
+use net_cidr::ip::Ip;
 use std::alloc::Global;
 use std::marker::Model;
+use view_types::authn::RefKind;
+use view_types::mark::Mark;
 use view_types::object::Object;
+use view_types::route::ParentKind;
 
 /// The objects that are held, at most `limit`. Once memory ran out, nothing can be changed any more.
 pub struct Store {
     objects: Objects,
+    keys: MarkKeys,
     limit: u32,
     spent: bool,
     alloc: Global,
@@ -29,6 +41,7 @@ impl Drop for Store {
     fn drop(self) {
         let Store {
             objects: _objects,
+            keys: _keys,
             limit: _,
             spent: _,
             alloc: _,
@@ -37,9 +50,10 @@ impl Drop for Store {
 }
 
 impl Model for Store {
-    ghost use Rattle.std.specs.Prelude.{◌≤◌};
+    ghost use Rattle.std.specs.Prelude.{◌≡◌, ◌≤◌, false};
     ghost use Rattle.std.specs.FinMap.{len};
     ghost use Rattle.object_store.specs.Held.{Held, held_code};
+    ghost use Rattle.object_store.specs.KeyLists.{AreKeysOf};
 
     ghost Value = { Held };
 
@@ -47,7 +61,7 @@ impl Model for Store {
 
     ghost view = { λ s. record { objects = s.objects; limit = s.limit; spent = s.spent } };
 
-    ghost invariant = { λ s. len s.objects ≤ s.limit };
+    ghost invariant = { λ s. (len s.objects ≤ s.limit) × (s.spent ≡ false → AreKeysOf s.objects s.keys) };
 }
 
 impl Store {
@@ -56,6 +70,7 @@ impl Store {
     {
         Store {
             objects: Objects::new(alloc),
+            keys: MarkKeys::new(alloc),
             limit,
             spent: false,
             alloc,
@@ -77,6 +92,13 @@ impl Store {
         self.objects.all()
     }
 
+    /// Each object stands at its own key. It looks at none of them: a caller that rests on it calls this, at no cost.
+    pub fn stand_at_keys(&self)
+        ensures { AtKeys self.now.objects }
+    {
+        self.objects.stand_at_keys();
+    }
+
     /// The object at the key. It counts as one step where there is one.
     pub fn get<L>(&self, key: &ObjKey, steps: &mut Steps<L>) -> Option<&Object>
         ensures value { option_copied result ≡ map.get self.now.objects key.now }
@@ -86,6 +108,88 @@ impl Store {
         let found = self.objects.get(key);
         tick_if(found.is_some(), steps);
         found
+    }
+
+    /// `get` of the key of this kind, namespace and name, which need not be put together.
+    pub fn find<L>(
+        &self,
+        kind: Kind,
+        ns: &Text,
+        name: &Text,
+        steps: &mut Steps<L>,
+    ) -> Option<&Object>
+        ensures value { option_copied result ≡ map.get self.now.objects (key_with kind ns.now name.now) }
+        ensures at_key { IfSome result (λ o. key_of o.now ≡ key_with kind ns.now name.now) }
+        ensures steps { steps.new ≡ (if is_some result then min (steps.old + 1) (2 ^ 64 - 1) else steps.old) }
+    {
+        let found = self.objects.find(kind, ns, name);
+        tick_if(found.is_some(), steps);
+        found
+    }
+
+    /// The keys of the objects with the mark, in order. What has the mark of a key is found by `get`.
+    pub fn keys_with<'a>(&'a self, mark: &Mark) -> &'a [ObjKey]
+        requires { is_of_key mark.now ≡ false }
+        ensures { FindsKeys self.now mark.now result.now }
+    {
+        self.objects.stand_at_keys();
+        self.keys.at(mark)
+    }
+
+    /// The keys of the EndpointSlices of the Service, in order.
+    pub fn slices_of(&self, ns: &Text, service: &Text) -> Result<&[ObjKey], Memory>
+        ensures { IfOk result (λ keys. FindsKeys self.now (SlicesOf ns.now service.now) keys.now) }
+    {
+        let mark = Mark::SlicesOf(ns.copy()?, service.copy()?);
+        Ok(self.keys_with(&mark))
+    }
+
+    /// The keys of the Servers of the namespace, in order.
+    pub fn servers_in(&self, ns: &Text) -> Result<&[ObjKey], Memory>
+        ensures { IfOk result (λ keys. FindsKeys self.now (ServersIn ns.now) keys.now) }
+    {
+        let mark = Mark::ServersIn(ns.copy()?);
+        Ok(self.keys_with(&mark))
+    }
+
+    /// The keys of the ServerAuthorizations of the namespace, in order.
+    pub fn server_authz_in(&self, ns: &Text) -> Result<&[ObjKey], Memory>
+        ensures { IfOk result (λ keys. FindsKeys self.now (ServerAuthzIn ns.now) keys.now) }
+    {
+        let mark = Mark::ServerAuthzIn(ns.copy()?);
+        Ok(self.keys_with(&mark))
+    }
+
+    /// The keys of the AuthorizationPolicies of the namespace with this target, in order.
+    pub fn policies_on(&self, ns: &Text, kind: RefKind, name: &Text) -> Result<&[ObjKey], Memory>
+        ensures { IfOk result (λ keys. FindsKeys self.now (PolicyOn ns.now kind name.now) keys.now) }
+    {
+        let mark = Mark::PolicyOn(ns.copy()?, kind, name.copy()?);
+        Ok(self.keys_with(&mark))
+    }
+
+    /// The keys of the routes of the namespace with this parent, in order.
+    pub fn routes_on(&self, ns: &Text, kind: ParentKind, name: &Text) -> Result<&[ObjKey], Memory>
+        ensures { IfOk result (λ keys. FindsKeys self.now (RouteOn ns.now kind name.now) keys.now) }
+    {
+        let mark = Mark::RouteOn(ns.copy()?, kind, name.copy()?);
+        Ok(self.keys_with(&mark))
+    }
+
+    /// The first key of the Services at the address.
+    pub fn service_at(&self, ip: Ip) -> Option<&ObjKey>
+        ensures { FindsFirst self.now (IpService ip) (option_copied result) }
+    {
+        let mark = Mark::IpService(ip);
+        self.keys_with(&mark).first()
+    }
+
+    /// The first key of the Pods with the address.
+    pub fn pod_at(&self, ip: Ip) -> Option<&ObjKey>
+        ensures { FindsFirst self.now (IpPod ip) (option_copied result) }
+    {
+        let mark = Mark::IpPod(ip);
+        self.keys_with(&mark).first()
     }
 
     /// Puts the object at its key. `Full` comes where the key is new and as many objects are held as may be.
@@ -100,7 +204,13 @@ impl Store {
         if self.spent {
             return Err(StoreFault::Memory);
         }
-        let result = put(self.alloc, &mut self.objects, self.limit, object);
+        let result = put(
+            self.alloc,
+            &mut self.objects,
+            &mut self.keys,
+            self.limit,
+            object,
+        );
         self.spent = matches!(&result, Err(StoreFault::Memory));
         result
     }
@@ -116,7 +226,7 @@ impl Store {
         if self.spent {
             return Err(Memory);
         }
-        let result = Change::taken(self.alloc, self.objects.remove(key));
+        let result = take(self.alloc, &mut self.objects, &mut self.keys, key);
         self.spent = result.is_err();
         result
     }
@@ -135,7 +245,14 @@ impl Store {
         if self.spent {
             return Err(StoreFault::Memory);
         }
-        let result = relist(self.alloc, &mut self.objects, self.limit, kind, items);
+        let result = relist(
+            self.alloc,
+            &mut self.objects,
+            &mut self.keys,
+            self.limit,
+            kind,
+            items,
+        );
         self.spent = matches!(&result, Err(StoreFault::Memory));
         result
     }
@@ -144,6 +261,7 @@ impl Store {
 fn put(
     alloc: Global,
     objects: &mut Objects,
+    keys: &mut MarkKeys,
     limit: u32,
     object: Object,
 ) -> Result<Change, StoreFault>
@@ -152,10 +270,32 @@ fn put(
     ensures room { OnOk result (lacks_room objects.old limit (key_of object) ≡ false) }
     ensures full { IfErr result (IsFull objects.old objects.new (lacks_room objects.old limit (key_of object))) }
     ensures within { map.len objects.new ≤ limit }
+    ensures keys { OnOk result (AreKeysOf objects.old keys.old → AreKeysOf objects.new keys.new) }
+    ensures keys_stay { IfErr result (StayUnlessSpent keys.old keys.new) }
 {
+    objects.stand_at_keys();
     let key = object.key(alloc)?;
+    let marks = marks_of(alloc, &object)?;
     let before = objects.set(limit, &key, object)?;
-    Ok(Change::put(alloc, before, key)?)
+    let change = Change::put(alloc, marks, before, key)?;
+    follow(alloc, objects, keys, &change)?;
+    Ok(change)
+}
+
+fn take(
+    alloc: Global,
+    objects: &mut Objects,
+    keys: &mut MarkKeys,
+    key: &ObjKey,
+) -> Result<Change, Memory>
+    ensures ok { IfOk result (Takes objects.old objects.new key.now) }
+    ensures removed { objects.new ≡ map.remove objects.old key.now }
+    ensures keys { OnOk result (AreKeysOf objects.old keys.old → AreKeysOf objects.new keys.new) }
+{
+    objects.stand_at_keys();
+    let change = Change::taken(alloc, objects.remove(key))?;
+    follow(alloc, objects, keys, &change)?;
+    Ok(change)
 }
 
 fn tick_if<L>(there: bool, steps: &mut Steps<L>)

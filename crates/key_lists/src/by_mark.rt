@@ -1,0 +1,100 @@
+ghost use Rattle.std.specs.Prelude.{◌≡◌, ◌&&◌, ◌||◌, not, true, [], IfOk, OnOk, List};
+ghost use Rattle.std.specs.Ordering.{eq_by_cmp};
+ghost use Rattle.mesh_base.specs.declared.key.ObjKey.{ObjKey};
+ghost use Rattle.key_lists.specs.Keys.{has_mark, is_key, key_at, keys_at, Rises};
+
+use crate::key_list::KeyList;
+use mesh_base::copied::Copied;
+use mesh_base::key::ObjKey;
+use mesh_base::memory::Memory;
+use std::alloc::Global;
+use std::collections::BTreeMap;
+
+/// The keys at a mark.
+pub fn keys_at<'a, M: Ord + Copied>(by: &'a BTreeMap<M, KeyList>, mark: &M) -> &'a [ObjKey]
+    ensures value { result.now ≡ keys_at M.cmp by.now mark.now }
+    ensures rise { Rises (keys_at M.cmp by.now mark.now) }
+{
+    match by.get(mark) {
+        Some(keys) => keys.as_slice(),
+        None => &[],
+    }
+}
+
+/// Puts a key to a mark.
+pub fn put_one<M: Ord + Copied>(
+    alloc: Global,
+    by: &mut BTreeMap<M, KeyList>,
+    mark: &M,
+    key: &ObjKey,
+) -> Result<(), Memory>
+    ensures { OnOk result ((m : M) (k : ObjKey) → key_at M.cmp by.new m k ≡ ((eq_by_cmp M.cmp mark.now m && is_key k key.now) || key_at M.cmp by.old m k)) }
+{
+    let key = key.copy(alloc)?;
+    match by.get_mut(mark) {
+        Some(keys) => {
+            keys.put(key)?;
+        }
+        None => {
+            let mut keys = KeyList::new(alloc);
+            keys.put(key)?;
+            by.insert(mark.copy(alloc)?, keys)?;
+        }
+    }
+    Ok(())
+}
+
+/// Takes a key from a mark.
+pub fn take_one<M: Ord + Copied>(by: &mut BTreeMap<M, KeyList>, mark: &M, key: &ObjKey)
+    ensures { (m : M) (k : ObjKey) → key_at M.cmp by.new m k ≡ (not (eq_by_cmp M.cmp mark.now m && is_key k key.now) && key_at M.cmp by.old m k) }
+{
+    if take_from(by, mark, key) {
+        let_go(by, mark);
+    }
+}
+
+/// Takes a key from the list of a mark. Answers whether no key is left in it.
+fn take_from<M: Ord + Copied>(by: &mut BTreeMap<M, KeyList>, mark: &M, key: &ObjKey) -> bool
+    ensures taken { (m : M) (k : ObjKey) → key_at M.cmp by.new m k ≡ (not (eq_by_cmp M.cmp mark.now m && is_key k key.now) && key_at M.cmp by.old m k) }
+    ensures emptied { result ≡ true → keys_at M.cmp by.new mark.now ≡ [] }
+{
+    match by.get_mut(mark) {
+        Some(keys) => {
+            keys.take(key);
+            keys.is_empty()
+        }
+        None => false,
+    }
+}
+
+/// Drops the list of a mark without keys.
+fn let_go<M: Ord + Copied>(by: &mut BTreeMap<M, KeyList>, mark: &M)
+    requires { keys_at M.cmp by.old mark.now ≡ [] }
+    ensures { (m : M) (k : ObjKey) → key_at M.cmp by.new m k ≡ key_at M.cmp by.old m k }
+{
+    by.remove(mark);
+}
+
+/// Puts a key to each mark.
+pub fn put_all<M: Ord + Copied>(
+    alloc: Global,
+    by: &mut BTreeMap<M, KeyList>,
+    marks: &[M],
+    key: &ObjKey,
+) -> Result<(), Memory>
+    ensures { OnOk result ((m : M) (k : ObjKey) → key_at M.cmp by.new m k ≡ ((has_mark M.cmp marks.now m && is_key k key.now) || key_at M.cmp by.old m k)) }
+{
+    for mark in marks {
+        put_one(alloc, by, mark, key)?;
+    }
+    Ok(())
+}
+
+/// Takes a key from each mark.
+pub fn take_all<M: Ord + Copied>(by: &mut BTreeMap<M, KeyList>, marks: &[M], key: &ObjKey)
+    ensures { (m : M) (k : ObjKey) → key_at M.cmp by.new m k ≡ (not (has_mark M.cmp marks.now m && is_key k key.now) && key_at M.cmp by.old m k) }
+{
+    for mark in marks {
+        take_one(by, mark, key);
+    }
+}

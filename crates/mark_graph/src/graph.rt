@@ -1,0 +1,90 @@
+// A graph of rows and marks.
+ghost use Rattle.std.specs.Prelude.{◌≡◌, ◌&&◌, ◌||◌, if◌then◌else◌, nat_eq, ℕ, true, false, IsErr, IfOk, OnOk};
+ghost use Rattle.std.specs.List.{list_any};
+ghost use Rattle.std.specs.List.Sorted.{IsStrictlySortedBy};
+ghost use Rattle.std.specs.Ordering.{nat_cmp};
+ghost use Rattle.mark_graph.specs.RowMarks.{has_mark, has_row, row_at, some_mark, watches};
+
+use crate::by_mark::{gather_all, list_of, put_all, take_all};
+use mesh_base::copied::Copied;
+use mesh_base::list::List;
+use mesh_base::memory::Memory;
+use std::alloc::Global;
+use std::collections::{BTreeMap, BTreeSet};
+
+/// Rows, and the marks that each watches.
+pub struct Graph<M: Ord + Copied> {
+    by_mark: BTreeMap<M, Vec<u64>>,
+    rows: BTreeMap<u64, List<M>>,
+    spent: bool,
+    alloc: Global,
+    ghost agree: { spent ≡ false → (m : M) (r : ℕ) → row_at M.cmp by_mark m r ≡ watches M.cmp rows r m },
+}
+
+impl<M: Ord + Copied> Graph<M> {
+    /// A graph without rows.
+    pub fn new(alloc: Global) -> Graph<M>
+        ensures none { (r : ℕ) (m : M) → watches M.cmp result.rows r m ≡ false }
+        ensures going { result.spent ≡ false }
+    {
+        Graph {
+            by_mark: BTreeMap::new(alloc),
+            rows: BTreeMap::new(alloc),
+            spent: false,
+            alloc,
+        }
+    }
+
+    /// Lets the row watch these marks, and no others. After Memory the graph is spent.
+    pub fn watch(&mut self, row: u64, marks: List<M>) -> Result<(), Memory>
+        ensures watched { OnOk result ((r : ℕ) (m : M) → watches M.cmp self.new.rows r m ≡ (if nat_eq r row then has_mark M.cmp marks m else watches M.cmp self.old.rows r m)) }
+        ensures going { OnOk result (self.new.spent ≡ false) }
+        ensures spent { IsErr result → self.new.spent ≡ true }
+        ensures was_spent { self.old.spent ≡ true → IsErr result }
+    {
+        if self.spent {
+            return Err(Memory);
+        }
+        self.spent = true;
+        remove_row(&mut self.by_mark, &mut self.rows, row);
+        put_all(self.alloc, &mut self.by_mark, marks.as_slice(), row)?;
+        self.rows.insert(row, marks)?;
+        self.spent = false;
+        Ok(())
+    }
+
+    /// Lets the row watch nothing.
+    pub fn unwatch(&mut self, row: u64)
+        ensures watched { (r : ℕ) (m : M) → watches M.cmp self.new.rows r m ≡ (if nat_eq r row then false else watches M.cmp self.old.rows r m) }
+        ensures spent { self.new.spent ≡ self.old.spent }
+    {
+        remove_row(&mut self.by_mark, &mut self.rows, row);
+    }
+
+    /// The rows that watch one of the marks, ascending and each once.
+    pub fn due(&self, marks: &[M]) -> Result<List<u64>, Memory>
+        ensures due { IfOk result (λ rows. (r : ℕ) → has_row r rows ≡ list_any (λ m. watches M.cmp self.now.rows r m) marks.now) }
+        ensures in_order { IfOk result (λ rows. IsStrictlySortedBy nat_cmp rows) }
+        ensures was_spent { self.now.spent ≡ true → IsErr result }
+    {
+        if self.spent {
+            return Err(Memory);
+        }
+        let mut set = BTreeSet::new(self.alloc);
+        gather_all(&self.by_mark, marks, &mut set)?;
+        list_of(self.alloc, set)
+    }
+}
+
+fn remove_row<M: Ord + Copied>(
+    by: &mut BTreeMap<M, Vec<u64>>,
+    rows: &mut BTreeMap<u64, List<M>>,
+    row: u64,
+)
+    ensures watched { (r : ℕ) (m : M) → watches M.cmp rows.new r m ≡ (if nat_eq r row then false else watches M.cmp rows.old r m) }
+    ensures agree { ((m : M) (r : ℕ) → row_at M.cmp by.old m r ≡ watches M.cmp rows.old r m) → (m : M) (r : ℕ) → row_at M.cmp by.new m r ≡ watches M.cmp rows.new r m }
+{
+    if let Some(marks) = rows.remove(&row) {
+        take_all(by, marks.as_slice(), row);
+    }
+}

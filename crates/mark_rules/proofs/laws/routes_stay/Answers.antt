@@ -1,0 +1,5 @@
+use Rattle.mark_rules.proofs.Servers as proved
+use Rattle.mark_rules.proofs.laws.routes_stay.Goals as goal
+
+pub returns : goal.returns
+returns c = proved.routes_stay

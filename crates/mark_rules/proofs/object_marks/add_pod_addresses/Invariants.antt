@@ -1,0 +1,7 @@
+use Rattle.std.proofs.Common.{◌≡◌, ◌++◌, map, take}
+use Rattle.view_types.specs.declared.mark.Mark.TheVariants.{IpPod}
+use Rattle.mark_rules.proofs.object_marks.add_pod_addresses.Given as goal
+
+-- the marks of the addresses so far are added
+abbrev pub invariant-loop-ip : goal.invariant-loop-ip
+invariant-loop-ip l = l.marks ≡ l.initial.marks ++ map IpPod (take l.ip-index l.addrs)

@@ -1,0 +1,66 @@
+-- The keys that a store keeps for marks, beside its objects. None are kept for the mark of a key, which tells the key itself.
+use Rattle.std.specs.Prelude.{◌≡◌, ◌&&◌, ◌||◌, not, Bool, true, false, List, Option, Some, None, slice_get}
+use Rattle.std.specs.FinMap.{get}
+use Rattle.std.specs.List.{list_any}
+use Rattle.key_lists.specs.Keys.{is_key, key_at, keys_at}
+use Rattle.mark_rules.specs.MarkLookups.{keys_at as keys_of}
+use Rattle.mark_rules.specs.Marks.{has_mark, mark_cmp, other_marks}
+use Rattle.mesh_base.specs.declared.key.ObjKey.{ObjKey}
+use Rattle.object_store.specs.declared.change.Change.{Change}
+use Rattle.object_store.specs.declared.change.StoreFault.{StoreFault}
+use Rattle.object_store.specs.declared.change.StoreFault.TheVariants.{Memory, Full}
+use Rattle.object_store.specs.declared.mark_keys.MarkKeys.{MarkKeys}
+use Rattle.object_store.specs.Held.{Held}
+use Rattle.view_types.specs.Objects.{ObjectMap, key_of}
+use Rattle.view_types.specs.declared.mark.Mark.{Mark}
+use Rattle.view_types.specs.declared.mark.Mark.TheVariants.{Obj}
+use Rattle.view_types.specs.declared.object.Object.{Object}
+
+-- the keys that are kept for the mark, in order
+abbrev pub kept_at : MarkKeys → Mark → List ObjKey
+kept_at keys mark = keys_at mark_cmp keys.by mark
+
+-- the key is kept for the mark
+abbrev pub is_kept : MarkKeys → Mark → ObjKey → Bool
+is_kept keys mark key = key_at mark_cmp keys.by mark key
+
+-- an object is held, and the mark is one of its marks besides that of its key
+abbrev pub has_other : Mark → Option Object → Bool
+has_other mark None = false
+has_other mark (Some o) = has_mark (other_marks o) mark
+
+-- a key is kept for a mark exactly where an object is held at it that has the mark
+abbrev pub AreKeysOf : ObjectMap → MarkKeys → Type 0
+AreKeysOf objects keys = (mark : Mark) (key : ObjKey) → is_kept keys mark key ≡ has_other mark (get objects key)
+
+-- it is the mark of a key, which at most one object has
+abbrev pub is_of_key : Mark → Bool
+is_of_key (Obj key) = true
+is_of_key mark = false
+
+-- the object had the mark, and stood at the key
+abbrev pub is_old : Mark → ObjKey → Object → Bool
+is_old mark key o = has_mark (other_marks o) mark && is_key key (key_of o)
+
+-- the new key is the key, and the object at it has the mark
+abbrev pub is_new : ObjectMap → Mark → ObjKey → ObjKey → Bool
+is_new objects mark key new = is_key key new && has_other mark (get objects new)
+
+-- The keys follow a change: those of its old objects are taken out at their marks, and then its new keys are put in at the
+-- marks that the objects have there. Every other key stays.
+abbrev pub Follows : ObjectMap → MarkKeys → MarkKeys → Change → Type 0
+Follows objects before after change = (mark : Mark) (key : ObjKey)
+    → is_kept after mark key ≡ (list_any (is_new objects mark key) change.new || (not (list_any (is_old mark key) change.old) && is_kept before mark key))
+
+-- a refusal leaves the keys as they were, unless it spends the store
+abbrev pub StayUnlessSpent : MarkKeys → MarkKeys → StoreFault → Type 0
+StayUnlessSpent before after Memory = Unit {0}
+StayUnlessSpent before after (Full held) = after ≡ before
+
+-- what a look-up by a mark finds: unless the store is spent, the keys of the objects with the mark, in order
+abbrev pub FindsKeys : Held → Mark → List ObjKey → Type 0
+FindsKeys held mark keys = held.spent ≡ false → keys ≡ keys_of held.objects mark
+
+-- the first of them, if there is one
+abbrev pub FindsFirst : Held → Mark → Option ObjKey → Type 0
+FindsFirst held mark key = held.spent ≡ false → key ≡ slice_get (keys_of held.objects mark) 0

@@ -1,0 +1,4 @@
+pub mod ByNumber
+pub mod InPlace
+pub mod RefreshRows
+pub mod RefreshCost
