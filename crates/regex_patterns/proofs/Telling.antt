@@ -37,6 +37,6 @@ told r p text made bytes =
 -- what is read of a pattern as a whole, if anything is, finds what the pattern tells
 pub built_of_read : {E : Type 0} (p source : List ℕ) → source ≡ whole p → (made : Result (Option Regex) E) → IfOk made (λ o. IfSome o (IsReadFrom source))
     → IfOk made (λ o. IfSome o (IsBuiltOf p))
-built_of_read p source same (Ok (Some r)) h = record { tells = λ text bytes. told r p text (rw same at h) bytes }
+built_of_read p source same (Ok (Some r)) h = let made : IsReadFrom (whole p) r = rw same at h in record { is_expression = ap is_some (read_of r (whole p) made).1; tells = λ text bytes. told r p text made bytes }
 built_of_read p source same (Ok None) h = tt
 built_of_read p source same (Err e) h = tt

@@ -13,6 +13,10 @@ use Rattle.mesh_outside.specs.declared.patterns.PatternFault.TheVariants.{Refuse
 abbrev pub whole : List ℕ → List ℕ
 whole p = codes "\\A(?:" ++ (p ++ codes ")\\z")
 
+-- the grammar of regex reads the pattern p, of a whole text
+abbrev pub IsExpression : List ℕ → Type 0
+IsExpression p = is_some (read default_config (chars (whole p))) ≡ true
+
 -- whether regex finds the pattern p in a text as a whole
 unfoldable pub regex_tells : List ℕ → List ℕ → Bool
 regex_tells p text = option_map_or (λ r. is_some (find_str r.0.value text 0)) (read default_config (chars (whole p))) false
@@ -31,6 +35,7 @@ pub record IsReadFrom (source : List ℕ) (regex : Regex) : Type 0 where
   pub usual : regex_config regex ≡ default_config
   pub read : IsReadFromSource regex
 
--- the regex finds what the pattern p tells in texts of bytes
+-- the pattern p is an expression, and the regex finds what it tells in texts of bytes
 pub record IsBuiltOf (p : List ℕ) (regex : Regex) : Type 0 where
+  pub is_expression : IsExpression p
   pub tells : (text : List ℕ) → ((k : ℕ) → get_or text k 0 < 256) → is_some (find_str (regex_pattern regex) text 0) ≡ regex_tells p text

@@ -1,7 +1,7 @@
 // Patterns that are kept for later calls.
 ghost use Rattle.std.specs.Prelude.{◌≡◌, IfOk, IfSome};
 ghost use Rattle.std.proofs.Props.{props};
-ghost use Rattle.regex_patterns.specs.Patterns.{IsBuiltOf, regex_tells};
+ghost use Rattle.regex_patterns.specs.Patterns.{IsBuiltOf, IsExpression, regex_tells};
 
 use crate::build::{build, is_found};
 use mesh_base::memory::Memory;
@@ -32,7 +32,8 @@ impl Kept {
 
     /// Whether the pattern matches the whole text.
     pub(crate) fn whole(&self, alloc: Global, text: &str) -> Result<bool, PatternFault>
-        ensures { IfOk result (λ answer. answer ≡ regex_tells self.now.pattern text.now) }
+        ensures told { IfOk result (λ answer. answer ≡ regex_tells self.now.pattern text.now) }
+        ensures reads { IfOk result (λ answer. IsExpression self.now.pattern) }
     {
         match &self.regex {
             Some(regex) => match is_found(alloc, regex, text) {

@@ -1,7 +1,7 @@
 // Regular expressions as patterns.
 ghost use Rattle.std.specs.Prelude.{◌≡◌, ◌≢◌, ◌≤◌, ◌<◌, [], Some, None, IfOk, IsErrOf, Err, vec_len};
 ghost use Rattle.mesh_outside.specs.Causes.{Rose, counted};
-ghost use Rattle.regex_patterns.specs.Patterns.{is_refused, regex_tells};
+ghost use Rattle.regex_patterns.specs.Patterns.{IsExpression, is_refused, regex_tells};
 
 use crate::cache::{Kept, kept_of};
 use mesh_outside::{PatternFault, Patterns};
@@ -47,6 +47,7 @@ impl RegexPatterns {
     // The answer, before it is counted.
     fn answer(&mut self, alloc: Global, pattern: &str, text: &str) -> Result<bool, PatternFault>
         ensures told { IfOk result (λ answer. answer ≡ regex_tells pattern.now text.now) }
+        ensures reads { IfOk result (λ answer. IsExpression pattern.now) }
         ensures same { self.new.count ≡ self.old.count }
     {
         match kept_of(self.kept.as_slice(), pattern) {
@@ -63,6 +64,7 @@ impl RegexPatterns {
         text: &str,
     ) -> Result<bool, PatternFault>
         ensures told { IfOk result (λ answer. answer ≡ regex_tells pattern.now text.now) }
+        ensures reads { IfOk result (λ answer. IsExpression pattern.now) }
         ensures same { self.new.count ≡ self.old.count }
     {
         let Ok(fresh) = Kept::new(alloc, pattern) else {
@@ -104,6 +106,9 @@ impl Patterns for RegexPatterns {
         ensures later { self.old.count ≤ self.new.count }
         ensures refused { IsErrOf result PatternFault.Refused → Rose self.old.count self.new.count }
         ensures other { result ≢ Err PatternFault.Refused → self.new.count ≡ self.old.count }
+
+        // What is answered at all is an expression.
+        ensures reads { IfOk result (λ answer. IsExpression pattern.now) }
 
         // Refusals alone are counted.
         ensures count { self.new.count ≡ counted (is_refused result) self.old.count }

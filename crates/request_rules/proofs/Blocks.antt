@@ -16,7 +16,7 @@ agree_decides bits (V6 n) (V6 m) = Decides-eqb (n / 2 ^ (128 - bits)) (m / 2 ^ (
 agree_decides bits (V4 n) (V6 m) = (λ e. absurd (cc e), λ h. absurd h)
 agree_decides bits (V6 n) (V4 m) = (λ e. absurd (cc e), λ h. absurd h)
 
-net_decides : (ip : Ip) (net : Net) → Decides (net_holds ip net) (NetHolds net ip)
+pub net_decides : (ip : Ip) (net : Net) → Decides (net_holds ip net) (NetHolds net ip)
 net_decides ip net = agree_decides net.bits net.base ip
 
 neither : (a b : Bool) → not (a || b) ≡ (not a && not b)

@@ -5,3 +5,4 @@ pub mod Deciders
 pub mod FirstAdmitting
 pub mod FirstPassing
 pub mod Shapes
+pub mod Undecided

@@ -1,5 +1,5 @@
 -- What holds of verdicts.
-use Rattle.std.specs.Prelude.{◌≡◌, ◌≢◌, ◌&&◌, Bool, true, false, if◌then◌else◌, Option, Some, None, find, map}
+use Rattle.std.specs.Prelude.{◌≡◌, ◌≢◌, ◌↔◌, ◌&&◌, Bool, true, false, if◌then◌else◌, Option, Some, None, find, map}
 use Rattle.std.specs.Bool.{Decides}
 use Rattle.std.specs.FinMap.{get}
 use Rattle.std.specs.declared.cmp.Ordering.TheVariants.{Greater}
@@ -26,9 +26,10 @@ use Rattle.view_rules.specs.Inbound.{default_policy, inbound_routes}
 use Rattle.view_rules.specs.PodRows.{pod_held}
 use Rattle.view_rules.specs.Policies.{applies_to_server, authz_row, authz_rows}
 use Rattle.view_rules.specs.Servers.{chosen_server}
-use Rattle.route_match.specs.Matching.{Pat, best, row_shape}
+use Rattle.route_match.specs.Matching.{IsCandidate, Pat, best, row_shape}
+use Rattle.route_match.specs.declared.best.Candidate.{Candidate}
 use Rattle.request_rules.specs.Admits.{admits, row_admits}
-use Rattle.request_rules.specs.Meeting.{routes_of}
+use Rattle.request_rules.specs.Meeting.{RoutesCount, routes_of}
 use Rattle.request_rules.specs.Networks.{block_holds}
 use Rattle.request_rules.specs.Verdicts.{applies_to_either, asks_routes, decider_of, is_more_than_none, policy_admits, route_at, shape_of, verdict}
 
@@ -133,3 +134,18 @@ IsDecided config held request (Some force) found = IsDecidedBy config held reque
 abbrev pub VerdictsNameTheirDecider : Type 0
 VerdictsNameTheirDecider = (config : Config) (held : ObjectMap) → AtKeys held → (pat : Pat) (request : Request)
     → IsDecided config held request (in_force config held pat request) (verdict config held pat request)
+
+-- ---- who doesn't
+
+-- routes count for the request, and no match of them holds
+pub record NoMatchHolds (held : ObjectMap) (pat : Pat) (request : Request) : Type 0 where
+  pub counts : RoutesCount held request
+  pub none : (c : Candidate) → IsCandidate pat counts.http (map shape_of (routes_of held counts.server)) c → ⊥
+
+abbrev pub NotFoundWhereNoMatchHolds : Type 0
+NotFoundWhereNoMatchHolds = (config : Config) (held : ObjectMap) (pat : Pat) (request : Request)
+    → (verdict config held pat request ≡ NotFound) ↔ NoMatchHolds held pat request
+
+abbrev pub NoWorkloadWhereNoPod : Type 0
+NoWorkloadWhereNoPod = (config : Config) (held : ObjectMap) (pat : Pat) (request : Request)
+    → (verdict config held pat request ≡ NoWorkload) ↔ (pod_held held (Some (request.ns, request.pod)) ≡ None)

@@ -1,4 +1,6 @@
-ghost use Rattle.request_rules.specs.Laws.{BlockHoldsDecides, FirstRowsShowTheLeast, RowsAdmitAsTheirObjects, RowsShowTheirMatches, VerdictsNameTheirDecider};
+ghost use Rattle.request_rules.specs.Laws.{BlockHoldsDecides, FirstRowsShowTheLeast, NoWorkloadWhereNoPod, NotFoundWhereNoMatchHolds, RowsAdmitAsTheirObjects, RowsShowTheirMatches, VerdictsNameTheirDecider};
+
+use route_match::laws::{best_is_first, candidates_are_those_that_hold};
 
 /// The test of a block of networks is true exactly where it holds the address.
 pub fn block_holds_decides()
@@ -24,3 +26,16 @@ pub fn rows_show_their_matches()
 pub fn verdicts_name_their_decider()
     ensures { VerdictsNameTheirDecider }
 {}
+
+/// The verdict is `NoWorkload` exactly where the Pod isn't held.
+pub fn no_workload_where_no_pod()
+    ensures { NoWorkloadWhereNoPod }
+{}
+
+/// The verdict is `NotFound` exactly where routes count for the request and none of their matches holds.
+pub fn not_found_where_no_match_holds()
+    ensures { NotFoundWhereNoMatchHolds }
+{
+    candidates_are_those_that_hold();
+    best_is_first();
+}

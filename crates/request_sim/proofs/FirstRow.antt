@@ -11,6 +11,7 @@ use Rattle.view_types.specs.declared.request.ClientTls.{ClientTls}
 use Rattle.view_types.specs.declared.server_view.AuthzRow.{AuthzRow}
 use Rattle.view_rules.specs.Policies.{authz_row}
 use Rattle.request_rules.specs.Admits.{admits, row_admits}
+use Rattle.request_rules.proofs.Admitted.{not_shown}
 use Rattle.request_sim.proofs.InPlace.{place_of, row_place}
 
 made : (x y : AuthzRow) → Some x ≡ Some y → x ≡ y
@@ -24,17 +25,11 @@ module _ (config : Config) (held : ObjectMap) (ip : Ip) (tls : ClientTls)
   place_is (object.AuthorizationPolicy a) row e = sym (ap row_place (made _ row e))
   place_is _ row e = absurd (cc e)
 
-  -- an object that has none admits nobody
-  without_row : (o : Object) → authz_row config held o ≡ None → admits config held ip tls o ≡ false
-  without_row (object.ServerAuthorization a) e = absurd (cc e)
-  without_row (object.AuthorizationPolicy a) e = absurd (cc e)
-  without_row _ e = refl
-
   one_row : (o : Object) (shown : Option AuthzRow) → authz_row config held o ≡ shown → (rest : List AuthzRow) (later : Option Object)
       → option_map row_place (find (row_admits ip tls) rest) ≡ option_map place_of later
       → option_map row_place (find (row_admits ip tls) (cons_option shown rest)) ≡ option_map place_of (cond (admits config held ip tls o) (Some o) later)
   one_row o None is rest later same =
-      subst (λ b. option_map row_place (find (row_admits ip tls) rest) ≡ option_map place_of (cond b (Some o) later)) (sym (without_row o is)) same
+      subst (λ b. option_map row_place (find (row_admits ip tls) rest) ≡ option_map place_of (cond b (Some o) later)) (sym (not_shown config held ip tls o is)) same
   one_row o (Some row) is rest later same =
       ap (λ b. option_map row_place (cond b (Some row) (find (row_admits ip tls) rest))) (alike o row is)
       ∙ elim (admits config held ip tls o) as (λ b. option_map row_place (cond b (Some row) (find (row_admits ip tls) rest)) ≡ option_map place_of (cond b (Some o) later)) [

@@ -1,13 +1,13 @@
-ghost use Rattle.std.specs.Prelude.{◌≡◌, ◌≤◌, ◌&&◌, Some, IfErr, IfOk};
+ghost use Rattle.std.specs.Prelude.{◌≡◌, ◌&&◌, Some, IfErr, IfOk};
 ghost use Rattle.std.specs.Option.{option_copied};
-ghost use Rattle.mesh_outside.specs.Causes.{Rose};
 ghost use Rattle.net_cidr.specs.Texts.{FitsIp};
 ghost use Rattle.view_types.specs.Objects.{AtKeys, ObjectMap};
 ghost use Rattle.view_rules.specs.Inbound.{inbound};
+ghost use Rattle.route_match.specs.Asking.{AsksPatterns, facts_of};
 ghost use Rattle.route_match.specs.Matching.{Pat};
 ghost use Rattle.request_rules.specs.Verdicts.{asks_routes};
 ghost use Rattle.request_sim.specs.Decision.{by_http, by_route, by_row, by_server, decision, has_rows};
-ghost use Rattle.request_sim.specs.Faults.{IsOfRows, MetPattern, Simulated, routes_in};
+ghost use Rattle.request_sim.specs.Faults.{IsOfServer, IsOfView, MetPattern, Simulated};
 
 use crate::admits::first_admitting;
 use crate::either::first_of_either;
@@ -27,7 +27,7 @@ use view_types::server_view::{AuthzRow, RouteRow, ServerRow, ServerView};
 use view_types::verdict::{Decider, Verdict};
 
 /// What comes of the request, by the inbound view of its port. `Pattern` comes where a regular expression of an attached route is
-/// asked for and refused.
+/// asked for and refused; no other answer counts a refusal.
 pub fn decide<P: Patterns>(
     alloc: Global,
     view: &ServerView,
@@ -37,11 +37,8 @@ pub fn decide<P: Patterns>(
 ) -> Result<Verdict, SimFault>
     // Over any objects that have this view, it is the written policy's verdict.
     ensures simulated { (held : ObjectMap) → AtKeys held → inbound config.now held request.now.ns request.now.pod request.now.port ≡ view.now
-        → Simulated config.now held (P.tells patterns.old) (P.refuses patterns.old) request.now result }
-    ensures cause { MetPattern result → Rose (P.refusals patterns.old) (P.refusals patterns.new) }
-    ensures later { P.refusals patterns.old ≤ P.refusals patterns.new }
-    ensures tells_same { P.tells patterns.new ≡ P.tells patterns.old }
-    ensures refuses_same { P.refuses patterns.new ≡ P.refuses patterns.old }
+        → Simulated config.now held (facts_of P.Patterns patterns.old) request.now result }
+    ensures asks { AsksPatterns P.Patterns patterns.old patterns.new (MetPattern result) }
 {
     decisions_are_verdicts();
     rows_show_their_matches();
@@ -68,11 +65,8 @@ fn decide_by_rows<P: Patterns>(
     patterns: &mut P,
 ) -> Result<Verdict, SimFault>
     ensures decided { (pat : Pat) → P.tells patterns.old ≡ Some pat → IfOk result (λ verdict. verdict ≡ decision config.now pat request.now view.now) }
-    ensures named { IfErr result (λ fault. IsOfRows request.now.ns (P.refuses patterns.old) (routes_in view.now) fault) }
-    ensures cause { MetPattern result → Rose (P.refusals patterns.old) (P.refusals patterns.new) }
-    ensures later { P.refusals patterns.old ≤ P.refusals patterns.new }
-    ensures tells_same { P.tells patterns.new ≡ P.tells patterns.old }
-    ensures refuses_same { P.refuses patterns.new ≡ P.refuses patterns.old }
+    ensures named { IfErr result (IsOfView (facts_of P.Patterns patterns.old) request.now view.now) }
+    ensures asks { AsksPatterns P.Patterns patterns.old patterns.new (MetPattern result) }
 {
     match view {
         ServerView::Absent => Ok(Verdict::NoWorkload),
@@ -88,11 +82,8 @@ fn by_http<P: Patterns>(
     patterns: &mut P,
 ) -> Result<Verdict, SimFault>
     ensures decided { (pat : Pat) → P.tells patterns.old ≡ Some pat → IfOk result (λ verdict. verdict ≡ by_http config.now pat request.now server.now request.now.http) }
-    ensures named { IfErr result (λ fault. IsOfRows request.now.ns (P.refuses patterns.old) server.now.routes fault) }
-    ensures cause { MetPattern result → Rose (P.refusals patterns.old) (P.refusals patterns.new) }
-    ensures later { P.refusals patterns.old ≤ P.refusals patterns.new }
-    ensures tells_same { P.tells patterns.new ≡ P.tells patterns.old }
-    ensures refuses_same { P.refuses patterns.new ≡ P.refuses patterns.old }
+    ensures named { IfErr result (IsOfServer (facts_of P.Patterns patterns.old) request.now.ns server.now request.now.http) }
+    ensures asks { AsksPatterns P.Patterns patterns.old patterns.new (MetPattern result) }
 {
     match &request.http {
         Some(http) => by_routes(alloc, server, http, request, config, patterns),
@@ -112,11 +103,8 @@ fn by_routes<P: Patterns>(
     patterns: &mut P,
 ) -> Result<Verdict, SimFault>
     ensures decided { (pat : Pat) → P.tells patterns.old ≡ Some pat → IfOk result (λ verdict. verdict ≡ by_http config.now pat request.now server.now (Some http.now)) }
-    ensures named { IfErr result (λ fault. IsOfRows request.now.ns (P.refuses patterns.old) server.now.routes fault) }
-    ensures cause { MetPattern result → Rose (P.refusals patterns.old) (P.refusals patterns.new) }
-    ensures later { P.refusals patterns.old ≤ P.refusals patterns.new }
-    ensures tells_same { P.tells patterns.new ≡ P.tells patterns.old }
-    ensures refuses_same { P.refuses patterns.new ≡ P.refuses patterns.old }
+    ensures named { IfErr result (IsOfServer (facts_of P.Patterns patterns.old) request.now.ns server.now (Some http.now)) }
+    ensures asks { AsksPatterns P.Patterns patterns.old patterns.new (MetPattern result) }
 {
     if !routes_count(server) {
         return match by_server(config, request, server) {

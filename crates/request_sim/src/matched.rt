@@ -1,11 +1,12 @@
 // The route that is meant by a request.
-ghost use Rattle.std.specs.Prelude.{◌≡◌, ◌≤◌, Some, IfErr, IfOk, map};
+ghost use Rattle.std.specs.Prelude.{◌≡◌, ◌≤◌, ◌+◌, ◌++◌, Some, IfErr, IfOk, codes, length, map};
 ghost use Rattle.std.specs.Option.{option_copied};
-ghost use Rattle.mesh_outside.specs.Causes.{Rose};
+ghost use Rattle.std.specs.String.{string_bytes, string_capacity, string_len};
+ghost use Rattle.route_match.specs.Asking.{AsksPatterns, facts_of};
 ghost use Rattle.route_match.specs.Matching.{Pat, best, row_shape};
-ghost use Rattle.request_rules.specs.Meeting.{route_text};
 ghost use Rattle.request_sim.specs.Decision.{route_found};
-ghost use Rattle.request_sim.specs.Faults.{IsOfRows, MetPattern, Names};
+ghost use Rattle.request_sim.specs.Faults.{HasRoomFor, IsOfRows, MetPattern};
+ghost use Rattle.request_sim.specs.declared.fault.SimFault.TheVariants.{Pattern};
 
 use crate::fault::SimFault;
 use mesh_base::memory::Memory;
@@ -27,16 +28,16 @@ pub(crate) fn matched_route<'a, P: Patterns>(
 ) -> Result<Option<&'a RouteRow>, SimFault>
     ensures found { (pat : Pat) → P.tells patterns.old ≡ Some pat
         → IfOk result (λ route. option_copied route ≡ route_found routes.now (best pat http.now (map row_shape routes.now))) }
-    ensures named { IfErr result (λ fault. IsOfRows ns.now (P.refuses patterns.old) routes.now fault) }
-    ensures cause { MetPattern result → Rose (P.refusals patterns.old) (P.refusals patterns.new) }
-    ensures later { P.refusals patterns.old ≤ P.refusals patterns.new }
-    ensures tells_same { P.tells patterns.new ≡ P.tells patterns.old }
-    ensures refuses_same { P.refuses patterns.new ≡ P.refuses patterns.old }
+    ensures named { IfErr result (IsOfRows (facts_of P.Patterns patterns.old) ns.now routes.now http.now) }
+    ensures asks { AsksPatterns P.Patterns patterns.old patterns.new (MetPattern result) }
 {
+    let Ok(room) = room_for_text(alloc, ns, routes) else {
+        return Err(SimFault::Memory);
+    };
     match best_match(alloc, patterns, http, routes) {
         Ok(found) => Ok(route_found(routes, found)),
         Err(MatchFault::Refused { route, rule, item }) => {
-            Err(pattern_fault(alloc, ns, &routes[route], rule, item))
+            Err(pattern_fault(room, &routes[route], rule, item))
         }
         Err(MatchFault::Memory) => Err(SimFault::Memory),
     }
@@ -51,25 +52,38 @@ fn route_found(routes: &[RouteRow], found: Option<Candidate>) -> Option<&RouteRo
     }
 }
 
-// The fault that names a match of the route.
-fn pattern_fault(alloc: Global, ns: &Text, row: &RouteRow, rule: usize, item: usize) -> SimFault
-    ensures { Names (route_text ns.now row.now.name) rule item result }
+// `namespace/`, with room for the name of each of the routes behind it: a refusal is named without more memory.
+fn room_for_text(alloc: Global, ns: &Text, routes: &[RouteRow]) -> Result<String, Memory>
+    ensures front { IfOk result (λ room. string_bytes room ≡ ns.now ++ codes "/") }
+    ensures room { IfOk result (λ room. HasRoomFor routes.now (string_len room) (string_capacity room)) }
 {
-    match route_text(alloc, ns, &row.name) {
-        Ok(route) => SimFault::Pattern {
-            route,
-            rule: rule as u64,
-            item: item as u64,
-        },
-        Err(_) => SimFault::Memory,
+    let mut room = String::from_str(alloc, ns.as_str())?;
+    room.push_str("/")?;
+    for row in routes {
+        room.reserve(row.name.as_str().len())?;
+    }
+    Ok(room)
+}
+
+// The fault that names a match of the route.
+fn pattern_fault(room: String, row: &RouteRow, rule: usize, item: usize) -> SimFault
+    requires { string_len room + length row.now.name ≤ string_capacity room }
+    ensures { result ≡ Pattern (string_bytes room ++ row.now.name) rule item }
+{
+    SimFault::Pattern {
+        route: text_of(room, &row.name),
+        rule: rule as u64,
+        item: item as u64,
     }
 }
 
-fn route_text(alloc: Global, ns: &Text, name: &Text) -> Result<Text, Memory>
-    ensures { IfOk result (λ text. text ≡ route_text ns.now name.now) }
+fn text_of(front: String, name: &Text) -> Text
+    requires { string_len front + length name.now ≤ string_capacity front }
+    ensures { result ≡ string_bytes front ++ name.now }
 {
-    let ns = ns.as_str();
-    let name = name.as_str();
-    let text = format!(in alloc; "{ns}/{name}")?;
-    Ok(Text::from_string(text))
+    let mut text = front;
+    let Ok(()) = text.push_str(name.as_str()) else {
+        unreachable!();
+    };
+    Text::from_string(text)
 }

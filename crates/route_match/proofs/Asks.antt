@@ -1,39 +1,87 @@
--- What a part of a question asks, the question asks.
-use Rattle.std.proofs.Common.{◌≡◌, ℕ, zero, suc, ◌<◌, ◌≤◌, Bool, true, List, [], ◌∷◌, ◌++◌, Option, Some, Result, Ok, Err, get_or, length, map, flat_map, Contains, IfOk, IfSome, IsErrOf, option_map, refl, sym, ap, subst, ◌∙◌, arith}
-use Rattle.std.specs.List.{slice_get}
+-- Calls that ask patterns, one after another, and which regular expression they name.
+use Rattle.std.proofs.Common.{◌≡◌, ℕ, zero, suc, ◌<◌, ◌≤◌, Bool, true, ◌&&◌, List, [], ◌∷◌, ◌++◌, Option, Some, Result, Ok, Err, get_or, length, map, take, IfOk, IfSome, option_map, refl, sym, ap, subst, ◌∙◌, arith}
+use Rattle.std.specs.List.{list_all, slice_get}
+use Rattle.std.proofs.lemmas.Bool.{and_from, and_parts}
+use Rattle.std.proofs.lemmas.List.{take-map}
+use Rattle.std.proofs.lemmas.List.Folds.{list_all-map}
 use Rattle.std.proofs.lemmas.Option.{slice_get-map, slice_get_read}
-use Rattle.std.proofs.lemmas.List.Elements.{Contains-append_left, Contains-append_right}
 use Rattle.mesh_outside.specs.Causes.{Rose}
 use Rattle.mesh_outside.specs.declared.patterns.PatternFault.{PatternFault}
 use Rattle.mesh_outside.specs.declared.patterns.PatternFault.TheVariants as pattern
+use Rattle.mesh_outside.specs.declared.patterns.Patterns.{Ghosts}
+use Rattle.view_types.specs.declared.request.HttpRequest.{HttpRequest}
 use Rattle.view_types.specs.declared.route.HttpMatch.{HttpMatch}
 use Rattle.view_types.specs.declared.route.NameMatch.{NameMatch}
-use Rattle.route_match.specs.Asking.{AsksAmong}
-use Rattle.route_match.specs.Faults.{AsksIn, HasMatch, IsNamed}
-use Rattle.route_match.specs.Matching.{Pat, Shape, path_pattern, patterns_of, value_pattern}
+use Rattle.route_match.specs.Asking.{AsksPatterns, HasRefused, Part, PatternFacts, RefusesAt, facts_of, of_header, of_path, of_query, part_holds, part_patterns, parts, path_pattern, value_pattern}
+use Rattle.route_match.specs.Faults.{IsNamed}
+use Rattle.route_match.specs.Matching.{Pat, Shape, header_holds, parts_of, path_holds, query_holds}
 use Rattle.route_match.specs.declared.fault.MatchFault.{MatchFault}
-use Rattle.route_match.specs.declared.fault.MatchFault.TheVariants.{Memory, Refused}
 
-pub later_than : {before mid now : ℕ} → before ≤ mid → mid ≤ now → before ≤ now
-later_than le more = omega arith
+-- ---- what is left of the patterns
 
-rose_from : (before mid now : ℕ) → before ≤ mid → Rose mid now → Rose before now
-rose_from before mid now le rose = omega arith
+-- the patterns tell what they told, and none was refused
+pub record Untouched {S : Type 0} (P : Ghosts S) (old new : S) : Type 0 where
+  pub tells_same : P.tells new ≡ P.tells old
+  pub refuses_same : P.refuses new ≡ P.refuses old
+  pub refusals_same : P.refusals new ≡ P.refusals old
 
-pub rose_after : {before mid now : ℕ} → before ≤ mid → Rose mid now → Rose before now
-rose_after {before} {mid} {now} le rose = rose_from before mid now le rose
+not_less : (a b : ℕ) → b ≡ a → a ≤ b
+not_less a b same = omega arith
 
-not_err : (answer : Bool) (fault : PatternFault) → Ok answer ≡ Err fault → ⊥
-not_err answer fault e = cc
+not_less_than : (a b c : ℕ) → b ≡ a → b ≤ c → a ≤ c
+not_less_than a b c same le = omega arith
 
--- an answer refuses nothing
-pub answered : {refuses : Option (List ℕ → Bool)} {before now : ℕ} {patterns : List (List ℕ)} {answer : Bool} → before ≤ now → AsksAmong refuses before now patterns (Ok answer)
-answered {answer = answer} le = record { later = le; cause = λ e. absurd (not_err answer pattern.Refused e); named = λ e. absurd (not_err answer pattern.Refused e) }
+pub no_fault : {T E : Type 0} {value : T} {fault : E} → Ok value ≡ Err fault → ⊥
+no_fault e = cc
 
--- also after others
-pub settled : {refuses refuses_mid : Option (List ℕ → Bool)} {before mid now : ℕ} {patterns all : List (List ℕ)} {result : Result Bool PatternFault} {answer : Bool} → before ≤ mid
-    → AsksAmong refuses_mid mid now patterns result → AsksAmong refuses before now all (Ok answer)
-settled le asks = answered (later_than le asks.later)
+module _ {S : Type 0} {P : Ghosts S} where
+  pub facts_same : {old new : S} → Untouched P old new → facts_of P new ≡ facts_of P old
+  facts_same u = λ i. record { tells = u.tells_same i; refuses = u.refuses_same i }
+
+  pub untouched : {old new : S} {Met : Type 0} → (Met → ⊥) → AsksPatterns P old new Met → Untouched P old new
+  untouched never asks = record { tells_same = asks.tells_same; refuses_same = asks.refuses_same; refusals_same = asks.other never }
+
+  pub further : {old mid new : S} → Untouched P old mid → Untouched P mid new → Untouched P old new
+  further u v = record { tells_same = v.tells_same ∙ u.tells_same; refuses_same = v.refuses_same ∙ u.refuses_same; refusals_same = v.refusals_same ∙ u.refusals_same }
+
+  -- an answer that is no refusal
+  pub answered : {old new : S} {Met : Type 0} → (Met → ⊥) → Untouched P old new → AsksPatterns P old new Met
+  answered {old} {new} never u = record {
+    tells_same = u.tells_same;
+    refuses_same = u.refuses_same;
+    later = not_less (P.refusals old) (P.refusals new) u.refusals_same;
+    cause = λ met. absurd (never met);
+    other = λ unmet. u.refusals_same;
+  }
+
+  -- a call after others that met no refusal
+  pub after : {old mid new : S} {Met : Type 0} → Untouched P old mid → AsksPatterns P mid new Met → AsksPatterns P old new Met
+  after {old} {mid} {new} u asks = record {
+    tells_same = asks.tells_same ∙ u.tells_same;
+    refuses_same = asks.refuses_same ∙ u.refuses_same;
+    later = not_less_than (P.refusals old) (P.refusals mid) (P.refusals new) u.refusals_same asks.later;
+    cause = λ met. subst (λ (n : ℕ). Rose n (P.refusals new)) u.refusals_same (asks.cause met);
+    other = λ unmet. asks.other unmet ∙ u.refusals_same;
+  }
+
+  pub answered_after : {old mid new : S} {Met Now : Type 0} → (Met → ⊥) → (Now → ⊥) → Untouched P old mid → AsksPatterns P mid new Met → AsksPatterns P old new Now
+  answered_after never unmet u asks = answered unmet (further u (untouched never asks))
+
+  -- a refusal under another name
+  pub as_met : {old new : S} {Met Now : Type 0} → (Now → Met) → (Met → Now) → AsksPatterns P old new Met → AsksPatterns P old new Now
+  as_met back on asks = record { tells_same = asks.tells_same; refuses_same = asks.refuses_same; later = asks.later; cause = λ now. asks.cause (back now); other = λ unmet. asks.other (λ met. unmet (on met)) }
+
+  -- ---- which pattern is refused
+
+  pub refused_still : {old mid : S} {patterns : List (List ℕ)} → Untouched P old mid → HasRefused (P.refuses mid) patterns → HasRefused (P.refuses old) patterns
+  refused_still {patterns = patterns} u has = subst (λ (r : Option (List ℕ → Bool)). HasRefused r patterns) u.refuses_same has
+
+  pub facts_still : {old mid : S} → Untouched P old mid → (Q : PatternFacts → Type 0) → Q (facts_of P mid) → Q (facts_of P old)
+  facts_still u Q q = subst Q (facts_same u) q
+
+  pub named_still : {old mid : S} {Stand Part : List Shape → Type 0} (request : HttpRequest) (fault : MatchFault) → Untouched P old mid → ((shapes : List Shape) → Stand shapes → Part shapes)
+      → ((shapes : List Shape) → Part shapes → IsNamed (facts_of P mid) request shapes fault) → (shapes : List Shape) → Stand shapes → IsNamed (facts_of P old) request shapes fault
+  named_still request fault u stands named = λ shapes all. subst (λ (facts : PatternFacts). IsNamed facts request shapes fault) (facts_same u) (named shapes (stands shapes all))
 
 -- one pattern is asked
 pub told_by : (tells : Option Pat) (pat : Pat) → tells ≡ Some pat → (given pattern string : List ℕ) → given ≡ pattern → (result : Result Bool PatternFault) → IfOk result (λ answer. IfSome tells (λ f. answer ≡ f given string))
@@ -41,64 +89,10 @@ pub told_by : (tells : Option Pat) (pat : Pat) → tells ≡ Some pat → (given
 told_by tells pat told given pattern string same result is =
     subst (λ (p : List ℕ). IfOk result (λ answer. answer ≡ pat p string)) same (subst (λ (t : Option Pat). IfOk result (λ answer. IfSome t (λ f. answer ≡ f given string))) told is)
 
-pub asks_one : {refuses : Option (List ℕ → Bool)} {before now : ℕ} {result : Result Bool PatternFault} (given wanted : List ℕ) → given ≡ wanted → before ≤ now
-    → (IsErrOf result pattern.Refused → Rose before now) → (IsErrOf result pattern.Refused → IfSome refuses (λ f. f given ≡ true)) → AsksAmong refuses before now (wanted ∷ []) result
-asks_one {refuses = refuses} given wanted same le cause named = record {
-  later = le;
-  cause = cause;
-  named = λ e.
-      let one : 0 < length (wanted ∷ []) = omega arith in
-      record { pattern = wanted; among = (0, one, refl); refused = subst (λ (p : List ℕ). IfSome refuses (λ f. f p ≡ true)) same (named e) };
-}
-
-module _ {refuses refuses_mid : Option (List ℕ → Bool)} {before mid now : ℕ} (same : refuses_mid ≡ refuses) (le : before ≤ mid) where
-  -- a part, after others
-  pub onward : {patterns all : List (List ℕ)} {result : Result Bool PatternFault} → ((x : List ℕ) → Contains patterns x → Contains all x) → AsksAmong refuses_mid mid now patterns result → AsksAmong refuses before now all result
-  onward among asks = record {
-    later = later_than le asks.later;
-    cause = λ e. rose_after le (asks.cause e);
-    named = λ e.
-        let found = asks.named e in
-        record { pattern = found.pattern; among = among found.pattern found.among; refused = subst (λ (r : Option (List ℕ → Bool)). IfSome r (λ f. f found.pattern ≡ true)) same found.refused };
-  }
-
-  -- a walk over a part that met a fault
-  pub failed : {T : Type 0} {Stand Part : List Shape → Type 0} {fault : MatchFault} → ((shapes : List Shape) → Stand shapes → Part shapes)
-      → AsksIn {T = T} refuses_mid mid now Part (Err fault) → AsksIn {T = T} refuses before now Stand (Err fault)
-  failed {fault = fault} stands asks = record {
-    later = later_than le asks.later;
-    cause = λ met. rose_after le (asks.cause met);
-    named = λ shapes all. subst (λ (r : Option (List ℕ → Bool)). IsNamed r shapes fault) same (asks.named shapes (stands shapes all));
-  }
-
-  pub named_in : {T : Type 0} {Part : List Shape → Type 0} {fault : MatchFault} → AsksIn {T = T} refuses_mid mid now Part (Err fault) → (shapes : List Shape) → Part shapes → IsNamed refuses shapes fault
-  named_in {fault = fault} asks shapes part = subst (λ (r : Option (List ℕ → Bool)). IsNamed r shapes fault) same (asks.named shapes part)
-
--- a walk that met no fault
-pub walked : {T : Type 0} {refuses : Option (List ℕ → Bool)} {before now : ℕ} {Stand : List Shape → Type 0} {value : T} → before ≤ now → AsksIn refuses before now Stand (Ok value)
-walked le = record { later = le; cause = λ met. absurd met; named = λ shapes all. tt }
-
--- a pattern of the match was refused
-pub refused_at : {T : Type 0} {refuses : Option (List ℕ → Bool)} {before now : ℕ} (route rule item : ℕ) (m : HttpMatch) (fault : PatternFault) → fault ≡ pattern.Refused
-    → AsksAmong refuses before now (patterns_of m) (Err fault) → AsksIn {T = T} refuses before now (HasMatch route rule item m) (Err (Refused route rule item))
-refused_at route rule item m fault is asks = record {
-  later = asks.later;
-  cause = λ met. asks.cause (ap Err is);
-  named = λ shapes stands.
-      let found = asks.named (ap Err is) in
-      record {
-        shape = stands.in_rule.shape;
-        route_at = stands.in_rule.route_at;
-        matches = stands.matches;
-        rule_at = stands.in_rule.rule_at;
-        found = m;
-        item_at = stands.item_at;
-        has_pattern = record { pattern = found.pattern; among = found.among; refused = found.refused };
-      };
-}
-
-pub memory_at : {T : Type 0} {refuses : Option (List ℕ → Bool)} {before now : ℕ} {Stand : List Shape → Type 0} → before ≤ now → AsksIn {T = T} refuses before now Stand (Err Memory)
-memory_at le = record { later = le; cause = λ met. absurd met; named = λ shapes stands. tt }
+pub refused_one : (refuses : Option (List ℕ → Bool)) (given wanted : List ℕ) → given ≡ wanted → IfSome refuses (λ f. f given ≡ true) → HasRefused refuses (wanted ∷ [])
+refused_one refuses given wanted same is =
+    let one : 0 < length (wanted ∷ []) = omega arith in
+    record { pattern = wanted; among = (0, one, refl); refused = subst (λ (p : List ℕ). IfSome refuses (λ f. f p ≡ true)) same is }
 
 -- ---- an item of a list
 
@@ -109,21 +103,71 @@ module _ {X : Type 0} {xs items : List X} (same : items ≡ xs) (i : ℕ) (x : X
   pub stands_through : {Y : Type 0} (f : X → Y) → slice_get (map f xs) i ≡ Some (f x)
   stands_through f = slice_get-map f xs i ∙ ap (option_map f) item_stands
 
-Contains-flat_map : {X : Type 0} (f : X → List (List ℕ)) (xs : List X) (i : ℕ) (d : X) → i < length xs → (y : List ℕ) → Contains (f (get_or xs i d)) y → Contains (flat_map f xs) y
-Contains-flat_map f [] i d lt y has = absurd (omega arith)
-Contains-flat_map f (x ∷ xs) zero d lt y has = Contains-append_left (f x) (flat_map f xs) y has
-Contains-flat_map f (x ∷ xs) (suc i) d lt y has = Contains-append_right (f x) (flat_map f xs) y (Contains-flat_map f xs i d (omega arith) y has)
+-- in the front of a longer list
+get_in_front : {Y : Type 0} (xs ys : List Y) (k : ℕ) (y : Y) → slice_get xs k ≡ Some y → slice_get (xs ++ ys) k ≡ Some y
+get_in_front [] ys k y at = absurd (cc at)
+get_in_front (x ∷ xs) ys zero y at = at
+get_in_front (x ∷ xs) ys (suc k) y at = get_in_front xs ys k y at
 
-pub among_all : {X : Type 0} (f : X → List (List ℕ)) (xs : List X) (i : ℕ) (x : X) → i < length xs → x ≡ get_or xs i x → (y : List ℕ) → Contains (f x) y → Contains (flat_map f xs) y
-among_all {X} f xs i x lt at y has = Contains-flat_map f xs i x lt y (subst (λ (z : X). Contains (f z) y) at has)
+take_in_front : {Y : Type 0} (xs ys : List Y) (k : ℕ) (y : Y) → slice_get xs k ≡ Some y → take k (xs ++ ys) ≡ take k xs
+take_in_front [] ys k y at = absurd (cc at)
+take_in_front (x ∷ xs) ys zero y at = refl
+take_in_front (x ∷ xs) ys (suc k) y at = ap (λ zs. x ∷ zs) (take_in_front xs ys k y at)
 
-among_parts : (m : HttpMatch) (y : List ℕ) → Contains (flat_map value_pattern m.headers ++ flat_map value_pattern m.query) y → Contains (patterns_of m) y
-among_parts m y has = Contains-append_right (path_pattern m.path) (flat_map value_pattern m.headers ++ flat_map value_pattern m.query) y has
+-- ---- a pattern of an item among others
 
-pub among_headers : (m : HttpMatch) (given : List NameMatch) → given ≡ m.headers → (y : List ℕ) → Contains (flat_map value_pattern given) y → Contains (patterns_of m) y
-among_headers m given same y has =
-    among_parts m y (Contains-append_left (flat_map value_pattern m.headers) (flat_map value_pattern m.query) y (subst (λ (parts : List NameMatch). Contains (flat_map value_pattern parts) y) same has))
+-- seen as items of another type
+pub seen_as : {X Y : Type 0} {facts : PatternFacts} {patterns : Y → List (List ℕ)} {holds : Pat → Y → Bool} {xs : List X} (f : X → Y)
+    → RefusesAt facts (λ x. patterns (f x)) (λ pat x. holds pat (f x)) xs → RefusesAt facts patterns holds (map f xs)
+seen_as {holds = holds} {xs = xs} f at = record {
+  place = at.place;
+  item = f at.item;
+  item_at = slice_get-map f xs at.place ∙ ap (option_map f) at.item_at;
+  has_refused = at.has_refused;
+  before = λ pat told. ap (list_all (holds pat)) (take-map f at.place xs) ∙ list_all-map (holds pat) f (take at.place xs) ∙ at.before pat told;
+}
 
-pub among_query : (m : HttpMatch) (given : List NameMatch) → given ≡ m.query → (y : List ℕ) → Contains (flat_map value_pattern given) y → Contains (patterns_of m) y
-among_query m given same y has =
-    among_parts m y (Contains-append_right (flat_map value_pattern m.headers) (flat_map value_pattern m.query) y (subst (λ (parts : List NameMatch). Contains (flat_map value_pattern parts) y) same has))
+module _ {Y : Type 0} {facts : PatternFacts} {patterns : Y → List (List ℕ)} {holds : Pat → Y → Bool} where
+  -- behind one that holds
+  behind : (y : Y) {ys : List Y} → ((pat : Pat) → facts.tells ≡ Some pat → holds pat y ≡ true) → RefusesAt facts patterns holds ys → RefusesAt facts patterns holds (y ∷ ys)
+  behind y {ys} here at = record {
+    place = suc at.place;
+    item = at.item;
+    item_at = at.item_at;
+    has_refused = at.has_refused;
+    before = λ pat told. and_from (holds pat y) (list_all (holds pat) (take at.place ys)) (here pat told) (at.before pat told);
+  }
+
+  behind_all : (xs : List Y) {ys : List Y} → ((pat : Pat) → facts.tells ≡ Some pat → list_all (holds pat) xs ≡ true) → RefusesAt facts patterns holds ys → RefusesAt facts patterns holds (xs ++ ys)
+  behind_all [] here at = at
+  behind_all (x ∷ xs) here at =
+      behind x (λ pat told. (and_parts (holds pat x) (list_all (holds pat) xs) (here pat told)).0)
+      (behind_all xs (λ pat told. (and_parts (holds pat x) (list_all (holds pat) xs) (here pat told)).1) at)
+
+  at_head : {y : Y} (ys : List Y) → HasRefused facts.refuses (patterns y) → RefusesAt facts patterns holds (y ∷ ys)
+  at_head {y} ys has = record { place = 0; item = y; item_at = refl; has_refused = has; before = λ pat told. refl }
+
+  in_front : {xs : List Y} (ys : List Y) → RefusesAt facts patterns holds xs → RefusesAt facts patterns holds (xs ++ ys)
+  in_front {xs} ys at = record {
+    place = at.place;
+    item = at.item;
+    item_at = get_in_front xs ys at.place at.item at.item_at;
+    has_refused = at.has_refused;
+    before = λ pat told. ap (list_all (holds pat)) (take_in_front xs ys at.place at.item at.item_at) ∙ at.before pat told;
+  }
+
+-- ---- a part of a match
+
+module _ {facts : PatternFacts} (request : HttpRequest) (m : HttpMatch) where
+  pub path_refused : HasRefused facts.refuses (path_pattern m.path) → RefusesAt facts part_patterns (part_holds request) (parts m)
+  path_refused has = at_head (map of_header m.headers ++ map of_query m.query) has
+
+  module _ (path : (pat : Pat) → facts.tells ≡ Some pat → path_holds pat request.path m.path ≡ true) where
+    pub header_refused : RefusesAt facts value_pattern (λ pat. header_holds pat request.headers) m.headers → RefusesAt facts part_patterns (part_holds request) (parts m)
+    header_refused at = behind (of_path m.path) path (in_front (map of_query m.query) (seen_as of_header at))
+
+    pub query_refused : ((pat : Pat) → facts.tells ≡ Some pat → list_all (header_holds pat request.headers) m.headers ≡ true)
+        → RefusesAt facts value_pattern (λ pat. query_holds pat (parts_of request.query)) m.query → RefusesAt facts part_patterns (part_holds request) (parts m)
+    query_refused headers at =
+        behind (of_path m.path) path
+        (behind_all (map of_header m.headers) (λ pat told. list_all-map (part_holds request pat) of_header m.headers ∙ headers pat told) (seen_as of_query at))

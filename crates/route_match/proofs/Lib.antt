@@ -1,4 +1,5 @@
 pub mod Asks
+pub mod Candidates
 pub mod FirstBest
 pub mod Parts
 pub mod Queries

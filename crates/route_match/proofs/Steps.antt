@@ -1,8 +1,8 @@
 -- One item more of a walk with places.
-use Rattle.std.proofs.Common.{◌≡◌, ℕ, ◌+◌, ◌<◌, Bool, true, false, ◌&&◌, List, [], ◌∷◌, ◌++◌, length, get_or, map, take, refl, sym, ap, ◌∙◌, arith, length-take, append-nil, append_assoc}
+use Rattle.std.proofs.Common.{◌≡◌, ℕ, ◌+◌, ◌<◌, Bool, true, false, ◌&&◌, ◌||◌, List, [], ◌∷◌, ◌++◌, length, get_or, map, take, refl, sym, ap, ◌∙◌, arith, length-take, append-nil, append_assoc}
 use Rattle.std.specs.List.{fold, list_all, list_any}
 use Rattle.std.proofs.lemmas.List.{take_more}
-use Rattle.std.proofs.lemmas.List.Folds.{list_all_at, list_all_more, list_any_at}
+use Rattle.std.proofs.lemmas.List.Folds.{list_all_at, list_all_more, list_any_at, list_any_more}
 use Rattle.std.proofs.lemmas.List.Sums.{fold-append}
 use Rattle.route_match.specs.Matching.{flat_from}
 
@@ -43,9 +43,17 @@ both true true first second = refl
 both true false first second = cc
 both false b first second = cc
 
+neither : (a b : Bool) → a ≡ false → b ≡ false → (a || b) ≡ false
+neither false false first second = refl
+neither false true first second = cc
+neither true b first second = cc
+
 module _ {X : Type 0} (p : X → Bool) (xs : List X) (i : ℕ) (x : X) (lt : i < length xs) (at : x ≡ get_or xs i x) where
   pub any_at : p x ≡ true → true ≡ list_any p xs
   any_at is = sym (list_any_at p xs i x lt (ap p (sym at) ∙ is))
+
+  pub any_more : list_any p (take i xs) ≡ false → p x ≡ false → list_any p (take (i + 1) xs) ≡ false
+  any_more before is = list_any_more p xs i x lt ∙ neither _ _ before (ap p (sym at) ∙ is)
 
   pub all_stops : p x ≡ false → false ≡ list_all p xs
   all_stops is = sym (list_all_at p xs i x lt (ap p (sym at) ∙ is))

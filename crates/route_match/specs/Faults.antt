@@ -1,9 +1,10 @@
 -- What a choice of the best match may answer where a regular expression is refused.
-use Rattle.std.specs.Prelude.{◌≡◌, ◌≤◌, ℕ, Bool, List, Option, Some, Result, Ok, Err, IfErr}
+use Rattle.std.specs.Prelude.{◌≡◌, ℕ, List, Some, Result, Ok, Err, IfErr}
 use Rattle.std.specs.List.{slice_get}
-use Rattle.mesh_outside.specs.Causes.{Rose}
+use Rattle.view_types.specs.declared.request.HttpRequest.{HttpRequest}
 use Rattle.view_types.specs.declared.route.HttpMatch.{HttpMatch}
-use Rattle.route_match.specs.Matching.{NamesMatch, Shape}
+use Rattle.route_match.specs.Asking.{AsksRefused, PatternFacts}
+use Rattle.route_match.specs.Matching.{Shape}
 use Rattle.route_match.specs.declared.fault.MatchFault.{MatchFault}
 use Rattle.route_match.specs.declared.fault.MatchFault.TheVariants.{Memory, Refused}
 
@@ -13,28 +14,36 @@ MetRefused (Err (Refused route rule item)) = Unit {0}
 MetRefused (Err Memory) = ⊥
 MetRefused (Ok value) = ⊥
 
--- the match that is named has one that may be refused
-abbrev pub IsNamed : Option (List ℕ → Bool) → List Shape → MatchFault → Type 0
-IsNamed refuses shapes (Refused route rule item) = NamesMatch refuses shapes route rule item
-IsNamed refuses shapes Memory = Unit {0}
+-- the match stands at the places, in a route with these hostnames
+pub record HasMatch (hosts : List (List ℕ)) (route rule item : ℕ) (m : HttpMatch) (shapes : List Shape) : Type 0 where
+  pub shape : Shape
+  pub route_at : slice_get shapes route ≡ Some shape
+  pub hosts_same : shape.0 ≡ hosts
+  pub matches : List HttpMatch
+  pub rule_at : slice_get shape.1 rule ≡ Some matches
+  pub item_at : slice_get matches item ≡ Some m
+
+-- the match at the places is asked for a regular expression that is refused
+pub record NamesMatch (facts : PatternFacts) (request : HttpRequest) (shapes : List Shape) (route rule item : ℕ) : Type 0 where
+  pub hosts : List (List ℕ)
+  pub found : HttpMatch
+  pub has_match : HasMatch hosts route rule item found shapes
+  pub asks_refused : AsksRefused facts request hosts found
+
+-- the fault names such a match, or is that memory ran out
+abbrev pub IsNamed : PatternFacts → HttpRequest → List Shape → MatchFault → Type 0
+IsNamed facts request shapes (Refused route rule item) = NamesMatch facts request shapes route rule item
+IsNamed facts request shapes Memory = Unit {0}
 
 -- ---- a walk over some of the matches
 
--- a rule of these matches stands at the places
-pub record HasRule (route rule : ℕ) (matches : List HttpMatch) (shapes : List Shape) : Type 0 where
+-- a rule of these matches stands at the places, in a route with these hostnames
+pub record HasRule (hosts : List (List ℕ)) (route rule : ℕ) (matches : List HttpMatch) (shapes : List Shape) : Type 0 where
   pub shape : Shape
   pub route_at : slice_get shapes route ≡ Some shape
+  pub hosts_same : shape.0 ≡ hosts
   pub rule_at : slice_get shape.1 rule ≡ Some matches
 
--- the match stands at the places
-pub record HasMatch (route rule item : ℕ) (m : HttpMatch) (shapes : List Shape) : Type 0 where
-  pub matches : List HttpMatch
-  pub in_rule : HasRule route rule matches shapes
-  pub item_at : slice_get matches item ≡ Some m
-
--- The count of refusals doesn't fall, and a refusal is answered only where it rose; it names a match of any shapes in which those of
--- the walk stand.
-pub record AsksIn {T : Type 0} (refuses : Option (List ℕ → Bool)) (before now : ℕ) (Stand : List Shape → Type 0) (result : Result T MatchFault) : Type 0 where
-  pub later : before ≤ now
-  pub cause : MetRefused result → Rose before now
-  pub named : (shapes : List Shape) → Stand shapes → IfErr result (IsNamed refuses shapes)
+-- a fault names a match of any shapes in which those of the walk stand
+abbrev pub NamesIn : {T : Type 0} → PatternFacts → HttpRequest → (List Shape → Type 0) → Result T MatchFault → Type 0
+NamesIn facts request Stand result = (shapes : List Shape) → Stand shapes → IfErr result (IsNamed facts request shapes)

@@ -1,6 +1,6 @@
 -- Which matches of routes hold for a request, and the best of them (HTTPRoute of both groups). The relation between patterns and
 -- strings is a parameter.
-use Rattle.std.specs.Prelude.{◌≡◌, ◌&&◌, ◌==◌, ◌++◌, ◌+◌, ◌-◌, ℕ, Bool, true, false, if◌then◌else◌, List, [], ◌∷◌, Option, Some, None, All, Contains, IfSome, MatchOption, codes, drop, filter, find, flat_map, length, map, nat_eq, option_map, take}
+use Rattle.std.specs.Prelude.{◌≡◌, ◌⊎◌, ◌<◌, ◌&&◌, ◌==◌, ◌++◌, ◌+◌, ◌-◌, ℕ, Bool, true, false, if◌then◌else◌, List, [], ◌∷◌, Option, Some, None, All, MatchOption, codes, drop, filter, find, length, map, nat_eq, option_map, take}
 use Rattle.std.specs.Cmp.Lexicographic.{slice_cmp}
 use Rattle.std.specs.List.{ends_with, fold, list_all, list_any, slice_get, starts_with}
 use Rattle.std.specs.Ordering.{is_gt, nat_cmp}
@@ -147,41 +147,37 @@ better (Some b) c = Some (if is_gt (slice_cmp nat_cmp c.merit b.merit) then c el
 abbrev pub best : Pat → HttpRequest → List Shape → Option Candidate
 best pat request shapes = fold better None (candidates pat request shapes)
 
--- ---- regular expressions
-
-abbrev pub path_pattern : PathMatch → List (List ℕ)
-path_pattern (Regex string) = string ∷ []
-path_pattern (Exact string) = []
-path_pattern (Prefix string) = []
-
-abbrev pub value_pattern : NameMatch → List (List ℕ)
-value_pattern part = if part.regex then part.value ∷ [] else []
-
--- the regular expressions of a match
-abbrev pub patterns_of : HttpMatch → List (List ℕ)
-patterns_of m = path_pattern m.path ++ (flat_map value_pattern m.headers ++ flat_map value_pattern m.query)
-
--- The match has a regular expression; where it is told which are refused, one of those.
-pub record HasPattern (refuses : Option (List ℕ → Bool)) (m : HttpMatch) : Type 0 where
-  pub pattern : List ℕ
-  pub among : Contains (patterns_of m) pattern
-  pub refused : IfSome refuses (λ f. f pattern ≡ true)
-
--- the match at the place has one
-pub record NamesMatch (refuses : Option (List ℕ → Bool)) (shapes : List Shape) (route rule item : ℕ) : Type 0 where
-  pub shape : Shape
-  pub route_at : slice_get shapes route ≡ Some shape
-  pub matches : List HttpMatch
-  pub rule_at : slice_get shape.1 rule ≡ Some matches
-  pub found : HttpMatch
-  pub item_at : slice_get matches item ≡ Some found
-  pub has_pattern : HasPattern refuses found
-
 -- ---- what is shown of a route
 
 -- what the choice looks at of a row
 abbrev pub row_shape : RouteRow → Shape
 row_shape row = (row.hosts, map (λ rule. rule.matches) row.rules)
+
+-- ---- the matches that hold
+
+-- the match at the places of the candidate is there and holds, and its merit is the candidate's
+pub record IsCandidate (pat : Pat) (request : HttpRequest) (shapes : List Shape) (c : Candidate) : Type 0 where
+  pub shape : Shape
+  pub route_at : slice_get shapes c.route ≡ Some shape
+  pub matches : List HttpMatch
+  pub rule_at : slice_get shape.1 c.rule ≡ Some matches
+  pub found : HttpMatch
+  pub item_at : slice_get matches c.item ≡ Some found
+  pub holding : holds pat request shape.0 found ≡ true
+  pub merit_is : c.merit ≡ merit found
+
+-- by route, then by rule, then by match
+abbrev pub ComesBefore : Candidate → Candidate → Type 0
+ComesBefore c d = (c.route < d.route) ⊎ ((c.route ≡ d.route) × ((c.rule < d.rule) ⊎ ((c.rule ≡ d.rule) × (c.item < d.item))))
+
+-- The list has the matches that hold and no others, in the order of their places.
+pub record AreCandidates (pat : Pat) (request : HttpRequest) (shapes : List Shape) (cs : List Candidate) : Type 0 where
+  pub only : (k : ℕ) (c : Candidate) → slice_get cs k ≡ Some c → IsCandidate pat request shapes c
+  pub each : (c : Candidate) → IsCandidate pat request shapes c → (k : ℕ) × (slice_get cs k ≡ Some c)
+  pub in_order : (k l : ℕ) (c d : Candidate) → k < l → slice_get cs k ≡ Some c → slice_get cs l ≡ Some d → ComesBefore c d
+
+abbrev pub CandidatesAreThoseThatHold : Type 0
+CandidatesAreThoseThatHold = (pat : Pat) (request : HttpRequest) (shapes : List Shape) → AreCandidates pat request shapes (candidates pat request shapes)
 
 -- ---- the best of a list
 

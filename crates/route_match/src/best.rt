@@ -1,7 +1,7 @@
-ghost use Rattle.std.specs.Prelude.{◌≡◌, ◌≤◌, Some, IfErr, IfOk, fold, map, option_to_list};
+ghost use Rattle.std.specs.Prelude.{◌≡◌, Some, IfErr, IfOk, fold, map, option_to_list};
 ghost use Rattle.std.specs.List.{slice_get};
-ghost use Rattle.mesh_outside.specs.Causes.{Rose};
-ghost use Rattle.route_match.specs.Faults.{AsksIn, HasMatch, HasRule, IsNamed, MetRefused};
+ghost use Rattle.route_match.specs.Asking.{AsksPatterns, facts_of};
+ghost use Rattle.route_match.specs.Faults.{HasMatch, HasRule, IsNamed, MetRefused, NamesIn};
 ghost use Rattle.route_match.specs.Matching.{Pat, best, better, flat_from, in_match, in_route, row_shape};
 
 use crate::fault::MatchFault;
@@ -41,11 +41,8 @@ pub fn best_match<P: Patterns>(
     routes: &[RouteRow],
 ) -> Result<Option<Candidate>, MatchFault>
     ensures best { (pat : Pat) → P.tells patterns.old ≡ Some pat → IfOk result (λ found. found ≡ best pat request.now (map row_shape routes.now)) }
-    ensures named { IfErr result (λ fault. IsNamed (P.refuses patterns.old) (map row_shape routes.now) fault) }
-    ensures cause { MetRefused result → Rose (P.refusals patterns.old) (P.refusals patterns.new) }
-    ensures later { P.refusals patterns.old ≤ P.refusals patterns.new }
-    ensures tells_same { P.tells patterns.new ≡ P.tells patterns.old }
-    ensures refuses_same { P.refuses patterns.new ≡ P.refuses patterns.old }
+    ensures named { IfErr result (IsNamed (facts_of P.Patterns patterns.old) request.now (map row_shape routes.now)) }
+    ensures asks { AsksPatterns P.Patterns patterns.old patterns.new (MetRefused result) }
 {
     let mut found = None;
     for (place, route) in routes.iter().enumerate() {
@@ -66,9 +63,8 @@ fn over_route<P: Patterns>(
     route: &RouteRow,
 ) -> Result<Option<Candidate>, MatchFault>
     ensures best { (pat : Pat) → P.tells patterns.old ≡ Some pat → IfOk result (λ next. next ≡ fold better found (in_route pat request.now place (row_shape route.now))) }
-    ensures asks { AsksIn (P.refuses patterns.old) (P.refusals patterns.old) (P.refusals patterns.new) (λ shapes. slice_get shapes place ≡ Some (row_shape route.now)) result }
-    ensures tells_same { P.tells patterns.new ≡ P.tells patterns.old }
-    ensures refuses_same { P.refuses patterns.new ≡ P.refuses patterns.old }
+    ensures named { NamesIn (facts_of P.Patterns patterns.old) request.now (λ shapes. slice_get shapes place ≡ Some (row_shape route.now)) result }
+    ensures asks { AsksPatterns P.Patterns patterns.old patterns.new (MetRefused result) }
 {
     let mut next = found;
     for (rule_place, rule) in route.rules.as_slice().iter().enumerate() {
@@ -94,9 +90,8 @@ fn over_rule<P: Patterns>(
     rule: &RuleRow,
 ) -> Result<Option<Candidate>, MatchFault>
     ensures best { (pat : Pat) → P.tells patterns.old ≡ Some pat → IfOk result (λ next. next ≡ fold better found (flat_from (in_match pat request.now hosts.now at.route at.rule) 0 rule.now.matches)) }
-    ensures asks { AsksIn (P.refuses patterns.old) (P.refusals patterns.old) (P.refusals patterns.new) (HasRule at.route at.rule rule.now.matches) result }
-    ensures tells_same { P.tells patterns.new ≡ P.tells patterns.old }
-    ensures refuses_same { P.refuses patterns.new ≡ P.refuses patterns.old }
+    ensures named { NamesIn (facts_of P.Patterns patterns.old) request.now (HasRule hosts.now at.route at.rule rule.now.matches) result }
+    ensures asks { AsksPatterns P.Patterns patterns.old patterns.new (MetRefused result) }
 {
     let mut next = found;
     for (place, item) in rule.matches.as_slice().iter().enumerate() {
@@ -119,9 +114,8 @@ fn candidate_at<P: Patterns>(
     item: &HttpMatch,
 ) -> Result<Option<Candidate>, MatchFault>
     ensures best { (pat : Pat) → P.tells patterns.old ≡ Some pat → IfOk result (λ found. option_to_list found ≡ in_match pat request.now hosts.now at.route at.rule place item.now) }
-    ensures asks { AsksIn (P.refuses patterns.old) (P.refusals patterns.old) (P.refusals patterns.new) (HasMatch at.route at.rule place item.now) result }
-    ensures tells_same { P.tells patterns.new ≡ P.tells patterns.old }
-    ensures refuses_same { P.refuses patterns.new ≡ P.refuses patterns.old }
+    ensures named { NamesIn (facts_of P.Patterns patterns.old) request.now (HasMatch hosts.now at.route at.rule place item.now) result }
+    ensures asks { AsksPatterns P.Patterns patterns.old patterns.new (MetRefused result) }
 {
     match holds(alloc, patterns, request, hosts, item) {
         Ok(true) => Ok(Some(Candidate {

@@ -1,8 +1,8 @@
-ghost use Rattle.std.specs.Prelude.{◌≡◌, Some, IfOk, flat_map};
+ghost use Rattle.std.specs.Prelude.{◌≡◌, Some, IfOk, IsErrOf};
 ghost use Rattle.std.specs.List.{list_all};
 ghost use Rattle.std.specs.Str.{str_eq_ignore_ascii_case};
-ghost use Rattle.route_match.specs.Asking.{AsksAmong};
-ghost use Rattle.route_match.specs.Matching.{Pat, header_holds, is_wanted, value_pattern};
+ghost use Rattle.route_match.specs.Asking.{AsksPatterns, HasRefused, RefusesAt, facts_of, value_pattern};
+ghost use Rattle.route_match.specs.Matching.{Pat, header_holds, is_wanted};
 
 use crate::value::value_holds;
 use mesh_base::text::Text;
@@ -18,9 +18,8 @@ pub(crate) fn headers_hold<P: Patterns>(
     wanted: &[NameMatch],
 ) -> Result<bool, PatternFault>
     ensures told { (pat : Pat) → P.tells patterns.old ≡ Some pat → IfOk result (λ all. all ≡ list_all (header_holds pat headers.now) wanted.now) }
-    ensures asks { AsksAmong (P.refuses patterns.old) (P.refusals patterns.old) (P.refusals patterns.new) (flat_map value_pattern wanted.now) result }
-    ensures tells_same { P.tells patterns.new ≡ P.tells patterns.old }
-    ensures refuses_same { P.refuses patterns.new ≡ P.refuses patterns.old }
+    ensures asks { AsksPatterns P.Patterns patterns.old patterns.new (IsErrOf result PatternFault.Refused) }
+    ensures named { IsErrOf result PatternFault.Refused → RefusesAt (facts_of P.Patterns patterns.old) value_pattern (λ pat. header_holds pat headers.now) wanted.now }
 {
     for part in wanted {
         match header_holds(alloc, patterns, headers, part) {
@@ -39,9 +38,8 @@ fn header_holds<P: Patterns>(
     part: &NameMatch,
 ) -> Result<bool, PatternFault>
     ensures told { (pat : Pat) → P.tells patterns.old ≡ Some pat → IfOk result (λ some. some ≡ header_holds pat headers.now part.now) }
-    ensures asks { AsksAmong (P.refuses patterns.old) (P.refusals patterns.old) (P.refusals patterns.new) (value_pattern part.now) result }
-    ensures tells_same { P.tells patterns.new ≡ P.tells patterns.old }
-    ensures refuses_same { P.refuses patterns.new ≡ P.refuses patterns.old }
+    ensures asks { AsksPatterns P.Patterns patterns.old patterns.new (IsErrOf result PatternFault.Refused) }
+    ensures named { IsErrOf result PatternFault.Refused → HasRefused (P.refuses patterns.old) (value_pattern part.now) }
 {
     for header in headers {
         match is_wanted(alloc, patterns, header, part) {
@@ -60,9 +58,8 @@ fn is_wanted<P: Patterns>(
     part: &NameMatch,
 ) -> Result<bool, PatternFault>
     ensures told { (pat : Pat) → P.tells patterns.old ≡ Some pat → IfOk result (λ wanted. wanted ≡ is_wanted pat part.now header.now) }
-    ensures asks { AsksAmong (P.refuses patterns.old) (P.refusals patterns.old) (P.refusals patterns.new) (value_pattern part.now) result }
-    ensures tells_same { P.tells patterns.new ≡ P.tells patterns.old }
-    ensures refuses_same { P.refuses patterns.new ≡ P.refuses patterns.old }
+    ensures asks { AsksPatterns P.Patterns patterns.old patterns.new (IsErrOf result PatternFault.Refused) }
+    ensures named { IsErrOf result PatternFault.Refused → HasRefused (P.refuses patterns.old) (value_pattern part.now) }
 {
     if is_same_name(&header.0, &part.name) {
         value_holds(alloc, patterns, part, header.1.as_str())

@@ -1,6 +1,6 @@
-ghost use Rattle.std.specs.Prelude.{◌≡◌, Some, IfOk};
-ghost use Rattle.route_match.specs.Asking.{AsksAmong};
-ghost use Rattle.route_match.specs.Matching.{Pat, holds, is_method, patterns_of};
+ghost use Rattle.std.specs.Prelude.{◌≡◌, Some, IfOk, IsErrOf};
+ghost use Rattle.route_match.specs.Asking.{AsksPatterns, AsksRefused, facts_of};
+ghost use Rattle.route_match.specs.Matching.{Pat, holds, is_method};
 
 use crate::header::headers_hold;
 use crate::host::hosts_hold;
@@ -22,9 +22,8 @@ pub(crate) fn holds<P: Patterns>(
     item: &HttpMatch,
 ) -> Result<bool, PatternFault>
     ensures told { (pat : Pat) → P.tells patterns.old ≡ Some pat → IfOk result (λ all. all ≡ holds pat request.now hosts.now item.now) }
-    ensures asks { AsksAmong (P.refuses patterns.old) (P.refusals patterns.old) (P.refusals patterns.new) (patterns_of item.now) result }
-    ensures tells_same { P.tells patterns.new ≡ P.tells patterns.old }
-    ensures refuses_same { P.refuses patterns.new ≡ P.refuses patterns.old }
+    ensures asks { AsksPatterns P.Patterns patterns.old patterns.new (IsErrOf result PatternFault.Refused) }
+    ensures named { IsErrOf result PatternFault.Refused → AsksRefused (facts_of P.Patterns patterns.old) request.now hosts.now item.now }
 {
     if !hosts_hold(&request.host, hosts.as_slice()) {
         return Ok(false);

@@ -1,4 +1,10 @@
-ghost use Rattle.route_match.specs.Matching.{BestIsFirst};
+ghost use Rattle.route_match.specs.Matching.{BestIsFirst, CandidatesAreThoseThatHold};
+
+/// A match stands in the list of candidates exactly where its route, its rule and the match itself are there and it holds. Its merit
+/// is its own, and the list is in the order of the places.
+pub fn candidates_are_those_that_hold()
+    ensures { CandidatesAreThoseThatHold }
+{}
 
 /// The best match is the first of the best of those that hold.
 pub fn best_is_first()

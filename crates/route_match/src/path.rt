@@ -1,6 +1,6 @@
-ghost use Rattle.std.specs.Prelude.{◌≡◌, Some, IfOk};
-ghost use Rattle.route_match.specs.Asking.{AsksAmong};
-ghost use Rattle.route_match.specs.Matching.{Pat, goes_on, has_prefix, path_holds, path_pattern};
+ghost use Rattle.std.specs.Prelude.{◌≡◌, Some, IfOk, IsErrOf};
+ghost use Rattle.route_match.specs.Asking.{AsksPatterns, HasRefused, path_pattern};
+ghost use Rattle.route_match.specs.Matching.{Pat, goes_on, has_prefix, path_holds};
 
 use crate::merit::trimmed;
 use crate::value::is_whole;
@@ -17,9 +17,8 @@ pub(crate) fn path_holds<P: Patterns>(
     wanted: &PathMatch,
 ) -> Result<bool, PatternFault>
     ensures told { (pat : Pat) → P.tells patterns.old ≡ Some pat → IfOk result (λ holds. holds ≡ path_holds pat path.now wanted.now) }
-    ensures asks { AsksAmong (P.refuses patterns.old) (P.refusals patterns.old) (P.refusals patterns.new) (path_pattern wanted.now) result }
-    ensures tells_same { P.tells patterns.new ≡ P.tells patterns.old }
-    ensures refuses_same { P.refuses patterns.new ≡ P.refuses patterns.old }
+    ensures asks { AsksPatterns P.Patterns patterns.old patterns.new (IsErrOf result PatternFault.Refused) }
+    ensures named { IsErrOf result PatternFault.Refused → HasRefused (P.refuses patterns.old) (path_pattern wanted.now) }
 {
     match wanted {
         PathMatch::Exact(string) => Ok(*string == *path),

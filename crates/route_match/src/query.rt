@@ -1,8 +1,8 @@
-ghost use Rattle.std.specs.Prelude.{◌≡◌, ◌<◌, [], ◌∷◌, Some, IfNone, IfOk, IfSome, filter, flat_map, length, map, option_copied};
+ghost use Rattle.std.specs.Prelude.{◌≡◌, ◌<◌, [], ◌∷◌, Some, IfNone, IfOk, IfSome, IsErrOf, filter, length, map, option_copied};
 ghost use Rattle.std.specs.List.{list_all};
 ghost use Rattle.mesh_base.specs.Pieces.{pieces};
-ghost use Rattle.route_match.specs.Asking.{AsksAmong};
-ghost use Rattle.route_match.specs.Matching.{Pat, is_filled, part_of, parts_of, query_holds, value_in, value_pattern};
+ghost use Rattle.route_match.specs.Asking.{AsksPatterns, HasRefused, RefusesAt, facts_of, value_pattern};
+ghost use Rattle.route_match.specs.Matching.{Pat, is_filled, part_of, parts_of, query_holds, value_in};
 
 use crate::value::value_holds;
 use mesh_outside::{PatternFault, Patterns};
@@ -17,9 +17,8 @@ pub(crate) fn query_holds<P: Patterns>(
     wanted: &[NameMatch],
 ) -> Result<bool, PatternFault>
     ensures told { (pat : Pat) → P.tells patterns.old ≡ Some pat → IfOk result (λ all. all ≡ list_all (query_holds pat (parts_of query.now)) wanted.now) }
-    ensures asks { AsksAmong (P.refuses patterns.old) (P.refusals patterns.old) (P.refusals patterns.new) (flat_map value_pattern wanted.now) result }
-    ensures tells_same { P.tells patterns.new ≡ P.tells patterns.old }
-    ensures refuses_same { P.refuses patterns.new ≡ P.refuses patterns.old }
+    ensures asks { AsksPatterns P.Patterns patterns.old patterns.new (IsErrOf result PatternFault.Refused) }
+    ensures named { IsErrOf result PatternFault.Refused → RefusesAt (facts_of P.Patterns patterns.old) value_pattern (λ pat. query_holds pat (parts_of query.now)) wanted.now }
 {
     for part in wanted {
         match part_holds(alloc, patterns, query, part) {
@@ -38,9 +37,8 @@ fn part_holds<P: Patterns>(
     part: &NameMatch,
 ) -> Result<bool, PatternFault>
     ensures told { (pat : Pat) → P.tells patterns.old ≡ Some pat → IfOk result (λ holds. holds ≡ query_holds pat (parts_of query.now) part.now) }
-    ensures asks { AsksAmong (P.refuses patterns.old) (P.refusals patterns.old) (P.refusals patterns.new) (value_pattern part.now) result }
-    ensures tells_same { P.tells patterns.new ≡ P.tells patterns.old }
-    ensures refuses_same { P.refuses patterns.new ≡ P.refuses patterns.old }
+    ensures asks { AsksPatterns P.Patterns patterns.old patterns.new (IsErrOf result PatternFault.Refused) }
+    ensures named { IsErrOf result PatternFault.Refused → HasRefused (P.refuses patterns.old) (value_pattern part.now) }
 {
     match value_in(query, part.name.as_str()) {
         Some(value) => value_holds(alloc, patterns, part, value),

@@ -1,6 +1,6 @@
-ghost use Rattle.std.specs.Prelude.{◌≡◌, [], ◌∷◌, Some, IfOk};
-ghost use Rattle.route_match.specs.Asking.{AsksAmong};
-ghost use Rattle.route_match.specs.Matching.{Pat, value_holds, value_pattern};
+ghost use Rattle.std.specs.Prelude.{◌≡◌, [], ◌∷◌, Some, IfOk, IsErrOf};
+ghost use Rattle.route_match.specs.Asking.{AsksPatterns, HasRefused, value_pattern};
+ghost use Rattle.route_match.specs.Matching.{Pat, value_holds};
 
 use mesh_base::text::Text;
 use mesh_outside::{PatternFault, Patterns};
@@ -15,9 +15,8 @@ pub(crate) fn is_whole<P: Patterns>(
     string: &str,
 ) -> Result<bool, PatternFault>
     ensures told { (pat : Pat) → P.tells patterns.old ≡ Some pat → IfOk result (λ yes. yes ≡ pat pattern.now string.now) }
-    ensures asks { AsksAmong (P.refuses patterns.old) (P.refusals patterns.old) (P.refusals patterns.new) (pattern.now ∷ []) result }
-    ensures tells_same { P.tells patterns.new ≡ P.tells patterns.old }
-    ensures refuses_same { P.refuses patterns.new ≡ P.refuses patterns.old }
+    ensures asks { AsksPatterns P.Patterns patterns.old patterns.new (IsErrOf result PatternFault.Refused) }
+    ensures named { IsErrOf result PatternFault.Refused → HasRefused (P.refuses patterns.old) (pattern.now ∷ []) }
 {
     patterns.whole(alloc, pattern.as_str(), string)
 }
@@ -30,9 +29,8 @@ pub(crate) fn value_holds<P: Patterns>(
     value: &str,
 ) -> Result<bool, PatternFault>
     ensures told { (pat : Pat) → P.tells patterns.old ≡ Some pat → IfOk result (λ holds. holds ≡ value_holds pat part.now value.now) }
-    ensures asks { AsksAmong (P.refuses patterns.old) (P.refusals patterns.old) (P.refusals patterns.new) (value_pattern part.now) result }
-    ensures tells_same { P.tells patterns.new ≡ P.tells patterns.old }
-    ensures refuses_same { P.refuses patterns.new ≡ P.refuses patterns.old }
+    ensures asks { AsksPatterns P.Patterns patterns.old patterns.new (IsErrOf result PatternFault.Refused) }
+    ensures named { IsErrOf result PatternFault.Refused → HasRefused (P.refuses patterns.old) (value_pattern part.now) }
 {
     if part.regex {
         is_whole(alloc, patterns, &part.value, value)

@@ -1,13 +1,12 @@
-use Rattle.std.proofs.Common.{◌≡◌, ◌≤◌, Some, take, true}
+use Rattle.std.proofs.Common.{◌≡◌, Some, take, true}
 use Rattle.std.specs.List.{list_all}
 use Rattle.route_match.specs.Matching.{Pat, header_holds}
+use Rattle.route_match.proofs.Asks.{Untouched}
 use Rattle.route_match.proofs.header.headers_hold.Given as goal
 
 -- the headers wanted so far are there
 abbrev pub invariant-loop-part : goal.invariant-loop-part
 invariant-loop-part g l = record {
-  tells_same : g.P.Patterns.tells l.patterns ≡ g.P.Patterns.tells l.fn.patterns;
-  refuses_same : g.P.Patterns.refuses l.patterns ≡ g.P.Patterns.refuses l.fn.patterns;
-  later : g.P.Patterns.refusals l.fn.patterns ≤ g.P.Patterns.refusals l.patterns;
+  untouched : Untouched g.P.Patterns l.fn.patterns l.patterns;
   all : (pat : Pat) → g.P.Patterns.tells l.fn.patterns ≡ Some pat → list_all (header_holds pat l.headers) (take l.part-index l.wanted) ≡ true;
 }

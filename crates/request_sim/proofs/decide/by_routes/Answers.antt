@@ -1,0 +1,13 @@
+use Rattle.std.proofs.Common.{sym, ◌∙◌}
+use Rattle.std.proofs.lemmas.Bool.{and_parts}
+use Rattle.route_match.specs.Asking.{facts_of}
+use Rattle.request_rules.specs.Verdicts.{asks_routes}
+use Rattle.request_sim.specs.Decision.{has_rows}
+use Rattle.request_sim.proofs.Meets.{of_server}
+use Rattle.request_sim.proofs.decide.by_routes.Goals as goal
+
+pub returns-in-Err-matched_route-clause-named : goal.returns-in-Err-matched_route-clause-named
+returns-in-Err-matched_route-clause-named g c =
+    let server = c.args.server.now in
+    of_server (facts_of g.P.Patterns c.args.patterns.now) c.args.request.now.ns server c.args.http.now c.in-Err-matched_route.fault c.as_slice.result.now c.as_slice.ensures
+    (and_parts (has_rows server.routes) (asks_routes server.protocol) (sym c.routes_count.ensures ∙ c.if-not-routes_count.false)).1 c.in-Err-matched_route.ensures.named
