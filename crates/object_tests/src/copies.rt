@@ -90,6 +90,8 @@ const GET: &str = r#"Get{ns:"app",name:"web",port:80,ctx:{ns:"app",node:"n1"}}"#
 
 const PROFILE: &str = r#"Profile{target:{ns:"app",name:"web",port:80},ctx:{ns:"app",node:"n1"}}"#;
 
+const PORT: &str = r#"Port{ns:"app",pod:"web-1",port:80}"#;
+
 const TRAFFIC: &str = "Traffic({ip:0.0.0.1,port:80})";
 
 const REQUEST: &str = r#"{ns:"app",pod:"web-1",port:8080,client:0.0.0.1,tls:Identity("id"),
@@ -113,33 +115,56 @@ fn copies_request(alloc: Global, request: Request, expected: &str) -> bool {
     tell(alloc, Ok::<Request, Memory>(request)).is(expected)
 }
 
-#[test]
-fn what_is_asked_for(rt: HostRuntime) {
-    let alloc = rt.alloc();
-    assert!(rt; tell(alloc, Config::usual(alloc)).is(CONFIG));
-    let get = Query::Get {
+fn get(alloc: Global) -> Query {
+    Query::Get {
         ns: text(alloc, "app"),
         name: text(alloc, "web"),
         port: 80,
         ctx: context(alloc),
-    };
-    assert!(rt; copies_query(alloc, get, GET));
-    let profile = Query::Profile {
+    }
+}
+
+fn profile(alloc: Global) -> Query {
+    Query::Profile {
         target: target(alloc),
         ctx: context(alloc),
-    };
-    assert!(rt; copies_query(alloc, profile, PROFILE));
-    let port = Query::Port {
+    }
+}
+
+fn port(alloc: Global) -> Query {
+    Query::Port {
         ns: text(alloc, "app"),
         pod: text(alloc, "web-1"),
         port: 80,
-    };
-    assert!(rt; copies_query(alloc, port, r#"Port{ns:"app",pod:"web-1",port:80}"#));
-    let address = Target::Address {
-        ip: Ip::V4(1),
-        port: 80,
-    };
-    assert!(rt; copies_query(alloc, Query::Traffic { target: address }, TRAFFIC));
+    }
+}
+
+fn traffic() -> Query {
+    Query::Traffic {
+        target: Target::Address {
+            ip: Ip::V4(1),
+            port: 80,
+        },
+    }
+}
+
+#[test]
+fn the_usual_config(rt: HostRuntime) {
+    assert!(rt; tell(rt.alloc(), Config::usual(rt.alloc())).is(CONFIG));
+}
+
+#[test]
+fn queries(rt: HostRuntime) {
+    let alloc = rt.alloc();
+    assert!(rt; copies_query(alloc, get(alloc), GET));
+    assert!(rt; copies_query(alloc, profile(alloc), PROFILE));
+    assert!(rt; copies_query(alloc, port(alloc), PORT));
+    assert!(rt; copies_query(alloc, traffic(), TRAFFIC));
+}
+
+#[test]
+fn requests(rt: HostRuntime) {
+    let alloc = rt.alloc();
     assert!(rt; copies_request(alloc, request(alloc), REQUEST));
     assert!(rt; copies_request(alloc, bare_request(alloc, ClientTls::Plain), PLAIN));
     assert!(rt; copies_request(alloc, bare_request(alloc, ClientTls::Anonymous), ANONYMOUS));
@@ -355,19 +380,25 @@ fn copies_message(alloc: Global, message: Message, expected: &str) -> bool {
     tell(alloc, Ok::<Message, Memory>(message)).is(expected)
 }
 
+fn add(alloc: Global) -> Message {
+    Message::Add(one(alloc, endpoint(alloc)))
+}
+
+fn remove(alloc: Global) -> Message {
+    Message::Remove(one(alloc, (Ip::V4(1), 80)))
+}
+
+fn server(alloc: Global) -> Message {
+    Message::Server(ServerView::Present(server_row(alloc)))
+}
+
 #[test]
 fn messages(rt: HostRuntime) {
     let alloc = rt.alloc();
-    let add = Message::Add(one(alloc, endpoint(alloc)));
-    assert!(rt; copies_message(alloc, add, ADD));
-    let remove = Message::Remove(one(alloc, (Ip::V4(1), 80)));
-    assert!(rt; copies_message(alloc, remove, "Remove([(0.0.0.1,80)])"));
+    assert!(rt; copies_message(alloc, add(alloc), ADD));
+    assert!(rt; copies_message(alloc, remove(alloc), "Remove([(0.0.0.1,80)])"));
     assert!(rt; copies_message(alloc, Message::NoEndpoints(true), "NoEndpoints(true)"));
-    for message in [
-        Message::Profile(profile_view(alloc)),
-        Message::Server(ServerView::Present(server_row(alloc))),
-        Message::Outbound(outbound(alloc)),
-    ] {
-        assert!(rt; copies_message(alloc, message, "a whole view"));
-    }
+    assert!(rt; copies_message(alloc, Message::Profile(profile_view(alloc)), "a whole view"));
+    assert!(rt; copies_message(alloc, server(alloc), "a whole view"));
+    assert!(rt; copies_message(alloc, Message::Outbound(outbound(alloc)), "a whole view"));
 }

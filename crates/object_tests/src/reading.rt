@@ -426,20 +426,32 @@ fn request_holds(alloc: Global, row: &str) -> Result<bool, Fail> {
     asks(alloc, method, &bytes, answer)
 }
 
+fn wrong_message<'t>(alloc: Global, table: &'t str) -> Result<Option<&'t str>, Fail> {
+    for row in table.lines() {
+        if !message_holds(alloc, row)? {
+            return Ok(Some(row));
+        }
+    }
+    Ok(None)
+}
+
+fn wrong_request<'t>(alloc: Global, table: &'t str) -> Result<Option<&'t str>, Fail> {
+    for row in table.lines() {
+        if !request_holds(alloc, row)? {
+            return Ok(Some(row));
+        }
+    }
+    Ok(None)
+}
+
 #[test]
 fn messages_are_read_strictly(rt: HostRuntime) -> Result<(), Fail> {
-    let alloc = rt.alloc();
-    for row in MESSAGES.lines() {
-        assert!(rt; message_holds(alloc, row)?, "at {row}");
-    }
+    assert_eq!(rt; wrong_message(rt.alloc(), MESSAGES)?, None);
     Ok(())
 }
 
 #[test]
 fn requests_are_read_strictly(rt: HostRuntime) -> Result<(), Fail> {
-    let alloc = rt.alloc();
-    for row in REQUESTS.lines() {
-        assert!(rt; request_holds(alloc, row)?, "at {row}");
-    }
+    assert_eq!(rt; wrong_request(rt.alloc(), REQUESTS)?, None);
     Ok(())
 }

@@ -92,29 +92,32 @@ fn is_so(alloc: Global, row: &str) -> bool {
     }
 }
 
-// An empty table splits into one empty row, which isn't so.
+/// The first row of a table that isn't told as it says. An empty table has one empty row, which isn't so.
+fn wrong_row<'t>(alloc: Global, table: &'t str, mark: &str) -> Option<&'t str> {
+    for row in table.split(mark) {
+        if !is_so(alloc, row) {
+            return Some(row);
+        }
+    }
+    None
+}
+
 #[test]
-fn rows(rt: HostRuntime) {
-    for table in [
-        core_kinds::FAULTS,
-        policy::FAULTS,
-        profile::FAULTS,
-        route::FAULTS,
-    ] {
-        for row in table.split('\n') {
-            assert!(rt; is_so(rt.alloc(), row), "at {row}");
-        }
-    }
-    for table in [
-        core_kinds::OBJECTS,
-        policy::OBJECTS,
-        profile::OBJECTS,
-        route::OBJECTS,
-    ] {
-        for row in table.split("\n\n") {
-            assert!(rt; is_so(rt.alloc(), row), "at {row}");
-        }
-    }
+fn faults(rt: HostRuntime) {
+    let alloc = rt.alloc();
+    assert_eq!(rt; wrong_row(alloc, core_kinds::FAULTS, "\n"), None);
+    assert_eq!(rt; wrong_row(alloc, policy::FAULTS, "\n"), None);
+    assert_eq!(rt; wrong_row(alloc, profile::FAULTS, "\n"), None);
+    assert_eq!(rt; wrong_row(alloc, route::FAULTS, "\n"), None);
+}
+
+#[test]
+fn objects(rt: HostRuntime) {
+    let alloc = rt.alloc();
+    assert_eq!(rt; wrong_row(alloc, core_kinds::OBJECTS, "\n\n"), None);
+    assert_eq!(rt; wrong_row(alloc, policy::OBJECTS, "\n\n"), None);
+    assert_eq!(rt; wrong_row(alloc, profile::OBJECTS, "\n\n"), None);
+    assert_eq!(rt; wrong_row(alloc, route::OBJECTS, "\n\n"), None);
 }
 
 // Rows that aren't so: empty, without an arrow, without a kind, of a kind that there isn't, without JSON, told too

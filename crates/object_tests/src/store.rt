@@ -86,13 +86,22 @@ fn is_full(alloc: Global, store: &mut Store, name: &str) -> Result<bool, Fail> {
     Ok(full == Some(StoreFault::Full { held: 2 }))
 }
 
+/// How many objects are listed, and how many are counted.
+fn sizes(store: &Store) -> (usize, usize) {
+    (store.all().len(), store.len())
+}
+
 fn has(store: &Store, key: &ObjKey) -> bool {
     let mut steps = Steps::<Store>::new();
     store.get(key, &mut steps).is_some()
 }
 
+fn empty_store(alloc: Global) -> Store {
+    Store::new(alloc, 2)
+}
+
 fn full_store(alloc: Global) -> Result<Store, Fail> {
-    let mut store = Store::new(alloc, 2);
+    let mut store = empty_store(alloc);
     store.set(network(alloc, "a")?)?;
     store.set(network(alloc, "b")?)?;
     Ok(store)
@@ -101,10 +110,10 @@ fn full_store(alloc: Global) -> Result<Store, Fail> {
 #[test]
 fn objects_are_set(rt: HostRuntime) -> Result<(), Fail> {
     let alloc = rt.alloc();
-    let mut store = Store::new(alloc, 2);
+    let mut store = empty_store(alloc);
     assert!(rt; sets(alloc, &mut store, "a", FIRST)?);
     assert!(rt; sets(alloc, &mut store, "a", SAME_KEY)?);
-    assert_eq!(rt; (store.all().len(), store.len()), (1, 1));
+    assert_eq!(rt; sizes(&store), (1, 1));
     Ok(())
 }
 
@@ -114,7 +123,7 @@ fn a_full_store_is_relisted(rt: HostRuntime) -> Result<(), Fail> {
     let mut store = full_store(alloc)?;
     assert!(rt; is_full(alloc, &mut store, "c")?);
     assert!(rt; relists(alloc, &mut store, "c", LISTED)?);
-    assert_eq!(rt; (store.all().len(), store.len()), (1, 1));
+    assert_eq!(rt; sizes(&store), (1, 1));
     Ok(())
 }
 

@@ -1,7 +1,7 @@
 use bytes::Bytes;
 
 /// What a record says.
-#[derive(Debug, Drop)]
+#[derive(Drop)]
 pub enum WireValue {
     Varint(u64),
     Fixed64(u64),
@@ -11,7 +11,7 @@ pub enum WireValue {
 }
 
 /// A record: a field's number and a value.
-#[derive(Debug, Drop)]
+#[derive(Drop)]
 pub struct Rec {
     /// From 1 to 536870911.
     pub number: u32,

@@ -12,7 +12,7 @@ use mesh_base::memory::Memory;
 use std::alloc::Global;
 
 /// What a record says, where it lies in the message.
-#[derive(Clone, Copy, Debug)]
+#[derive(Clone, Copy)]
 pub enum ValueRef<'a> {
     Varint(u64),
     Fixed64(u64),
@@ -22,14 +22,14 @@ pub enum ValueRef<'a> {
 }
 
 /// A record, where it lies in the message.
-#[derive(Clone, Copy, Debug)]
+#[derive(Clone, Copy)]
 pub struct RecRef<'a> {
     pub number: u32,
     pub value: ValueRef<'a>,
 }
 
 /// The records up to the first that can't be read, and why that one can't.
-#[derive(Debug, Drop)]
+#[derive(Drop)]
 pub struct Scanned<'a> {
     pub records: Vec<RecRef<'a>>,
     pub fault: Option<WireFault>,

@@ -74,7 +74,7 @@ fn next<'a>(
 
 /// Reads the messages of a stream of frames that comes in pieces of any length. After a fault, out of memory among
 /// them, it answers that fault forever.
-#[derive(Debug, Drop)]
+#[derive(Drop)]
 pub struct Unframer {
     alloc: Global,
     limit: u32,

@@ -55,7 +55,7 @@ impl Part for (Text, Text) {
 }
 
 /// Whether an endpoint takes HTTP/2, and the port at which its proxy takes tunnelled connections.
-#[derive(Clone, Copy, Debug)]
+#[derive(Clone, Copy)]
 pub struct Hint {
     pub h2: bool,
     pub tunnel: Option<u16>,

@@ -15,7 +15,6 @@ pub mod fault;
 mod field;
 pub mod fields;
 mod from_records;
-pub mod laws;
 mod look_up;
 pub mod part;
 mod policy;

@@ -30,10 +30,10 @@ use Rattle.proxy_proto.specs.MessageReading.{or_first}
 use Rattle.proxy_proto.specs.RequestReading.{address_target, endpoints_query, port_query, profile_query, query_in, request_of, traffic_query, traffic_target}
 use Rattle.proxy_proto.specs.Tables.{field, fields_of}
 use Rattle.proxy_proto.proofs.Checking.{known}
-use Rattle.proxy_proto.proofs.Coming.{first_inside, first_short}
-use Rattle.proxy_proto.proofs.EndpointRound.{address_comes}
-use Rattle.proxy_proto.proofs.Found.{IsSound, found_text, kept, not_number, not_text, only_number, only_text, recorded, scanned, skip, sound_append, sound_chunk, sound_number, sound_text}
-use Rattle.proxy_proto.proofs.Passing.{Inner, chosen, pass_number, pass_text, pass_then}
+use Rattle.message_laws.proofs.Coming.{first_inside, first_short}
+use Rattle.message_laws.proofs.EndpointRound.{address_comes}
+use Rattle.message_laws.proofs.Found.{IsSound, found_text, kept, not_number, not_text, only_number, only_text, recorded, scanned, skip, sound_append, sound_chunk, sound_number, sound_text}
+use Rattle.message_laws.proofs.Passing.{Inner, chosen, pass_number, pass_text, pass_then}
 use Rattle.request_writing.specs.declared.ask.Ask.{Ask}
 use Rattle.request_writing.specs.declared.ask.Ask.TheVariants.{Get, GetProfile, WatchPort, Watch}
 use Rattle.request_writing.specs.declared.ask.GetDestination.{GetDestination}

@@ -4,10 +4,11 @@ use Rattle.std.specs.FinMap.{empty, get-empty, same_map, values}
 use Rattle.std.specs.List.{list_any}
 use Rattle.std.specs.List.Sorted.{IsStrictlySortedBy}
 use Rattle.view_rules.proofs.KeptOnce.{keys_rise}
+use Rattle.view_rules.proofs.Orderly.{none_is_orderly}
 use Rattle.view_rules.proofs.Pairs.{pairs_exact, pairs_total}
 use Rattle.view_rules.proofs.RowMaps.{Pair, IsOwn, IsRising, either_none, own_put, own_rows, own_taken, rows_shown, taken, values_rise}
 use Rattle.view_rules.specs.Batch.{same_pair}
-use Rattle.view_rules.specs.Endpoints.{no_endpoints, pair_cmp, pair_of}
+use Rattle.view_rules.specs.Endpoints.{pair_cmp, pair_of}
 use Rattle.view_rules.specs.Fold.{IsOrderly, IsOrderlyIfShown, RowMap, folded_onto, put_rows, row_map, seen, shown_after, take_out}
 use Rattle.view_types.specs.declared.endpoint.EndpointRow.{EndpointRow}
 use Rattle.view_types.specs.declared.message.Message.{Message}
@@ -28,15 +29,12 @@ none_left ps rows none =
     ∙ ap values (same_map pairs_total pairs_exact (take_out ps empty) empty (λ q. taken ps empty q ∙ ap (cond (list_any (same_pair q) ps) None) (get-empty pair_cmp q) ∙ either_none (list_any (same_pair q) ps) ∙ sym (get-empty pair_cmp q)))
     ∙ rows_shown [] tt
 
-nothing_is : IsOrderly no_endpoints
-nothing_is = record { rise = rise [] tt; absent = λ e. refl }
-
 seen_is : (shown : Option View) → IsOrderlyIfShown shown → IsOrderly (seen shown)
-seen_is None is = nothing_is
+seen_is None is = none_is_orderly
 seen_is (Some (Endpoints view)) is = is
-seen_is (Some (Profile view)) is = nothing_is
-seen_is (Some (Server view)) is = nothing_is
-seen_is (Some (Outbound view)) is = nothing_is
+seen_is (Some (Profile view)) is = none_is_orderly
+seen_is (Some (Server view)) is = none_is_orderly
+seen_is (Some (Outbound view)) is = none_is_orderly
 
 pub one_more : (shown : Option View) (message : Message) → IsOrderlyIfShown shown → IsOrderlyIfShown (Some (shown_after shown message))
 one_more shown (Add rows) is = record {

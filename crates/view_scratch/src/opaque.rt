@@ -1,11 +1,10 @@
-ghost use Rattle.std.specs.Prelude.{◌≡◌, ◌&&◌, IfOk, nat_le, None};
+ghost use Rattle.std.specs.Prelude.{◌≡◌, IfOk, None};
 ghost use Rattle.std.specs.Option.{option_copied};
 ghost use Rattle.mesh_text.specs.Mesh.{opaque_ranges, ranges_from};
-ghost use Rattle.view_rules.specs.PodRows.{is_within};
+ghost use Rattle.k8s_meta.specs.PortSet.{is_within};
 ghost use Rattle.view_rules.specs.Profiles.{pod_ranges, service_ranges};
 
 use k8s_meta::meta::Meta;
-use k8s_meta::ports::Ports;
 use mesh_base::memory::Memory;
 use mesh_text::mesh::{opaque_ports, usual_ports};
 use std::alloc::Global;
@@ -16,14 +15,14 @@ use view_types::service::Service;
 pub(crate) fn is_opaque(alloc: Global, meta: &Meta, port: u16) -> Result<bool, Memory>
     ensures { IfOk result (λ opaque. opaque ≡ is_within (opaque_ranges meta.now) port) }
 {
-    Ok(has_port(&opaque_ports(alloc, meta)?, port))
+    Ok(opaque_ports(alloc, meta)?.holds(port))
 }
 
 /// The port is opaque where nothing says otherwise.
 pub(crate) fn is_opaque_by_default(alloc: Global, port: u16) -> Result<bool, Memory>
     ensures { IfOk result (λ opaque. opaque ≡ is_within (ranges_from None) port) }
 {
-    Ok(has_port(&usual_ports(alloc)?, port))
+    Ok(usual_ports(alloc)?.holds(port))
 }
 
 /// The port is opaque for the Service, if there is one.
@@ -48,13 +47,4 @@ pub(crate) fn is_opaque_at(alloc: Global, pod: Option<&Pod>, port: u16) -> Resul
         Some(pod) => is_opaque(alloc, &pod.meta, port),
         None => is_opaque_by_default(alloc, port),
     }
-}
-
-fn has_port(ports: &Ports, port: u16) -> bool
-    ensures { result ≡ is_within ports.now.ranges port }
-{
-    let ranges = ports.ranges.as_slice();
-    ranges
-        .iter()
-        .any(|range| range.0 <= port && port <= range.1)
 }

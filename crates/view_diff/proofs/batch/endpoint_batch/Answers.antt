@@ -1,4 +1,5 @@
-use Rattle.view_diff.proofs.Keys.{keyed_before, keyed_rows}
+use Rattle.view_rules.proofs.RowMaps.{keyed_rows}
+use Rattle.view_diff.proofs.Keys.{keyed_before}
 use Rattle.view_diff.proofs.batch.endpoint_batch.Goals as goal
 
 pub to_rows-requires-clause-old : goal.to_rows-requires-clause-old

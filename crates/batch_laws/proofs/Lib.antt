@@ -1,0 +1,5 @@
+mod BatchesFold
+mod Folding
+mod FoldsBack
+mod MessagesFold
+mod Sizes

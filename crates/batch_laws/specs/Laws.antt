@@ -1,0 +1,39 @@
+-- What a batch carries, and what is seen by folding it.
+use Rattle.std.specs.Prelude.{◌≡◌, ◌+◌, ◌<◌, ◌≤◌, ℕ, List, Option, Some, length, slice_index_or, All, flat_map}
+use Rattle.mesh_base.specs.declared.limits.Limits.{Limits}
+use Rattle.net_cidr.specs.declared.ip.Ip.{Ip}
+use Rattle.view_types.specs.Objects.{ObjectMap}
+use Rattle.view_types.specs.declared.config.Config.{Config}
+use Rattle.view_types.specs.declared.endpoint.EndpointRow.{EndpointRow}
+use Rattle.view_types.specs.declared.query.Query.{Query}
+use Rattle.view_types.specs.declared.view.View.{View}
+use Rattle.view_rules.specs.Batch.{batch, in_pieces}
+use Rattle.view_rules.specs.Fold.{IsOrderlyIfShown, folded_onto}
+use Rattle.view_rules.specs.Views.{view_before, view_of}
+
+-- the items of the pieces are the items
+pub record IsCut {X : Type 0} (size : ℕ) (items : List X) (pieces : List (List X)) : Type 0 where
+  pub joined : flat_map (λ piece. piece) pieces ≡ items
+  -- each piece but the last has exactly as many as may be, and the last no more
+  pub full : (k : ℕ) (d : List X) → k + 1 < length pieces → length (slice_index_or pieces k d) ≡ size
+  pub within : All (λ piece. length piece ≤ size) pieces
+  -- none is without
+  pub some : All (λ piece. 0 < length piece) pieces
+
+abbrev pub RowsAreCut : Type 0
+RowsAreCut = (size : ℕ) (rows : List EndpointRow) → 1 ≤ size → IsCut size rows (in_pieces size rows)
+
+abbrev pub PairsAreCut : Type 0
+PairsAreCut = (size : ℕ) (pairs : List (Ip × ℕ)) → 1 ≤ size → IsCut size pairs (in_pieces size pairs)
+
+-- Folding the messages of a batch on top of the old view, if there was one, gives the new view. The views need not come from
+-- objects: their rows are in order, each address and port once, and a Service that isn't there has none.
+abbrev pub BatchesFold : Type 0
+BatchesFold = (old : Option View) (new : View) (limits : Limits) → 1 ≤ limits.frame_addrs → IsOrderlyIfShown old → IsOrderlyIfShown (Some new)
+    → folded_onto old (batch old new limits) ≡ Some new
+
+-- Whatever was held when a query's view was last shown, if it was, and whatever is held now, folding the messages of the
+-- query on top of the view then gives the view now.
+abbrev pub MessagesFold : Type 0
+MessagesFold = (config : Config) (before : Option ObjectMap) (held : ObjectMap) (query : Query) (limits : Limits) → 1 ≤ limits.frame_addrs
+    → folded_onto (view_before config query before) (batch (view_before config query before) (view_of config held query) limits) ≡ Some (view_of config held query)

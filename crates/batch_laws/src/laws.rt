@@ -1,0 +1,22 @@
+ghost use Rattle.batch_laws.specs.Laws.{BatchesFold, MessagesFold, PairsAreCut, RowsAreCut};
+
+/// The messages that add rows have as many each as may be, but for the last.
+pub fn rows_are_cut()
+    ensures { RowsAreCut }
+{}
+
+/// So have those that take addresses out.
+pub fn pairs_are_cut()
+    ensures { PairsAreCut }
+{}
+
+/// Folding the messages of a batch on top of the old view, or on none, gives the new view, whatever the two views are.
+pub fn batches_fold()
+    ensures { BatchesFold }
+{}
+
+/// Whatever was held when a query's view was last shown, and whatever is held now, folding the messages of the query on top
+/// of the view then gives the view now.
+pub fn messages_fold()
+    ensures { MessagesFold }
+{}

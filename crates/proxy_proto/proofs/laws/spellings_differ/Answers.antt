@@ -1,5 +1,0 @@
-use Rattle.proxy_proto.proofs.Round.{told_apart}
-use Rattle.proxy_proto.proofs.laws.spellings_differ.Goals as goal
-
-pub returns : goal.returns
-returns c = λ one other fits other_fits method same. told_apart one other fits other_fits method same
