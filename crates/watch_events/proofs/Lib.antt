@@ -3,6 +3,7 @@ pub mod EachObject
 pub mod Groups
 pub mod KeyCmp
 pub mod Lawfully
+pub mod OfEachForm
 pub mod Pairs
 mod Simulations
 mod Targets

@@ -9,7 +9,6 @@ use Rattle.mesh_base.specs.Numeral.{is_numeral, leads_with_zero, number_up_to, p
 use Rattle.mesh_base.specs.Pieces.{pieces}
 use Rattle.k8s_meta.specs.Given.{GivesOnly}
 use Rattle.k8s_meta.specs.Spots.{Spot, ◌·◌}
-use Rattle.k8s_meta.specs.declared.fault.ReadFault.{ReadFault}
 use Rattle.k8s_meta.specs.declared.key.Key.TheVariants as keys
 use Rattle.k8s_meta.proofs.Given.{after, last, required_gives, valid_value}
 use Rattle.net_cidr.specs.Address.{ip_of}
@@ -29,7 +28,7 @@ use Rattle.view_types.specs.declared.query.Query.TheVariants as queries
 use Rattle.watch_events.specs.Controls.{query_of}
 use Rattle.watch_events.specs.Lawful.{IsLawfulQuery, IsLawfulTarget}
 use Rattle.watch_events.specs.Queries.{get_at, port_at, profile_at, target_at, traffic_at}
-use Rattle.watch_events.specs.Reading.{of_query}
+use Rattle.watch_events.proofs.OfEachForm.{query_read}
 
 same : {A : Type 0} (x y : A) → Some x ≡ Some y → x ≡ y
 same x y e = cc
@@ -155,10 +154,6 @@ unfolding traffic_at
 traffic_gives config s =
     after IsLawfulQuery _ _ (λ target is. last IsLawfulQuery (queries.Traffic target)
     (required_gives IsLawfulTarget (target_at config) (target_gives config) (s · keys.Path) target is))
-
-pub query_read : {A : Type 0} (r : Result A ReadFault) (x : A) → of_query r ≡ Ok x → r ≡ Ok x
-query_read (Ok y) x e = cc
-query_read (Err fault) x e = absurd cc
 
 pub query_gives : (config : Config) (method : Method) (s : Spot) (query : Query) → query_of config method s ≡ Ok query → IsLawfulQuery query
 query_gives config methods.Get s query e = get_gives config s query (query_read _ query e)

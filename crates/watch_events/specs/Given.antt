@@ -1,19 +1,11 @@
 -- What was returned is what the definition gives, unless memory ran out.
 use Rattle.std.specs.Prelude.{◌≡◌, Result, Ok, Err}
 use Rattle.watch_events.specs.declared.line.LineFault.{LineFault}
-use Rattle.watch_events.specs.declared.line.LineFault.TheVariants.{Memory, TooLong, NotJson, NoForm, UnknownType, ErrorEvent, UnknownKind, Object, RepeatedItem, BadQuery}
+use Rattle.watch_events.specs.declared.line.LineFault.TheVariants.{Memory}
 
 abbrev pub Fails : {A : Type 0} → LineFault → Result A LineFault → Type 0
 Fails Memory read = Unit {0}
-Fails TooLong read = read ≡ Err TooLong
-Fails NotJson read = read ≡ Err NotJson
-Fails NoForm read = read ≡ Err NoForm
-Fails UnknownType read = read ≡ Err UnknownType
-Fails ErrorEvent read = read ≡ Err ErrorEvent
-Fails UnknownKind read = read ≡ Err UnknownKind
-Fails (Object fault) read = read ≡ Err (Object fault)
-Fails (RepeatedItem place) read = read ≡ Err (RepeatedItem place)
-Fails (BadQuery path) read = read ≡ Err (BadQuery path)
+Fails fault read = read ≡ Err fault
 
 abbrev pub Gives : {A : Type 0} → Result A LineFault → Result A LineFault → Type 0
 Gives (Ok x) read = read ≡ Ok x

@@ -17,10 +17,7 @@ r >>= f = then r f
 -- a fault of an object, or of a list, is the line's
 abbrev pub object_fault : ReadFault → LineFault
 object_fault reads.Memory = faults.Memory
-object_fault (reads.Missing path) = faults.Object (reads.Missing path)
-object_fault (reads.WrongType path) = faults.Object (reads.WrongType path)
-object_fault (reads.BadName path) = faults.Object (reads.BadName path)
-object_fault (reads.BadValue path what) = faults.Object (reads.BadValue path what)
+object_fault fault = faults.Object fault
 
 abbrev pub of_object : {A : Type 0} → Result A ReadFault → Result A LineFault
 of_object (Ok x) = Ok x
