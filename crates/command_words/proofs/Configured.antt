@@ -4,12 +4,12 @@ use Rattle.std.specs.Prelude.{IfSome}
 use lib.Utf8.{encode}
 use Rattle.std.specs.Str.{IsUtf8, chars, is_utf8}
 use Rattle.std.proofs.lemmas.Str.{IsUtf8-from_is_utf8}
-use Rattle.clap.specs.Words.{Row, matches_of}
+use Rattle.clap.specs.Words.{Row}
 use Rattle.k8s_meta.specs.Scalars.{is_name}
 use Rattle.mesh_text.proofs.Names.{name_ascii}
 use Rattle.view_types.specs.Defaults.{usual_config}
 use Rattle.view_types.specs.declared.config.Config.{Config}
-use Rattle.command_words.specs.Apps.{app_for, name_of}
+use Rattle.command_words.specs.Apps.{matched, name_of}
 use Rattle.command_words.specs.Arguments.{text_at}
 use Rattle.command_words.specs.Commands.{command_in, command_named, command_of, diagnose_in, fold_in, replay_in, sample_in}
 use Rattle.command_words.specs.Configured.{ConfigIs}
@@ -77,7 +77,7 @@ module _ (P : Config → Type 0) (of_texts : (config : Config) → IsUtf8 config
 
   named_is : (name : Option Name) (words : List (List ℕ)) → IfSome (command_named name words) (ConfigIs P)
   named_is None words = tt
-  named_is (Some name) words = command_is name (matches_of (app_for name) words)
+  named_is (Some name) words = then_any (matched name words) (command_of name) (ConfigIs P) (command_is name)
 
   asked_is : (words : List (List ℕ)) → IfSome (command_in words) (ConfigIs P)
   asked_is [] = tt

@@ -1,7 +1,7 @@
 -- The commands' tables of options.
 use Rattle.std.proofs.Common.{◌≡◌, ℕ, ◌+◌, ◌<◌, suc, List, [], ◌∷◌, ◌++◌, length, take, get_or, slice_index_or, true, refl, ap, sym, ◌∙◌, arith}
 use Rattle.std.proofs.Math.Seq.{take-suc}
-use Rattle.clap.specs.Words.{App, is_simple, with_rule}
+use Rattle.clap.specs.Words.{App, is_simple, is_simple_and_free, with_rule}
 use Rattle.command_words.specs.Apps.{app_for, option_rule, with_options}
 use Rattle.command_words.specs.Arguments.{argument_text}
 use Rattle.command_words.specs.declared.argument.Argument.{Argument}
@@ -29,10 +29,17 @@ pub with_options_added : (app made next : App) (options : List Argument) (i : �
 with_options_added app made next options i d within so_far added =
     added ∙ ap (λ (a : App). with_rule a (option_rule (argument_text (slice_index_or options i d)))) so_far ∙ sym (with_options_next app options i d within)
 
--- clap's definitions tell the matches of each command
+-- clap's definitions tell of each command what it matches, and which faults it finds
 pub all_are_simple : (name : Name) → is_simple (app_for name) ≡ true
 unfolding app_for with_options argument_text
 all_are_simple names.Replay = refl
 all_are_simple names.Diagnose = refl
 all_are_simple names.Fold = refl
 all_are_simple names.Sample = refl
+
+pub all_are_free : (name : Name) → is_simple_and_free (app_for name) ≡ true
+unfolding app_for with_options argument_text
+all_are_free names.Replay = refl
+all_are_free names.Diagnose = refl
+all_are_free names.Fold = refl
+all_are_free names.Sample = refl

@@ -1,6 +1,6 @@
 -- The commands as clap's definitions see them: the options of each.
 use Rattle.std.specs.Prelude.{ℕ, Bool, List, [], ◌∷◌, Option, Some, None, true, false, bytes_eq, codes, if◌then◌else◌}
-use Rattle.clap.specs.Words.{App, Rule, Text, new_app, new_rule, takes, with_rule}
+use Rattle.clap.specs.Words.{App, Kinds, Row, Rule, Text, fault_of, matches_of, new_app, new_rule, with_rule}
 use Rattle.clap.specs.declared.builder.ArgAction.TheVariants.{Set}
 use Rattle.command_words.specs.Arguments.{argument_text}
 use Rattle.command_words.specs.declared.argument.Argument.{Argument}
@@ -49,8 +49,20 @@ name_of word =
     if bytes_eq word (codes "fold") then Some names.Fold else
     if bytes_eq word (codes "sample") then Some names.Sample else None
 
+abbrev pub are_none : Kinds → Bool
+are_none [] = true
+are_none (kind ∷ more) = false
+
+-- clap's definition finds no fault in the words behind a command's name
+unfoldable pub accepts : Name → List Text → Bool
+accepts name words = are_none (fault_of (app_for name) words)
+
+-- the matches of such words
+unfoldable pub matched : Name → List Text → Option (List Row)
+matched name words = if accepts name words then Some (matches_of (app_for name) words) else None
+
 abbrev pub accepts_named : Option Name → List Text → Bool
-accepts_named (Some name) words = takes (app_for name) words
+accepts_named (Some name) words = accepts name words
 accepts_named None words = false
 
 -- The first word names a command, and clap's definition accepts the others as its words.

@@ -1,9 +1,9 @@
 -- What the words ask for, of the matches that clap's definition gives.
 use Rattle.std.specs.Prelude.{ℕ, List, [], ◌∷◌, Option, Some, None}
-use Rattle.clap.specs.Words.{Row, matches_of}
+use Rattle.clap.specs.Words.{Row}
 use Rattle.mesh_base.specs.declared.sub_id.SubId.{SubId}
 use Rattle.watch_events.specs.Queries.{method_of}
-use Rattle.command_words.specs.Apps.{app_for, name_of}
+use Rattle.command_words.specs.Apps.{matched, name_of}
 use Rattle.command_words.specs.Arguments.{text_at}
 use Rattle.command_words.specs.Diagnosed.{query_in}
 use Rattle.command_words.specs.Gives.{◌>>=◌, needed}
@@ -52,10 +52,11 @@ command_of names.Fold rows = fold_in rows
 command_of names.Sample rows = sample_in rows
 
 abbrev pub command_named : Option Name → List (List ℕ) → Option Command
-command_named (Some name) words = command_of name (matches_of (app_for name) words)
+command_named (Some name) words = matched name words >>= command_of name
 command_named None words = None
 
--- the command that the first word names, where all that it needs can be read from the matches of the others
+-- the command that the first word names, where clap's definition accepts the others, and all that the command needs can
+-- be read from their matches
 abbrev pub command_in : List (List ℕ) → Option Command
 command_in [] = None
 command_in (first ∷ rest) = command_named (name_of first) rest

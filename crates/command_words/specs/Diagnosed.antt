@@ -26,29 +26,17 @@ abbrev pub get_of : Context → Target → Option Query
 get_of ctx (Service ns name port) = Some (queries.Get ns name port ctx)
 get_of ctx (Address ip port) = None
 
-unfoldable pub get_in : Config → List Row → Option Query
-get_in config rows = do
-  target ← needed (target_of config) (text_at arguments.Path rows)
-  get_of (context_in rows) target
-
-unfoldable pub profile_in : Config → List Row → Option Query
-profile_in config rows = do
-  target ← needed (target_of config) (text_at arguments.Path rows)
-  Some (queries.Profile target (context_in rows))
-
 unfoldable pub port_in : List Row → Option Query
 port_in rows = do
   pod ← needed workload_of (text_at arguments.Workload rows)
   port ← needed (number_within 1 65535) (text_at arguments.Port rows)
   Some (queries.Port pod.0 pod.1 port)
 
-unfoldable pub traffic_in : Config → List Row → Option Query
-traffic_in config rows = do
-  target ← needed (target_of config) (text_at arguments.Path rows)
-  Some (queries.Traffic target)
+abbrev pub target_in : Config → List Row → Option Target
+target_in config rows = needed (target_of config) (text_at arguments.Path rows)
 
 unfoldable pub query_in : Config → List Row → Method → Option Query
-query_in config rows methods.Get = get_in config rows
-query_in config rows methods.GetProfile = profile_in config rows
+query_in config rows methods.Get = target_in config rows >>= get_of (context_in rows)
+query_in config rows methods.GetProfile = target_in config rows >>= (λ target. Some (queries.Profile target (context_in rows)))
 query_in config rows methods.WatchPort = port_in rows
-query_in config rows methods.Watch = traffic_in config rows
+query_in config rows methods.Watch = target_in config rows >>= (λ target. Some (queries.Traffic target))

@@ -1,6 +1,10 @@
-ghost use Rattle.std.specs.Prelude.{◌≡◌};
+ghost use Rattle.std.specs.Prelude.{◌≡◌, ◌↔◌};
+ghost use Rattle.clap.specs.Words.{kind_of};
+ghost use Rattle.clap.specs.declared.error.kind.ErrorKind.TheVariants as kinds;
 ghost use Rattle.command_words.specs.declared.fault.WordsFault.TheVariants as faults;
 
+use clap::Error;
+use clap::error::ErrorKind;
 use mesh_base::memory;
 use std::alloc::AllocError;
 
@@ -25,5 +29,16 @@ impl From<AllocError> for WordsFault {
 
     fn from(_e: AllocError) -> WordsFault {
         WordsFault::Memory
+    }
+}
+
+impl From<Error> for WordsFault {
+    ghost from_gives = { λ error fault. (fault ≡ faults.Memory) ↔ (kind_of error ≡ kinds.OutOfMemory) };
+
+    fn from(error: Error) -> WordsFault {
+        match error.kind() {
+            ErrorKind::OutOfMemory => WordsFault::Memory,
+            _ => WordsFault::Usage,
+        }
     }
 }

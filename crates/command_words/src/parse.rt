@@ -1,15 +1,14 @@
-ghost use Rattle.std.specs.Prelude.{◌≡◌, ◌≢◌, Err, IfOk, map, true};
+ghost use Rattle.std.specs.Prelude.{◌≡◌, Err, IfOk, None, Some, map};
 ghost use Rattle.std.specs.Option.{option_copied};
-ghost use Rattle.clap.specs.Words.{app_of, is_simple, kind_of, matches_of, takes, with_rule};
-ghost use Rattle.command_words.specs.Apps.{app_for, option_rule, plain, with_options, word_rule};
+ghost use Rattle.clap.specs.Words.{app_of, with_rule};
+ghost use Rattle.command_words.specs.Apps.{app_for, matched, option_rule, plain, with_options, word_rule};
 ghost use Rattle.command_words.specs.Arguments.{argument_text, rows_in, text_at};
 ghost use Rattle.command_words.specs.declared.argument.Argument.TheVariants as arguments;
 
 use crate::argument::Argument;
 use crate::command::Name;
 use crate::fault::WordsFault;
-use clap::error::ErrorKind;
-use clap::{Arg, ArgAction, ArgMatches, Command, Error};
+use clap::{Arg, ArgAction, ArgMatches, Command};
 use std::alloc::{AllocError, Global};
 
 const SETTINGS: [Argument; 5] = [
@@ -91,42 +90,17 @@ fn command_for<'a>(alloc: Global, name: Name) -> Result<Command<'a>, AllocError>
     }
 }
 
-fn fault_of(error: &Error) -> WordsFault
-    ensures memory { kind_of error.now ≡ ErrorKind.OutOfMemory → result ≡ WordsFault.Memory }
-{
-    match error.kind() {
-        ErrorKind::OutOfMemory => WordsFault::Memory,
-        _ => WordsFault::Usage,
-    }
-}
-
-fn matches_of_command<'a>(
-    command: Command<'a>,
-    words: &'a [&'a str],
-) -> Result<ArgMatches<'a>, WordsFault>
-    requires { is_simple (app_of command) ≡ true }
-    ensures found { IfOk result (λ m. rows_in m ≡ matches_of (app_of command.entry) (map (λ w. w.now) words.entry.now)) }
-    ensures accepted { takes (app_of command.entry) (map (λ w. w.now) words.entry.now) ≡ true → result ≢ Err WordsFault.Usage }
-{
-    match command.try_get_matches_from(words) {
-        Ok(matches) => Ok(matches),
-        Err(error) => Err(fault_of(&error)),
-    }
-}
-
 /// What clap matches of the words after a command's name.
 pub(crate) fn parse<'a>(
     alloc: Global,
     name: Name,
     words: &'a [&'a str],
 ) -> Result<ArgMatches<'a>, WordsFault>
-    ensures found { IfOk result (λ m. rows_in m ≡ matches_of (app_for name) (map (λ w. w.now) words.entry.now)) }
-    ensures accepted { takes (app_for name) (map (λ w. w.now) words.entry.now) ≡ true → result ≢ Err WordsFault.Usage }
+    ensures found { IfOk result (λ m. matched name (map (λ w. w.now) words.entry.now) ≡ Some (rows_in m)) }
+    ensures refused { result ≡ Err WordsFault.Usage → matched name (map (λ w. w.now) words.entry.now) ≡ None }
 {
-    match command_for(alloc, name) {
-        Ok(command) => matches_of_command(command, words),
-        Err(_) => Err(WordsFault::Memory),
-    }
+    let command = command_for(alloc, name)?;
+    Ok(command.try_get_matches_from(words)?)
 }
 
 /// The string that is given for an argument.

@@ -1,8 +1,7 @@
 ghost use Rattle.std.specs.Prelude.{◌≡◌, [], IfOk, unwrap_or};
-ghost use Rattle.mesh_text.specs.Targets.{target_of};
 ghost use Rattle.mesh_text.specs.Workloads.{workload_of};
 ghost use Rattle.command_words.specs.Arguments.{rows_in, text_at};
-ghost use Rattle.command_words.specs.Diagnosed.{context_in, get_in, get_of, port_in, profile_in, query_in, traffic_in};
+ghost use Rattle.command_words.specs.Diagnosed.{context_in, get_of, port_in, query_in, target_in};
 ghost use Rattle.command_words.specs.Gives.{Gives, needed};
 ghost use Rattle.command_words.specs.declared.argument.Argument.TheVariants as arguments;
 
@@ -25,7 +24,7 @@ fn target_at<'a>(
     config: &Config,
     matches: &ArgMatches<'a>,
 ) -> Result<Target, WordsFault>
-    ensures { Gives result (needed (target_of config.now) (text_at arguments.Path (rows_in matches.now))) }
+    ensures { Gives result (target_in config.now (rows_in matches.now)) }
 {
     let Some(text) = given(matches, Argument::Path) else {
         return Err(WordsFault::Usage);
@@ -81,32 +80,6 @@ fn get_of(target: Target, ctx: Context) -> Result<Query, WordsFault>
     }
 }
 
-#[tactic(auto, unfolding(crate::specs::Gives::then, crate::specs::Diagnosed::get_in))]
-fn read_get<'a>(
-    alloc: Global,
-    config: &Config,
-    matches: &ArgMatches<'a>,
-) -> Result<Query, WordsFault>
-    ensures { Gives result (get_in config.now (rows_in matches.now)) }
-{
-    let target = target_at(alloc, config, matches)?;
-    let ctx = context_at(alloc, matches)?;
-    get_of(target, ctx)
-}
-
-#[tactic(auto, unfolding(crate::specs::Gives::then, crate::specs::Diagnosed::profile_in))]
-fn read_profile<'a>(
-    alloc: Global,
-    config: &Config,
-    matches: &ArgMatches<'a>,
-) -> Result<Query, WordsFault>
-    ensures { Gives result (profile_in config.now (rows_in matches.now)) }
-{
-    let target = target_at(alloc, config, matches)?;
-    let ctx = context_at(alloc, matches)?;
-    Ok(Query::Profile { target, ctx })
-}
-
 #[tactic(auto, unfolding(crate::specs::Gives::then, crate::specs::Diagnosed::port_in))]
 fn read_port<'a>(alloc: Global, matches: &ArgMatches<'a>) -> Result<Query, WordsFault>
     ensures { Gives result (port_in (rows_in matches.now)) }
@@ -120,20 +93,8 @@ fn read_port<'a>(alloc: Global, matches: &ArgMatches<'a>) -> Result<Query, Words
     })
 }
 
-#[tactic(auto, unfolding(crate::specs::Gives::then, crate::specs::Diagnosed::traffic_in))]
-fn read_traffic<'a>(
-    alloc: Global,
-    config: &Config,
-    matches: &ArgMatches<'a>,
-) -> Result<Query, WordsFault>
-    ensures { Gives result (traffic_in config.now (rows_in matches.now)) }
-{
-    let target = target_at(alloc, config, matches)?;
-    Ok(Query::Traffic { target })
-}
-
 /// The query that the options of the method make.
-#[tactic(auto, unfolding(crate::specs::Diagnosed::query_in))]
+#[tactic(auto, unfolding(crate::specs::Gives::then, crate::specs::Diagnosed::query_in))]
 pub(crate) fn read_query<'a>(
     alloc: Global,
     config: &Config,
@@ -143,9 +104,17 @@ pub(crate) fn read_query<'a>(
     ensures { Gives result (query_in config.now (rows_in matches.now) method) }
 {
     match method {
-        Method::Get => read_get(alloc, config, matches),
-        Method::GetProfile => read_profile(alloc, config, matches),
+        Method::Get => get_of(
+            target_at(alloc, config, matches)?,
+            context_at(alloc, matches)?,
+        ),
+        Method::GetProfile => Ok(Query::Profile {
+            target: target_at(alloc, config, matches)?,
+            ctx: context_at(alloc, matches)?,
+        }),
         Method::WatchPort => read_port(alloc, matches),
-        Method::Watch => read_traffic(alloc, config, matches),
+        Method::Watch => Ok(Query::Traffic {
+            target: target_at(alloc, config, matches)?,
+        }),
     }
 }

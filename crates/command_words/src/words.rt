@@ -1,7 +1,7 @@
-ghost use Rattle.std.specs.Prelude.{◌≡◌, ◌≢◌, Err, IfOk, IsSome, Some, map, true};
-ghost use Rattle.clap.specs.Words.{matches_of, takes};
-ghost use Rattle.command_words.specs.Apps.{app_for, are_accepted, name_of};
-ghost use Rattle.command_words.specs.Commands.{command_in, command_of};
+ghost use Rattle.std.specs.Prelude.{◌≡◌, IfOk, Some, map};
+ghost use Rattle.command_words.specs.Apps.{name_of};
+ghost use Rattle.command_words.specs.Commands.{command_in, command_named};
+ghost use Rattle.command_words.specs.Gives.{Gives};
 
 use crate::command::{Command, Name, read_command};
 use crate::fault::WordsFault;
@@ -37,23 +37,17 @@ fn texts_of<'w>(alloc: Global, words: &'w [Text]) -> Result<Vec<&'w str>, Memory
     Ok(texts)
 }
 
+#[tactic(auto, unfolding(crate::specs::Gives::then))]
 fn read_named<'a>(alloc: Global, name: Name, words: &'a [&'a str]) -> Result<Command, WordsFault>
-    ensures accepted { takes (app_for name) (map (λ w. w.now) words.entry.now) ≡ true
-        → IsSome (command_of name (matches_of (app_for name) (map (λ w. w.now) words.entry.now))) → result ≢ Err WordsFault.Usage }
-    ensures found { IfOk result (λ command. command_of name (matches_of (app_for name) (map (λ w. w.now) words.entry.now)) ≡ Some command) }
+    ensures { Gives result (command_named (Some name) (map (λ w. w.now) words.entry.now)) }
 {
-    match parse(alloc, name, words) {
-        Ok(matches) => read_command(alloc, name, &matches),
-        Err(fault) => Err(fault),
-    }
+    let matches = parse(alloc, name, words)?;
+    read_command(alloc, name, &matches)
 }
 
 /// What the words of the command line ask for, without the program's name.
 pub fn read_words(alloc: Global, words: &[Text]) -> Result<Command, WordsFault>
-    // Where clap's definition accepts them, and all that is needed can be read, they are a command.
-    ensures accepted { are_accepted words.now ≡ true → IsSome (command_in words.now) → result ≢ Err WordsFault.Usage }
-    // The command is the one that the matches give.
-    ensures found { IfOk result (λ command. command_in words.now ≡ Some command) }
+    ensures { Gives result (command_in words.now) }
 {
     let [first, rest @ ..] = words else {
         return Err(WordsFault::Usage);

@@ -1,9 +1,8 @@
 -- How the lines grow with each byte.
-use Rattle.std.proofs.Common.{◌≡◌, ℕ, ◌+◌, ◌<◌, Bool, true, false, List, [], ◌∷◌, ◌++◌, length, refl, sym, ap, subst, ◌∙◌, arith, append_assoc, append-nil}
+use Rattle.std.proofs.Common.{◌≡◌, ℕ, ◌+◌, ◌<◌, Bool, true, false, List, [], ◌∷◌, ◌++◌, length, refl, sym, ap, ◌∙◌, arith, append_assoc}
 use Rattle.std.specs.Prelude.{◌==◌, not, if◌then◌else◌}
 use Rattle.line_run.specs.Rows.{NoBreak, lines_of, onto_first}
-use Rattle.run_report.specs.Counts.{AreLines, ends_open}
-use Rattle.run_report.specs.declared.lines.LineCount.{LineCount}
+use Rattle.run_report.specs.Counts.{ends_open}
 
 pub ends_open_more : (bytes : List ℕ) (byte : ℕ) → ends_open (bytes ++ byte ∷ []) ≡ not (byte == 10)
 ends_open_more [] byte = refl
@@ -76,24 +75,3 @@ part_goes_on bytes (b ∷ part) none some open_line = part_opens bytes b part no
 pub ends_open_part : (bytes part : List ℕ) → NoBreak part → 0 < length part → ends_open (bytes ++ part) ≡ true
 ends_open_part bytes [] none some = absurd (omega arith)
 ends_open_part bytes (b ∷ part) none some = stays_open bytes b part none
-
--- the lines of a front of the piece are counted, and the rest is left
-abbrev pub FrontCounted : LineCount → LineCount → List ℕ → List ℕ → Type 0
-FrontCounted start now piece rest = (front : List ℕ) × (piece ≡ front ++ rest) × ((bytes : List ℕ) → AreLines start bytes → AreLines now (bytes ++ front))
-
-pub front_starts : (start : LineCount) (piece : List ℕ) → FrontCounted start start piece piece
-front_starts start piece = ([], refl, λ bytes are. subst (AreLines start) (sym (append-nil bytes)) are)
-
-pub front_grows : (start before between now : LineCount) (piece rest part after : List ℕ) → FrontCounted start before piece rest → rest ≡ part ++ 10 ∷ after
-    → ((bytes : List ℕ) → AreLines before bytes → AreLines between (bytes ++ part)) → ((bytes : List ℕ) → AreLines between bytes → AreLines now (bytes ++ 10 ∷ []))
-    → FrontCounted start now piece after
-front_grows start before between now piece rest part after (front, whole, lines) cut adds_part adds_break = (
-  front ++ (part ++ 10 ∷ []),
-  whole ∙ ap (λ (xs : List ℕ). front ++ xs) (cut ∙ sym (append_assoc part (10 ∷ []) after)) ∙ sym (append_assoc front (part ++ 10 ∷ []) after),
-  λ bytes are. subst (AreLines now) (append_assoc (bytes ++ front) part (10 ∷ []) ∙ append_assoc bytes front (part ++ 10 ∷ [])) (adds_break ((bytes ++ front) ++ part) (adds_part (bytes ++ front) (lines bytes are))),
-)
-
-pub front_is_all : (start before now : LineCount) (piece rest : List ℕ) → FrontCounted start before piece rest → ((bytes : List ℕ) → AreLines before bytes → AreLines now (bytes ++ rest))
-    → (bytes : List ℕ) → AreLines start bytes → AreLines now (bytes ++ piece)
-front_is_all start before now piece rest (front, whole, lines) adds_rest bytes are =
-    subst (AreLines now) (append_assoc bytes front rest ∙ ap (λ (xs : List ℕ). bytes ++ xs) (sym whole)) (adds_rest (bytes ++ front) (lines bytes are))

@@ -1,1 +1,4 @@
+mod Fronts
 mod Growth
+mod Places
+mod Written

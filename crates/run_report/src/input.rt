@@ -1,5 +1,5 @@
 // Counts what is read.
-ghost use Rattle.std.specs.Prelude.{◌≡◌, ◌++◌, ℕ, List, [], take, IfOk, OnErr};
+ghost use Rattle.std.specs.Prelude.{◌≡◌, ◌++◌, ℕ, List, [], take, false, true, IfOk, OnErr};
 ghost use Rattle.std.specs.Io.{ReadsAtMost};
 ghost use Rattle.std.specs.Io.KnownBytes.{ReadConsumes};
 ghost use Rattle.mesh_outside.specs.Causes.{HasCause};
@@ -29,13 +29,15 @@ impl InputCounts {
     };
 
     fn new() -> InputCounts
-        ensures { AreCounts result [] }
+        ensures counts { AreCounts result [] }
+        ensures unasked { result.was_asked ≡ false }
     {
         InputCounts::NONE
     }
 
     fn take(&mut self, piece: &[u8])
-        ensures { (bytes : List ℕ) → AreCounts self.old bytes → AreCounts self.new (bytes ++ piece.now) }
+        ensures counts { (bytes : List ℕ) → AreCounts self.old bytes → AreCounts self.new (bytes ++ piece.now) }
+        ensures asked { self.new.was_asked ≡ true }
     {
         self.was_asked = true;
         self.bytes = self.bytes.saturating_add(piece.len() as u64);
@@ -55,6 +57,7 @@ impl<S: Source, C: Clock, W: Write> InputTally<S, C, W> {
     pub fn new(source: S, progress: Option<Progress<C, W>>) -> InputTally<S, C, W>
         ensures source { result.source ≡ source }
         ensures counts { AreCounts result.counts [] }
+        ensures unasked { result.counts.was_asked ≡ false }
     {
         InputTally {
             source,
@@ -93,6 +96,7 @@ impl<S: Source, C: Clock, W: Write> Source for InputTally<S, C, W> {
 
         // What is given is counted.
         ensures counts { (bytes : List ℕ) → AreCounts self.old.counts bytes → IfOk result (λ n. AreCounts self.new.counts (bytes ++ take n buf.new)) }
+        ensures asked { IfOk result (λ n. self.new.counts.was_asked ≡ true) }
         ensures same { OnErr result (self.new.counts ≡ self.old.counts) }
     {
         match self.source.read(buf) {

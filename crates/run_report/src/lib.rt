@@ -1,7 +1,8 @@
 //! What a user at a terminal is told of a run: the usage, what failed, what was read and written, and how far it has come.
 //!
 //! Stands on line_run for the statuses, and on mesh_outside for the source and the sink that it counts on. That
-//! `InputTally` and `OutputTally` pass all on is the contract of `Source` and `Sink`; what was read is counted as in `specs/Counts`.
+//! `InputTally` and `OutputTally` pass all on is the contract of `Source` and `Sink`; what was read is counted as in
+//! `specs/Counts`, and what was written as in `specs/Written`.
 #![tactic(auto)]
 
 mod clock;

@@ -7,7 +7,7 @@ use memchr::memchr;
 const LINE_FEED: u8 = b'\n';
 
 // Where the first LF stands.
-fn first_break(bytes: &[u8]) -> Option<usize>
+pub(crate) fn first_break(bytes: &[u8]) -> Option<usize>
     ensures within { IfSome result (λ at. at < length bytes.now) }
     ensures cut { IfSome result (λ at. bytes.now ≡ take at bytes.now ++ 10 ∷ drop (at + 1) bytes.now) }
     ensures line { IfSome result (λ at. NoBreak (take at bytes.now)) }

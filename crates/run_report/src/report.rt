@@ -94,7 +94,7 @@ impl Run {
             self.write_counts(f)?;
         }
         self.write_time(f)?;
-        if self.written.not_json > self.written.refused / 2 {
+        if self.written.not_json > self.written.refused() / 2 {
             f.write_str(
                 "linkerd_cli: indented JSON must be put on one line first, as by jq -c .\n",
             )?;
@@ -104,8 +104,8 @@ impl Run {
 
     fn write_counts<W: fmt::Write>(&self, f: &mut Formatter<W>) -> fmt::Result {
         write_number(f, self.read.lines.count, "line")?;
-        write!(f, ", {} refused, ", self.written.refused)?;
-        write_number(f, self.written.frames, "frame")?;
+        write!(f, ", {} refused, ", self.written.refused())?;
+        write_number(f, self.written.frames(), "frame")?;
         f.write_str(", ")
     }
 

@@ -1,3 +1,6 @@
+ghost use Rattle.std.specs.Prelude.{None};
+ghost use Rattle.mesh_outside.specs.Causes.{none_ever};
+
 use crate::clock::StartTime;
 use crate::input::{InputCounts, InputTally};
 use crate::output::{OutputCounts, OutputTally};
@@ -5,7 +8,7 @@ use crate::progress::Progress;
 use crate::report::{Report, Run};
 use crate::usage::USAGE;
 use line_run::Status;
-use mesh_outside::{MemSource, Sink, Source, SureSink};
+use mesh_outside::{MemSource, Sink, SinkFault, Source, SureSink};
 use std::alloc::{AllocError, Global};
 use std::cell::Cell;
 use std::io;
@@ -73,7 +76,36 @@ fn write_in_pieces(alloc: Global, output: &str, size: usize) -> OutputCounts {
     tally.counts
 }
 
-// What standard error is told of runs, in pieces of each length: a terminal in full, another place the cause alone.
+// A sink that accepts so many bytes of a piece, and at least one.
+#[derive(Drop)]
+struct PartSink {
+    limit: usize,
+}
+
+impl Sink for PartSink {
+    ghost held = { λ s. None };
+
+    ghost faults = { λ s. none_ever };
+
+    fn write(&mut self, piece: &[u8]) -> Result<usize, SinkFault> {
+        Ok(piece.len().min(self.limit.max(1)))
+    }
+}
+
+// The counts of an output of which the sink accepts a part at a time.
+fn write_in_parts(output: &str, limit: usize) -> OutputCounts {
+    let mut tally: OutputTally<PartSink, Vec<u8>> = OutputTally::new(PartSink { limit }, None);
+    let mut rest = output.as_bytes();
+    for _ in 0..output.len() {
+        if let Ok(n) = tally.write(rest) {
+            rest = &rest[n..];
+        }
+    }
+    tally.counts
+}
+
+// What standard error is told of runs, in pieces of each length, and to a sink that accepts as many bytes of a piece: a
+// terminal in full, another place the cause alone.
 #[test]
 fn runs(rt: HostRuntime) -> Result<(), Fail> {
     let alloc = rt.alloc();
@@ -115,18 +147,23 @@ fn runs(rt: HostRuntime) -> Result<(), Fail> {
         ),
     ] {
         for size in 1..10 {
-            let report = Report::after(
-                status,
-                Run {
-                    read: read_in_pieces(alloc, input, size)?,
-                    written: write_in_pieces(alloc, output, size),
-                    elapsed: Some(Duration::from_millis(61_079)),
-                },
-            );
-            let text = format!(in alloc; "{}", report.text(false))?;
-            assert_eq!(rt; text.as_str(), cause);
-            let text = format!(in alloc; "{}", report.text(true))?;
-            assert_eq!(rt; text.as_str(), told);
+            for written in [
+                write_in_pieces(alloc, output, size),
+                write_in_parts(output, size),
+            ] {
+                let report = Report::after(
+                    status,
+                    Run {
+                        read: read_in_pieces(alloc, input, size)?,
+                        written,
+                        elapsed: Some(Duration::from_millis(61_079)),
+                    },
+                );
+                let text = format!(in alloc; "{}", report.text(false))?;
+                assert_eq!(rt; text.as_str(), cause);
+                let text = format!(in alloc; "{}", report.text(true))?;
+                assert_eq!(rt; text.as_str(), told);
+            }
         }
     }
     Ok(())
