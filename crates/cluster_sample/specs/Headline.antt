@@ -7,14 +7,15 @@ use Rattle.view_types.specs.declared.config.Config.{Config}
 use Rattle.gen_cluster.specs.Generated.{generated}
 use Rattle.mesh_hub.specs.Hub.{HubState}
 use Rattle.mesh_hub.specs.declared.machine.Reply.{Reply}
-use Rattle.replay_core.specs.Headline.{WritesOutput, WritesPlain, WritesSaid}
-use Rattle.replay_core.specs.Stand.{PatternsNow}
+use Rattle.replay_core.specs.Headline.{RefusesSome, WritesOutput, WritesPlain, WritesSaid}
+use Rattle.feed_history.specs.KnownPatterns.{PatternsNow}
 use Rattle.cluster_sample.specs.Counted.{sample_line}
 
 -- A replay of the cluster's lines over this machine writes the text, and refuses a line or none.
 pub record Replays (config : Config) (limits : Limits) (known : PatternsNow) (state : Option HubState) (replies replies_new : Option (List Reply)) (n : ℕ) (text : List ℕ) (refused : Bool) : Type 0 where
   pub output : WritesOutput config limits known state (Some (generated n)) (Some []) (Some text) refused
   pub quiet : WritesPlain config limits known state (Some (generated n)) (Some []) (Some text) refused
+  pub refuses : RefusesSome config limits known state (Some (generated n)) refused
   pub said : WritesSaid config limits replies replies_new (Some (generated n)) (Some []) (Some text) refused
 
 -- What was written is the line that counts such a text.

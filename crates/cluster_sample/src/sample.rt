@@ -3,7 +3,7 @@ ghost use Rattle.mesh_outside.specs.Causes.{Rose, Unrisen};
 ghost use Rattle.line_run.specs.Run.{OnEnd, OnStop, IsAnswered, IsTooLong};
 ghost use Rattle.gen_cluster.specs.Generated.{generated};
 ghost use Rattle.replay_core.specs.Headline.{StandsAtEnd};
-ghost use Rattle.replay_core.specs.Stand.{known_of};
+ghost use Rattle.feed_history.specs.KnownPatterns.{known_over};
 ghost use Rattle.cluster_sample.specs.Headline.{WritesSample, WritesSampleFront};
 
 use crate::counting::write_counts;
@@ -31,18 +31,19 @@ pub fn sample<H: Machine, K: Sink, P: Patterns>(
     requires { 1 ≤ limits.now.frame_addrs }
 
     // The lines were replayed to their end: the counts of what a replay writes were written, and a line was refused or none.
-    ensures output { OnEnd result (WritesSample config.now limits.now (known_of (P.tells patterns.old) (P.refuses patterns.old) (P.refusals patterns.old) (P.refusals patterns.new))
+    ensures output { OnEnd result (WritesSample config.now limits.now (known_over P.Patterns patterns.old patterns.new)
         (H.state hub.old) (H.replies hub.old) (H.replies hub.new) n (K.held out.old) (K.held out.new)) }
 
     // Else it is nothing, or a front of them.
-    ensures front { OnStop result (WritesSampleFront config.now limits.now (known_of (P.tells patterns.old) (P.refuses patterns.old) (P.refusals patterns.old) (P.refusals patterns.new))
+    ensures front { OnStop result (WritesSampleFront config.now limits.now (known_over P.Patterns patterns.old patterns.new)
         (H.state hub.old) (H.replies hub.old) (H.replies hub.new) n (K.held out.old) (K.held out.new)) }
 
     // The machine then stands where the lines lead.
     ensures state { OnEnd result (λ refused. StandsAtEnd config.now limits.now (H.state hub.old) (H.state hub.new) (Some (generated n))) }
 
-    // The count of refusals hasn't fallen.
+    // No count falls.
     ensures later { P.refusals patterns.old ≤ P.refusals patterns.new }
+    ensures write_later { K.faults out.old ≤ K.faults out.new }
 
     // When each status comes.
     ensures read { result ≢ Status.ReadFault }

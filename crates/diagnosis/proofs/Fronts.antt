@@ -1,5 +1,5 @@
 -- What was written is a front of what is defined, and at the end all of it.
-use Rattle.std.proofs.Common.{◌≡◌, ℕ, Bool, List, [], ◌∷◌, ◌++◌, sym, ap, ◌∙◌, subst, append-nil, append_assoc, inl, inr}
+use Rattle.std.proofs.Common.{◌≡◌, ◌<◌, ℕ, Bool, List, [], ◌∷◌, ◌++◌, length, sym, ap, ◌∙◌, subst, append-nil, append_assoc, inl, inr}
 use Rattle.std.specs.Prelude.{Some, None, IfSome}
 use Rattle.std.specs.declared.option.Option.{Option}
 use Rattle.std.specs.Io.KnownBytes.{Appends}
@@ -10,11 +10,11 @@ use Rattle.object_store.specs.Held.{Held}
 use Rattle.view_rules.specs.Views.{view_of}
 use Rattle.view_types.specs.declared.config.Config.{Config}
 use Rattle.view_types.specs.declared.query.Query.{Query}
-use Rattle.mesh_hub.specs.History.{after}
-use Rattle.mesh_hub.specs.Marks.{unmarked}
-use Rattle.mesh_hub.specs.Output.{piece_of, written_after}
-use Rattle.mesh_hub.specs.Program.{Program}
-use Rattle.mesh_hub.proofs.Optional.{IfSome-weaker}
+use Rattle.feed_history.specs.History.{after}
+use Rattle.feed_history.specs.Marks.{unmarked}
+use Rattle.feed_history.specs.Output.{piece_of, written_after}
+use Rattle.feed_history.specs.Program.{Program}
+use Rattle.feed_history.proofs.Optional.{IfSome-weaker}
 use Rattle.output_fold.specs.Folded.{view_lines}
 use Rattle.diagnosis.specs.Diagnosed.{diagnosed_after, diagnosed_of, diagnosis_of, refused_in}
 use Rattle.diagnosis.specs.Headline.{WritesDiagnosed, WritesDiagnosedFront}
@@ -64,10 +64,11 @@ module _ (config : Config) (limits : Limits) (id : ℕ) (query : Query) where
         (part.sent, of_all.0, part.written, of_all.1)) part.front
 
     -- at the end of a run
-    pub diagnosed_whole : (input output : List ℕ) (refused : Bool) → IfSome left (λ bytes. bytes ≡ input) → Appends held held_new output → Ended config limits id query (past_of limits.line input) output refused
-        → WritesDiagnosed config limits id query left held held_new refused
-    diagnosed_whole input output refused read written ended = IfSome-weaker left _ _ (λ bytes is.
+    pub diagnosed_whole : (input output : List ℕ) (refused : Bool) → IfSome left (λ bytes. bytes ≡ input) → length input < limits.input → Appends held held_new output
+        → Ended config limits id query (past_of limits.line input) output refused → WritesDiagnosed config limits id query left held held_new refused
+    diagnosed_whole input output refused read below written ended = IfSome-weaker left _ _ (λ bytes is.
         let text : output ≡ diagnosed_of config limits id query bytes = ended.writes ∙ ap (diagnosed_of config limits id query) (sym is) in (
+          subst (λ (xs : List ℕ). length xs < limits.input) (sym is) below,
           subst (λ (xs : List ℕ). Appends held held_new xs) text written,
           ended.refuses ∙ ap (λ (xs : List ℕ). refused_in config limits (past_of limits.line xs)) (sym is),
         )) read

@@ -14,13 +14,13 @@ use Rattle.watch_events.specs.Lines.{row_says, text_line}
 use Rattle.watch_events.specs.declared.line.Line.{Line}
 use Rattle.watch_events.specs.declared.line.Line.TheVariants as lines
 use Rattle.watch_events.specs.declared.line.LineFault.{LineFault}
-use Rattle.mesh_hub.specs.History.{State, after, after_line, refusal_after, refusal_of}
-use Rattle.mesh_hub.specs.Ids.{unless_refused}
-use Rattle.mesh_hub.specs.Marks.{unmarked}
-use Rattle.mesh_hub.specs.Output.{line_text, piece_of, row_piece, written_after}
-use Rattle.mesh_hub.specs.Program.{Program}
-use Rattle.mesh_hub.specs.Text.{refused_line}
-use Rattle.mesh_hub.specs.declared.refusal.Refusal.{Refusal}
+use Rattle.feed_history.specs.History.{State, after, after_line, refusal_after, refusal_of}
+use Rattle.feed_history.specs.Ids.{unless_refused}
+use Rattle.feed_history.specs.Marks.{unmarked}
+use Rattle.feed_history.specs.Output.{line_text, piece_of, row_piece, written_after}
+use Rattle.feed_history.specs.Program.{Program}
+use Rattle.feed_history.specs.Text.{refused_line}
+use Rattle.feed_history.specs.declared.refusal.Refusal.{Refusal}
 use Rattle.output_fold.specs.Folded.{view_lines}
 use Rattle.diagnosis.specs.Diagnosed.{diagnosis_of, if_read, refused_in}
 use Rattle.diagnosis.specs.Stand.{Ended, Holds, IsOfRun, Stands, Takes}

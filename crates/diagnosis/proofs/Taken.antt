@@ -12,12 +12,12 @@ use Rattle.watch_events.specs.declared.line.Line.{Line}
 use Rattle.watch_events.specs.declared.line.Line.TheVariants as lines
 use Rattle.watch_events.specs.declared.line.LineFault.{LineFault}
 use Rattle.watch_events.specs.declared.line.LineFault.TheVariants as faults
-use Rattle.mesh_hub.specs.Events.{event_refusal, objects_after}
-use Rattle.mesh_hub.specs.History.{State, after_line}
-use Rattle.mesh_hub.specs.Ids.{unless_refused}
-use Rattle.mesh_hub.specs.declared.refusal.HubFault.{HubFault}
-use Rattle.mesh_hub.specs.declared.refusal.Refusal.{Refusal}
-use Rattle.mesh_hub.specs.declared.refusal.Refusal.TheVariants as refusals
+use Rattle.feed_history.specs.Events.{event_refusal, objects_after}
+use Rattle.feed_history.specs.History.{State, after_line}
+use Rattle.feed_history.specs.Ids.{unless_refused}
+use Rattle.feed_history.specs.declared.refusal.HubFault.{HubFault}
+use Rattle.feed_history.specs.declared.refusal.Refusal.{Refusal}
+use Rattle.feed_history.specs.declared.refusal.Refusal.TheVariants as refusals
 use Rattle.diagnosis.specs.Diagnosed.{diagnosis_of}
 use Rattle.diagnosis.specs.Stand.{Applies, Takes}
 

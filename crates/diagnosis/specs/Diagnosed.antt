@@ -9,10 +9,10 @@ use Rattle.watch_events.specs.Lines.{text_line}
 use Rattle.watch_events.specs.declared.line.Line.{Line}
 use Rattle.watch_events.specs.declared.line.Line.TheVariants as lines
 use Rattle.watch_events.specs.declared.line.LineFault.{LineFault}
-use Rattle.mesh_hub.specs.History.{after}
-use Rattle.mesh_hub.specs.Marks.{unmarked}
-use Rattle.mesh_hub.specs.Output.{refused_after, written_after}
-use Rattle.mesh_hub.specs.Program.{Program, has_place_in_replay}
+use Rattle.feed_history.specs.History.{after}
+use Rattle.feed_history.specs.Marks.{unmarked}
+use Rattle.feed_history.specs.Output.{refused_after, written_after}
+use Rattle.feed_history.specs.Program.{Program, has_place_in_replay}
 use Rattle.output_fold.specs.Folded.{view_lines}
 
 -- ---- the program

@@ -1,5 +1,5 @@
 -- What a diagnosis comes to.
-use Rattle.std.specs.Prelude.{◌≡◌, ℕ, Bool, List, ◌++◌, IfSome}
+use Rattle.std.specs.Prelude.{◌≡◌, ◌<◌, ℕ, Bool, List, ◌++◌, IfSome, length}
 use Rattle.std.specs.declared.option.Option.{Option}
 use Rattle.std.specs.Io.KnownBytes.{Appends}
 use Rattle.mesh_base.specs.declared.limits.Limits.{Limits}
@@ -8,10 +8,10 @@ use Rattle.view_types.specs.declared.config.Config.{Config}
 use Rattle.view_types.specs.declared.query.Query.{Query}
 use Rattle.diagnosis.specs.Diagnosed.{diagnosed_of, refused_in}
 
--- What was written is what is defined for the input, and some row was refused or none.
+-- The input is below its limit, what was written is what is defined for it, and some row was refused or none.
 abbrev pub WritesDiagnosed : Config → Limits → ℕ → Query → Option (List ℕ) → Option (List ℕ) → Option (List ℕ) → Bool → Type 0
 WritesDiagnosed config limits id query left held held_new refused = IfSome left (λ bytes.
-    Appends held held_new (diagnosed_of config limits id query bytes) × (refused ≡ refused_in config limits (past_of limits.line bytes)))
+    (length bytes < limits.input) × Appends held held_new (diagnosed_of config limits id query bytes) × (refused ≡ refused_in config limits (past_of limits.line bytes)))
 
 -- What was written is a front of that.
 abbrev pub WritesDiagnosedFront : Config → Limits → ℕ → Query → Option (List ℕ) → Option (List ℕ) → Option (List ℕ) → Type 0

@@ -9,13 +9,13 @@ use Rattle.view_types.specs.declared.query.Query.{Query}
 use Rattle.watch_events.specs.declared.event.Event.{Event}
 use Rattle.watch_events.specs.declared.line.Line.{Line}
 use Rattle.watch_events.specs.declared.line.LineFault.{LineFault}
-use Rattle.mesh_hub.specs.Events.{event_refusal, objects_after}
-use Rattle.mesh_hub.specs.History.{State, after, after_line, refusal_of}
-use Rattle.mesh_hub.specs.Ids.{unless_refused}
-use Rattle.mesh_hub.specs.Marks.{unmarked}
-use Rattle.mesh_hub.specs.Output.{written_after}
-use Rattle.mesh_hub.specs.declared.refusal.HubFault.{HubFault}
-use Rattle.mesh_hub.specs.declared.refusal.Refusal.{Refusal}
+use Rattle.feed_history.specs.Events.{event_refusal, objects_after}
+use Rattle.feed_history.specs.History.{State, after, after_line, refusal_of}
+use Rattle.feed_history.specs.Ids.{unless_refused}
+use Rattle.feed_history.specs.Marks.{unmarked}
+use Rattle.feed_history.specs.Output.{written_after}
+use Rattle.feed_history.specs.declared.refusal.HubFault.{HubFault}
+use Rattle.feed_history.specs.declared.refusal.Refusal.{Refusal}
 use Rattle.diagnosis.specs.Diagnosed.{diagnosed_after, diagnosis_of, if_read, refused_in}
 
 -- ---- an event

@@ -4,10 +4,10 @@ ghost use Rattle.watch_events.specs.Lawful.{IsLawfulEvent};
 ghost use Rattle.watch_events.specs.declared.event.Event.TheVariants.{Delete, Relist, Set};
 ghost use Rattle.diagnosis.specs.Stand.{Applies};
 
+use feed_history::refusal::HubFault;
 use mesh_base::key::{Kind, ObjKey};
 use mesh_base::list::List;
 use mesh_base::memory::Memory;
-use mesh_hub::refusal::HubFault;
 use object_store::change::StoreFault;
 use object_store::store::Store;
 use view_types::object::Object;

@@ -1,10 +1,10 @@
 ghost use Rattle.std.specs.Prelude.{◌≤◌};
 
 use crate::take::take_row;
+use feed_history::text::push_refused;
 use line_run::LineMachine;
 use mesh_base::limits::Limits;
 use mesh_base::sub_id::SubId;
-use mesh_hub::text::push_refused;
 use object_store::store::Store;
 use output_fold::view_text::push_view;
 use std::alloc::{AllocError, Global};

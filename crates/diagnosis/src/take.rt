@@ -8,8 +8,8 @@ ghost use Rattle.watch_events.specs.declared.line.Line.TheVariants as lines;
 ghost use Rattle.diagnosis.specs.Stand.{Takes};
 
 use crate::apply::apply;
+use feed_history::refusal::Refusal;
 use mesh_base::memory::Memory;
-use mesh_hub::refusal::Refusal;
 use object_store::store::Store;
 use std::alloc::Global;
 use view_types::config::Config;

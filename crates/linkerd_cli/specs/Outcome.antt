@@ -1,8 +1,6 @@
 -- What a call of the program comes to.
-use Rattle.std.specs.Prelude.{◌≡◌, ℕ, Bool, List, Some, true, ⊤}
+use Rattle.std.specs.Prelude.{ℕ, Bool, List, Some, ⊤}
 use Rattle.std.specs.declared.option.Option.{Option}
-use Rattle.command_words.specs.Apps.{are_accepted}
-use Rattle.command_words.specs.Commands.{command_in}
 use Rattle.command_words.specs.declared.command.Command.{Command}
 use Rattle.command_words.specs.declared.command.Command.TheVariants.{Replay, Diagnose, Fold, Sample}
 use Rattle.gen_cluster.specs.Generated.{generated}
@@ -23,10 +21,6 @@ AtEnd (Ended status) P = OnEnd status P
 -- P where the call stopped before that
 abbrev pub AtStop : Outcome → Type 0 → Type 0
 AtStop (Ended status) P = OnStop status P
-
--- clap's definition accepts the words, and its matches give this command
-abbrev pub Asks : List (List ℕ) → Command → Type 0
-Asks words command = (are_accepted words ≡ true) × (command_in words ≡ Some command)
 
 -- the bytes that a command reads: those of the input, or the lines of the generated cluster
 abbrev pub read_by : Command → Option (List ℕ) → Option (List ℕ)

@@ -1,16 +1,15 @@
-ghost use Rattle.std.specs.Prelude.{◌≡◌, ◌≢◌, ◌≤◌, ◌<◌, ℕ, IsSome, List, None, Some, length, true};
+ghost use Rattle.std.specs.Prelude.{◌≡◌, ◌≢◌, ◌≤◌, ◌<◌, ℕ, IsSome, List, None, Some, length};
 ghost use Rattle.mesh_outside.specs.Causes.{Rose, Unrisen};
 ghost use Rattle.line_run.specs.Run.{TookLimit, IsAnswered, IsTooLong};
 ghost use Rattle.gen_cluster.specs.Generated.{generated};
-ghost use Rattle.replay_core.specs.Headline.{StandsAtEnd, WritesFront, WritesOutput, WritesPlain, WritesSaid};
-ghost use Rattle.replay_core.specs.Stand.{known_of};
+ghost use Rattle.replay_core.specs.Headline.{RefusesSome, StandsAtEnd, WritesFront, WritesOutput, WritesPlain, WritesSaid, WritesSaidFront};
+ghost use Rattle.feed_history.specs.KnownPatterns.{known_over};
 ghost use Rattle.output_fold.specs.Headline.{WritesFolded, WritesFoldedFront};
 ghost use Rattle.diagnosis.specs.Headline.{WritesDiagnosed, WritesDiagnosedFront};
 ghost use Rattle.cluster_sample.specs.Headline.{WritesSample, WritesSampleFront};
-ghost use Rattle.command_words.specs.Apps.{are_accepted};
 ghost use Rattle.command_words.specs.Commands.{command_in};
 ghost use Rattle.command_words.specs.declared.command.Command.TheVariants as commands;
-ghost use Rattle.linkerd_cli.specs.Outcome.{Asks, AtEnd, AtStop, EndsWith, IsUnread, read_by};
+ghost use Rattle.linkerd_cli.specs.Outcome.{AtEnd, AtStop, EndsWith, IsUnread, read_by};
 
 use cluster_sample::sample::sample;
 use command_words::command::Command;
@@ -50,9 +49,9 @@ pub fn top<H: Machine, S: Source, K: Sink, P: Patterns>(
 
     // ---- which words are a command
 
-    // Where clap's definition accepts the words, and all that the command needs can be read, they aren't refused.
-    ensures usage { are_accepted words.now ≡ true → IsSome (command_in words.now) → EndsWith result (λ status. status ≢ Status.Usage) }
-    // Words that give no command are refused, unless memory ran out.
+    // Words that give a command aren't refused.
+    ensures usage { IsSome (command_in words.now) → EndsWith result (λ status. status ≢ Status.Usage) }
+    // Words that give none are refused, unless memory ran out.
     ensures refused { command_in words.now ≡ None → EndsWith result IsUnread }
     // In both cases nothing was read or written.
     ensures untouched { EndsWith result (λ status. status ≡ Status.Usage → (hub.new ≡ hub.old) × (input.new ≡ input.old) × (out.new ≡ out.old) × (patterns.new ≡ patterns.old)) }
@@ -63,11 +62,15 @@ pub fn top<H: Machine, S: Source, K: Sink, P: Patterns>(
     // Read to the end, where the machine tells what it holds: what was written is the defined output, in which
     // simulations may have met patterns that are refused, at most as many as refusals rose, and a line was refused or none.
     ensures output { (config : Config) → command_in words.now ≡ Some (commands.Replay config) → AtEnd result (WritesOutput config limits.now
-        (known_of (P.tells patterns.old) (P.refuses patterns.old) (P.refusals patterns.old) (P.refusals patterns.new)) (H.state hub.old) (S.left input.old) (K.held out.old) (K.held out.new)) }
+        (known_over P.Patterns patterns.old patterns.new) (H.state hub.old) (S.left input.old) (K.held out.old) (K.held out.new)) }
 
     // Where no pattern was refused, no simulation met one.
     ensures quiet { (config : Config) → command_in words.now ≡ Some (commands.Replay config) → AtEnd result (WritesPlain config limits.now
-        (known_of (P.tells patterns.old) (P.refuses patterns.old) (P.refusals patterns.old) (P.refusals patterns.new)) (H.state hub.old) (S.left input.old) (K.held out.old) (K.held out.new)) }
+        (known_over P.Patterns patterns.old patterns.new) (H.state hub.old) (S.left input.old) (K.held out.old) (K.held out.new)) }
+
+    // Whether a line was refused, whatever patterns match.
+    ensures refuses { (config : Config) → command_in words.now ≡ Some (commands.Replay config) → AtEnd result (RefusesSome config limits.now
+        (known_over P.Patterns patterns.old patterns.new) (H.state hub.old) (S.left input.old)) }
 
     // The machine then stands where the input leads.
     ensures state { (config : Config) → command_in words.now ≡ Some (commands.Replay config) → AtEnd result (λ refused. StandsAtEnd config limits.now (H.state hub.old) (H.state hub.new) (S.left input.old)) }
@@ -77,8 +80,12 @@ pub fn top<H: Machine, S: Source, K: Sink, P: Patterns>(
         (H.replies hub.old) (H.replies hub.new) (S.left input.old) (K.held out.old) (K.held out.new)) }
 
     // Else it is a front of the defined output.
-    ensures front { (config : Config) → Asks words.now (commands.Replay config) → AtStop result (WritesFront config limits.now
-        (known_of (P.tells patterns.old) (P.refuses patterns.old) (P.refusals patterns.old) (P.refusals patterns.new)) (H.state hub.old) (S.left input.old) (K.held out.old) (K.held out.new)) }
+    ensures front { (config : Config) → command_in words.now ≡ Some (commands.Replay config) → AtStop result (WritesFront config limits.now
+        (known_over P.Patterns patterns.old patterns.new) (H.state hub.old) (S.left input.old) (K.held out.old) (K.held out.new)) }
+
+    // A machine that tells its replies: it is a front of what they and the lines say.
+    ensures said_front { (config : Config) → command_in words.now ≡ Some (commands.Replay config) → AtStop result (WritesSaidFront config limits.now
+        (H.replies hub.old) (H.replies hub.new) (S.left input.old) (K.held out.old) (K.held out.new)) }
 
     // ---- diagnose
 
@@ -86,7 +93,7 @@ pub fn top<H: Machine, S: Source, K: Sink, P: Patterns>(
     // The machine stays as it is.
     ensures diagnosed { (id : SubId) (query : Query) (config : Config) → command_in words.now ≡ Some (commands.Diagnose id query config)
         → AtEnd result (WritesDiagnosed config limits.now id.0 query (S.left input.old) (K.held out.old) (K.held out.new)) }
-    ensures diagnosed_front { (id : SubId) (query : Query) (config : Config) → Asks words.now (commands.Diagnose id query config)
+    ensures diagnosed_front { (id : SubId) (query : Query) (config : Config) → command_in words.now ≡ Some (commands.Diagnose id query config)
         → AtStop result (WritesDiagnosedFront config limits.now id.0 query (S.left input.old) (K.held out.old) (K.held out.new)) }
     ensures undiagnosed { (id : SubId) (query : Query) (config : Config) → command_in words.now ≡ Some (commands.Diagnose id query config) → (hub.new ≡ hub.old) × (patterns.new ≡ patterns.old) }
 
@@ -96,7 +103,7 @@ pub fn top<H: Machine, S: Source, K: Sink, P: Patterns>(
     // The machine stays as it is.
     ensures folded { (id : SubId) (method : Method) → command_in words.now ≡ Some (commands.Fold id method)
         → AtEnd result (WritesFolded method id.0 limits.now (S.left input.old) (K.held out.old) (K.held out.new)) }
-    ensures folded_front { (id : SubId) (method : Method) → Asks words.now (commands.Fold id method)
+    ensures folded_front { (id : SubId) (method : Method) → command_in words.now ≡ Some (commands.Fold id method)
         → AtStop result (WritesFoldedFront method id.0 limits.now (S.left input.old) (K.held out.old) (K.held out.new)) }
     ensures unheld { (id : SubId) (method : Method) → command_in words.now ≡ Some (commands.Fold id method) → (hub.new ≡ hub.old) × (patterns.new ≡ patterns.old) }
 
@@ -105,9 +112,9 @@ pub fn top<H: Machine, S: Source, K: Sink, P: Patterns>(
     // The lines of the generated cluster were replayed to their end: the counts of what a replay writes were written, and a
     // line was refused or none. Else it is nothing, or a front of them.
     ensures sampled { (n : ℕ) (config : Config) → command_in words.now ≡ Some (commands.Sample n config) → AtEnd result (WritesSample config limits.now
-        (known_of (P.tells patterns.old) (P.refuses patterns.old) (P.refusals patterns.old) (P.refusals patterns.new)) (H.state hub.old) (H.replies hub.old) (H.replies hub.new) n (K.held out.old) (K.held out.new)) }
-    ensures sampled_front { (n : ℕ) (config : Config) → Asks words.now (commands.Sample n config) → AtStop result (WritesSampleFront config limits.now
-        (known_of (P.tells patterns.old) (P.refuses patterns.old) (P.refusals patterns.old) (P.refusals patterns.new)) (H.state hub.old) (H.replies hub.old) (H.replies hub.new) n (K.held out.old) (K.held out.new)) }
+        (known_over P.Patterns patterns.old patterns.new) (H.state hub.old) (H.replies hub.old) (H.replies hub.new) n (K.held out.old) (K.held out.new)) }
+    ensures sampled_front { (n : ℕ) (config : Config) → command_in words.now ≡ Some (commands.Sample n config) → AtStop result (WritesSampleFront config limits.now
+        (known_over P.Patterns patterns.old patterns.new) (H.state hub.old) (H.replies hub.old) (H.replies hub.new) n (K.held out.old) (K.held out.new)) }
 
     // The machine then stands where the lines lead.
     ensures sampled_state { (n : ℕ) (config : Config) → command_in words.now ≡ Some (commands.Sample n config)
@@ -118,16 +125,18 @@ pub fn top<H: Machine, S: Source, K: Sink, P: Patterns>(
 
     // ---- any command
 
-    // The count of refusals hasn't fallen.
+    // No count falls.
     ensures later { P.refusals patterns.old ≤ P.refusals patterns.new }
+    ensures read_later { S.faults input.old ≤ S.faults input.new }
+    ensures write_later { K.faults out.old ≤ K.faults out.new }
 
     // When each other status comes.
     ensures read { EndsWith result (λ status. status ≡ Status.ReadFault → Rose (S.faults input.old) (S.faults input.new)) }
     ensures write { EndsWith result (λ status. status ≡ Status.WriteFault → Rose (K.faults out.old) (K.faults out.new)) }
     ensures long { (command : Command) → command_in words.now ≡ Some command → EndsWith result (λ status. status ≡ Status.InputTooLong → TookLimit limits.now.input (read_by command (S.left input.old))) }
-    ensures complete { (command : Command) → Asks words.now command → EndsWith result (λ status. Unrisen (S.faults input.old) (S.faults input.new) → Unrisen (K.faults out.old) (K.faults out.new)
+    ensures complete { (command : Command) → command_in words.now ≡ Some command → EndsWith result (λ status. Unrisen (S.faults input.old) (S.faults input.new) → Unrisen (K.faults out.old) (K.faults out.new)
         → (bytes : List ℕ) → read_by command (S.left input.old) ≡ Some bytes → length bytes < limits.now.input → IsAnswered status) }
-    ensures too_long { (command : Command) → Asks words.now command → EndsWith result (λ status. Unrisen (S.faults input.old) (S.faults input.new) → Unrisen (K.faults out.old) (K.faults out.new)
+    ensures too_long { (command : Command) → command_in words.now ≡ Some command → EndsWith result (λ status. Unrisen (S.faults input.old) (S.faults input.new) → Unrisen (K.faults out.old) (K.faults out.new)
         → (bytes : List ℕ) → read_by command (S.left input.old) ≡ Some bytes → limits.now.input ≤ length bytes → IsTooLong status) }
 {
     match read_words(alloc, words) {

@@ -3,20 +3,20 @@ use Rattle.std.proofs.Common.{◌≡◌, ℕ, suc, false, List, [], ◌∷◌, �
 use Rattle.std.proofs.lemmas.List.{set_split}
 use Rattle.view_types.specs.declared.view.View.{View}
 use Rattle.view_rules.specs.Views.{view_of}
-use Rattle.mesh_hub.specs.Drains.{frames_unless, unless_too_long}
+use Rattle.feed_history.specs.Drains.{frames_unless, unless_too_long}
 use Rattle.mesh_hub.specs.Hub.{Cancels, Goes, HubState, cancel_answer, drained, frames_at, frames_for, id_of, messages_for, shown_now, sub_at}
-use Rattle.mesh_hub.specs.Ids.{StandsAt, ended}
+use Rattle.feed_history.specs.Ids.{StandsAt, ended}
 use Rattle.mesh_hub.specs.Sending.{IsDue, Shows}
-use Rattle.mesh_hub.specs.declared.hub.Subscription.{Subscription}
-use Rattle.mesh_hub.specs.declared.refusal.HubFault.TheVariants.{NoSuchId}
-use Rattle.mesh_hub.proofs.Placed.{found_there, gives_way, stays}
+use Rattle.mesh_hub.specs.Subscriptions.{LiveSubscription}
+use Rattle.feed_history.specs.declared.refusal.HubFault.TheVariants.{NoSuchId}
+use Rattle.feed_history.proofs.Placed.{found_there, gives_way, stays}
 
-abbrev with_subs : HubState → List Subscription → HubState
+abbrev with_subs : HubState → List LiveSubscription → HubState
 with_subs old subs = record old { subs = subs }
 
 -- ---- who was sent its messages goes on
 
-module _ (old new : HubState) (id at : ℕ) (stands : StandsAt id_of id old.subs at) (sub : Subscription) (is : sub ≡ get_or old.subs at sub) (view : View) (frames : List (List ℕ)) (due : IsDue old sub view frames) where
+module _ (old new : HubState) (id at : ℕ) (stands : StandsAt id_of id old.subs at) (sub : LiveSubscription) (is : sub ≡ get_or old.subs at sub) (view : View) (frames : List (List ℕ)) (due : IsDue old sub view frames) where
   its_frames : Ok frames ≡ frames_at old id
   its_frames =
       ap Ok due.frames
@@ -35,7 +35,7 @@ module _ (old new : HubState) (id at : ℕ) (stands : StandsAt id_of id old.subs
     answer = its_frames;
     state = shows sub (sym is) ∙ ap (with_subs old)
         (set_split old.subs at (record sub { shown = Some view }) stands.within
-        ∙ sym (ap (λ (put : List Subscription). take at old.subs ++ (put ++ drop (suc at) old.subs)) its_place)
+        ∙ sym (ap (λ (put : List LiveSubscription). take at old.subs ++ (put ++ drop (suc at) old.subs)) its_place)
         ∙ sym (gives_way id_of id old.subs at stands sub is (shown_now old)));
   }
 

@@ -12,18 +12,18 @@ use Rattle.view_rules.specs.Views.{view_of}
 use Rattle.view_types.specs.declared.request.Request.{Request}
 use Rattle.view_types.specs.declared.verdict.Verdict.{Verdict}
 use Rattle.watch_events.specs.declared.event.Event.{Event}
-use Rattle.route_match.specs.Matching.{Pat}
+use Rattle.route_match.specs.Asking.{PatternFacts}
 use Rattle.request_sim.specs.Faults.{Simulated}
 use Rattle.request_sim.specs.declared.fault.SimFault.{SimFault}
 use Rattle.request_sim.specs.declared.fault.SimFault.TheVariants as sim
-use Rattle.mesh_hub.specs.Drains.{frames_within, too_long, unless_too_long}
-use Rattle.mesh_hub.specs.Events.{event_refusal, objects_after}
-use Rattle.mesh_hub.specs.Ids.{at_id, ended, in_place, subscribe_refusal, unless_refused}
+use Rattle.feed_history.specs.Drains.{frames_within, too_long, unless_too_long}
+use Rattle.feed_history.specs.Events.{event_refusal, objects_after}
+use Rattle.feed_history.specs.Ids.{at_id, ended, in_place, subscribe_refusal, unless_refused}
 use Rattle.mesh_hub.specs.declared.hub.Hub.{Hub}
-use Rattle.mesh_hub.specs.declared.hub.Subscription.{Subscription}
-use Rattle.mesh_hub.specs.declared.refusal.HubFault.{HubFault}
-use Rattle.mesh_hub.specs.declared.refusal.HubFault.TheVariants.{Memory, Full, TooManySubs, IdOrder, NoSuchId, Oversize}
-use Rattle.mesh_hub.specs.declared.refusal.NoSuchId.{NoSuchId as NotLive}
+use Rattle.mesh_hub.specs.Subscriptions.{LiveSubscription}
+use Rattle.feed_history.specs.declared.refusal.HubFault.{HubFault}
+use Rattle.feed_history.specs.declared.refusal.HubFault.TheVariants.{Memory, Full, TooManySubs, IdOrder, NoSuchId, Oversize}
+use Rattle.feed_history.specs.declared.refusal.NoSuchId.{NoSuchId as NotLive}
 
 -- The objects held, the live subscriptions in the order of their ids, each with the view that it was last shown, and
 -- the greatest accepted id. Once it was out of memory, a hub is spent.
@@ -31,7 +31,7 @@ pub record HubState : Type 0 where
   pub config : Config
   pub limits : Limits
   pub objects : ObjectMap
-  pub subs : List Subscription
+  pub subs : List LiveSubscription
   pub last : Option ℕ
   pub spent : Bool
 
@@ -84,17 +84,17 @@ new_refusal now id = subscribe_refusal now.limits.subs now.last (length now.subs
 abbrev pub subscribed : HubState → SubId → Query → HubState
 subscribed now id query = unless_refused (new_refusal now id.0) now (record now { subs = now.subs ++ record { id = id; query = query; shown = None } ∷ []; last = Some id.0 })
 
-abbrev pub id_of : Subscription → ℕ
+abbrev pub id_of : LiveSubscription → ℕ
 id_of sub = sub.id.0
 
 -- the subscription under an id
-abbrev pub sub_at : ℕ → List Subscription → Option Subscription
+abbrev pub sub_at : ℕ → List LiveSubscription → Option LiveSubscription
 sub_at id subs = at_id id_of id subs
 
-abbrev pub is_live : ℕ → List Subscription → Bool
+abbrev pub is_live : ℕ → List LiveSubscription → Bool
 is_live id subs = is_some (sub_at id subs)
 
-abbrev pub cancel_answer : Option Subscription → Result (Unit {0}) NotLive
+abbrev pub cancel_answer : Option LiveSubscription → Result (Unit {0}) NotLive
 cancel_answer (Some sub) = Ok tt
 cancel_answer None = Err (record {})
 
@@ -107,11 +107,11 @@ pub record Cancels (id : ℕ) (old : HubState) (result : Result (Unit {0}) NotLi
   pub state : new ≡ cancelled old id
 
 -- the messages from the view that a subscriber was last shown to that of the objects held
-abbrev pub messages_for : HubState → Subscription → List Message
+abbrev pub messages_for : HubState → LiveSubscription → List Message
 messages_for now sub = batch sub.shown (view_of now.config now.objects sub.query) now.limits
 
 -- what a drain answers
-abbrev pub frames_for : HubState → ℕ → Option Subscription → Result (List (List ℕ)) HubFault
+abbrev pub frames_for : HubState → ℕ → Option LiveSubscription → Result (List (List ℕ)) HubFault
 frames_for now id None = Err (NoSuchId id)
 frames_for now id (Some sub) = frames_within now.limits.message (messages_for now sub)
 
@@ -119,7 +119,7 @@ abbrev pub frames_at : HubState → ℕ → Result (List (List ℕ)) HubFault
 frames_at now id = frames_for now id (sub_at id now.subs)
 
 -- what stands in the place of a subscription once it was drained
-abbrev pub shown_now : HubState → Subscription → List Subscription
+abbrev pub shown_now : HubState → LiveSubscription → List LiveSubscription
 shown_now now sub = unless_too_long (too_long now.limits.message (messages_for now sub)) (record sub { shown = Some (view_of now.config now.objects sub.query) })
 
 abbrev pub drained : HubState → ℕ → HubState
@@ -138,6 +138,6 @@ RestsUnlessMemory old (Err (sim.Pattern route rule item)) new = Rests old new
 RestsUnlessMemory old (Err sim.Memory) new = Spends old new
 
 -- A simulation answers what comes of the request, or meets a pattern that is refused, and changes nothing. A spent hub can't.
-pub record Simulates (tells : Option Pat) (refuses : Option (List ℕ → Bool)) (request : Request) (result : Result Verdict SimFault) (old new : HubState) : Type 0 where
-  pub answer : Simulated old.config old.objects tells refuses request result
+pub record Simulates (facts : PatternFacts) (request : Request) (result : Result Verdict SimFault) (old new : HubState) : Type 0 where
+  pub answer : Simulated old.config old.objects facts request result
   pub state : RestsUnlessMemory old result new

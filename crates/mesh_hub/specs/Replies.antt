@@ -4,8 +4,8 @@ use Rattle.mesh_base.specs.declared.sub_id.SubId.{SubId}
 use Rattle.view_types.specs.declared.verdict.Verdict.{Verdict}
 use Rattle.request_sim.specs.declared.fault.SimFault.{SimFault}
 use Rattle.request_sim.specs.declared.fault.SimFault.TheVariants as sim
-use Rattle.mesh_hub.specs.declared.refusal.HubFault.{HubFault}
-use Rattle.mesh_hub.specs.declared.refusal.HubFault.TheVariants.{Memory, Full, TooManySubs, IdOrder, NoSuchId, Oversize}
+use Rattle.feed_history.specs.declared.refusal.HubFault.{HubFault}
+use Rattle.feed_history.specs.declared.refusal.HubFault.TheVariants.{Memory, Full, TooManySubs, IdOrder, NoSuchId, Oversize}
 use Rattle.mesh_hub.specs.declared.machine.Reply.{Reply}
 use Rattle.mesh_hub.specs.declared.machine.Reply.TheVariants as replies
 

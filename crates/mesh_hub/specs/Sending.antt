@@ -6,35 +6,27 @@ use Rattle.view_rules.specs.Fold.{IsOrderlyIfShown}
 use Rattle.view_rules.specs.Views.{view_of}
 use Rattle.proxy_proto.specs.Messages.{canonical}
 use Rattle.proto_wire.specs.Frames.{frame_of}
-use Rattle.mesh_hub.specs.Drains.{frames_of, too_long}
+use Rattle.feed_history.specs.Drains.{frames_of, too_long}
 use Rattle.mesh_hub.specs.Hub.{HubState, messages_for}
-use Rattle.mesh_hub.specs.declared.hub.Subscription.{Subscription}
-use Rattle.mesh_hub.specs.declared.refusal.HubFault.{HubFault}
-use Rattle.mesh_hub.specs.declared.refusal.HubFault.TheVariants.{Oversize}
-
--- the frame of a message, unless it is longer than may be
-abbrev pub frame_unless : Bool → List ℕ → Result (List ℕ) HubFault
-frame_unless false bytes = Ok (frame_of bytes)
-frame_unless true bytes = Err (Oversize (length bytes))
-
-abbrev pub frame_within : ℕ → Message → Result (List ℕ) HubFault
-frame_within limit message = frame_unless (nat_lt limit (length (canonical message))) (canonical message)
+use Rattle.mesh_hub.specs.Subscriptions.{LiveSubscription}
+use Rattle.feed_history.specs.declared.refusal.HubFault.{HubFault}
+use Rattle.feed_history.specs.declared.refusal.HubFault.TheVariants.{Oversize}
 
 -- the view that a subscriber is to see, and the frames of its messages, none of which is too long
-pub record IsDue (now : HubState) (sub : Subscription) (seen : View) (sent : List (List ℕ)) : Type 0 where
+pub record IsDue (now : HubState) (sub : LiveSubscription) (seen : View) (sent : List (List ℕ)) : Type 0 where
   pub fits : too_long now.limits.message (messages_for now sub) ≡ None
   pub frames : sent ≡ frames_of (messages_for now sub)
   pub view : seen ≡ view_of now.config now.objects sub.query
   pub orderly : IsOrderlyIfShown (Some seen)
 
-abbrev pub IsDueOrTooLong : HubState → Subscription → Result (View × List (List ℕ)) HubFault → Type 0
+abbrev pub IsDueOrTooLong : HubState → LiveSubscription → Result (View × List (List ℕ)) HubFault → Type 0
 IsDueOrTooLong now sub (Ok due) = IsDue now sub due.0 due.1
 IsDueOrTooLong now sub (Err (Oversize bytes)) = too_long now.limits.message (messages_for now sub) ≡ Some bytes
 IsDueOrTooLong now sub (Err _) = Unit {0}
 
 -- The view that the subscriber at a place was shown is noted.
 abbrev pub Shows : ℕ → View → HubState → HubState → Type 0
-Shows at view old new = (sub : Subscription) → slice_index_or old.subs at sub ≡ sub → new ≡ record old { subs = slice_set old.subs at (record sub { shown = Some view }) }
+Shows at view old new = (sub : LiveSubscription) → slice_index_or old.subs at sub ≡ sub → new ≡ record old { subs = slice_set old.subs at (record sub { shown = Some view }) }
 
 -- The subscription at a place ends.
 abbrev pub Ends : ℕ → HubState → HubState → Type 0

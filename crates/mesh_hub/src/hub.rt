@@ -1,15 +1,14 @@
-ghost use Rattle.mesh_outside.specs.Causes.{Rose};
 ghost use Rattle.std.specs.Prelude.{◌≡◌, ◌==◌, ◌≤◌, ◌<◌, false, None, IfOk, MatchOption, Some, length};
 ghost use Rattle.std.specs.List.{position_from};
 ghost use Rattle.view_types.specs.Objects.{IsListOf};
 ghost use Rattle.view_rules.specs.Fold.{IsOrderlyIfShown};
+ghost use Rattle.route_match.specs.Asking.{AsksPatterns, facts_of};
 ghost use Rattle.request_sim.specs.Faults.{MetPattern, Simulated};
-ghost use Rattle.mesh_hub.specs.Orderly.{AreOrderly, AreOrderly-prop};
 
-use crate::frames::frames_within;
 use crate::machine::Machine;
-use crate::refusal::{HubFault, NoSuchId};
 use bytes::Bytes;
+use feed_history::frames::frames_within;
+use feed_history::refusal::{HubFault, NoSuchId};
 use mesh_base::key::{Kind, ObjKey};
 use mesh_base::limits::Limits;
 use mesh_base::list::List;
@@ -22,6 +21,7 @@ use object_store::store::Store;
 use request_sim::decide::decide;
 use request_sim::fault::SimFault;
 use std::alloc::Global;
+use std::marker::Model;
 use std::mem;
 use view_diff::views::batch;
 use view_scratch::inbound::inbound;
@@ -36,11 +36,53 @@ use watch_events::event::Event;
 
 /// A live subscription.
 #[derive(Drop)]
-pub struct Subscription {
-    pub id: SubId,
-    pub query: Query,
-    /// The view that its subscriber was last shown, if it was drained.
-    pub shown: Option<View>,
+struct Subscription {
+    id: SubId,
+    query: Query,
+    /// The view that its subscriber was last shown, if it was drained. Its rows are in order.
+    shown: Option<View>,
+}
+
+impl Model for Subscription {
+    ghost use Rattle.std.specs.Coded.{codes};
+    ghost use Rattle.view_rules.specs.Fold.{IsOrderlyIfShown};
+    ghost use Rattle.view_types.specs.contracts.query.Query as the_query;
+    ghost use Rattle.view_types.specs.contracts.view.View as the_view;
+    ghost use Rattle.mesh_hub.specs.Subscriptions.{LiveSubscription};
+
+    ghost Value = { LiveSubscription };
+
+    ghost coded = { Prim.hlevel (codes, the_query.the_row.coded, the_view.the_row.coded) };
+
+    ghost view = { λ sub. record { id = sub.id; query = sub.query; shown = sub.shown } };
+
+    ghost invariant = { λ sub. IsOrderlyIfShown sub.shown };
+}
+
+impl Subscription {
+    fn new(id: SubId, query: Query) -> Subscription
+        ensures { result ≡ record { id = id; query = query; shown = None } }
+    {
+        Subscription {
+            id,
+            query,
+            shown: None,
+        }
+    }
+
+    fn id(&self) -> u32
+        ensures { result ≡ self.now.id.0 }
+    {
+        self.id.0
+    }
+
+    // Notes the view that its subscriber was shown.
+    fn show(&mut self, view: View)
+        requires { IsOrderlyIfShown (Some view) }
+        ensures { self.new ≡ record self.old { shown = Some view } }
+    {
+        self.shown = Some(view);
+    }
 }
 
 /// The objects held and the live subscriptions.
@@ -57,7 +99,6 @@ pub struct Hub {
     spent: bool,
     ghost some_addresses: { 1 ≤ limits.frame_addrs },
     ghost room: { store.limit ≡ limits.objects },
-    ghost orderly: { AreOrderly subs } by { AreOrderly-prop subs },
 }
 
 /// Written by hand, so that a crate that drops a hub needs no proof of what is in it.
@@ -78,7 +119,7 @@ impl Drop for Hub {
 impl Hub {
     ghost use Rattle.mesh_hub.specs.Hub.{Answers, Cancels, answer_of, applied, apply_refusal, drained, frames_at, fresh, id_of, is_live, new_refusal, state_of, sub_at, subscribed, Simulates};
     ghost use Rattle.mesh_hub.specs.Replies.{MayApply, MayDrain, MaySubscribe};
-    ghost use Rattle.mesh_hub.specs.Ids.{StandsAt};
+    ghost use Rattle.feed_history.specs.Ids.{StandsAt};
     ghost use Rattle.mesh_hub.specs.Sending.{Ends, IsDueOrTooLong, Shows};
     ghost use Rattle.watch_events.specs.Lawful.{IsLawfulEvent};
     ghost use Rattle.watch_events.specs.declared.event.Event.TheVariants.{Delete, Relist, Set};
@@ -170,11 +211,8 @@ impl Hub {
         patterns: &mut P,
         _steps: &mut Steps<L>,
     ) -> Result<Verdict, SimFault>
-        ensures answers { Simulates (P.tells patterns.old) (P.refuses patterns.old) request.now result (state_of self.old) (state_of self.new) }
-        ensures cause { MetPattern result → Rose (P.refusals patterns.old) (P.refusals patterns.new) }
-        ensures later { P.refusals patterns.old ≤ P.refusals patterns.new }
-        ensures tells_same { P.tells patterns.new ≡ P.tells patterns.old }
-        ensures refuses_same { P.refuses patterns.new ≡ P.refuses patterns.old }
+        ensures answers { Simulates (facts_of P.Patterns patterns.old) request.now result (state_of self.old) (state_of self.new) }
+        ensures asks { AsksPatterns P.Patterns patterns.old patterns.new (MetPattern result) }
     {
         if self.spent {
             return Err(SimFault::Memory);
@@ -193,14 +231,11 @@ impl Hub {
 
     // What comes of a request, by the view of its port.
     fn verdict<P: Patterns>(&self, request: &Request, patterns: &mut P) -> Result<Verdict, SimFault>
-        ensures simulated { Simulated self.now.config self.now.store.objects (P.tells patterns.old) (P.refuses patterns.old) request.now result }
-        ensures cause { MetPattern result → Rose (P.refusals patterns.old) (P.refusals patterns.new) }
-        ensures later { P.refusals patterns.old ≤ P.refusals patterns.new }
-        ensures tells_same { P.tells patterns.new ≡ P.tells patterns.old }
-        ensures refuses_same { P.refuses patterns.new ≡ P.refuses patterns.old }
+        ensures simulated { Simulated self.now.config self.now.store.objects (facts_of P.Patterns patterns.old) request.now result }
+        ensures asks { AsksPatterns P.Patterns patterns.old patterns.new (MetPattern result) }
     {
-        // `all` tells that each object stands at its own key, which the decision rests on.
-        let _held = self.store.all();
+        // The decision rests on it that each object stands at its own key.
+        self.store.stand_at_keys();
         let Ok(view) = inbound(
             self.alloc,
             &self.config,
@@ -295,12 +330,7 @@ impl Hub {
         ensures answers { Answers (state_of self.old) (answer_of (new_refusal (state_of self.old) id.0)) (subscribed (state_of self.old) id query) result (state_of self.new) }
         ensures may { MaySubscribe result }
     {
-        let sub = Subscription {
-            id,
-            query,
-            shown: None,
-        };
-        match self.subs.add(sub) {
+        match self.subs.add(Subscription::new(id, query)) {
             Ok(()) => {
                 self.last = Some(id.0);
                 Ok(())
@@ -337,7 +367,6 @@ impl Hub {
 
     // The view that a subscriber is to see, and the frames that bring it there.
     fn due(&self, sub: &Subscription) -> Result<(View, List<Bytes>), HubFault>
-        requires { IsOrderlyIfShown sub.now.shown }
         ensures { IsDueOrTooLong (state_of self.now) sub.now result }
     {
         let view = scratch(self.alloc, &self.store, &self.config, &sub.query)?;
@@ -353,7 +382,7 @@ impl Hub {
         ensures { Shows at view (state_of self.old) (state_of self.new) }
     {
         let mut subs = mem::replace(&mut self.subs, List::new(self.alloc)).into_vec();
-        subs[at].shown = Some(view);
+        subs[at].show(view);
         self.subs = List::from_vec(subs);
     }
 
@@ -371,7 +400,7 @@ impl Hub {
 fn first_of(subs: &[Subscription], id: u32) -> Option<usize>
     ensures { result ≡ position_from (λ sub. sub.id.0 == id) 0 subs.now }
 {
-    subs.iter().position(|sub| sub.id.0 == id)
+    subs.iter().position(|sub| sub.id() == id)
 }
 
 impl Machine for Hub {

@@ -1,10 +1,10 @@
 ghost use Rattle.std.specs.Prelude.{◌≡◌, ◌≤◌, ℕ, List, [], Option, Some, None, Ok};
-ghost use Rattle.mesh_outside.specs.Causes.{Rose};
 ghost use Rattle.watch_events.specs.Lawful.{IsLawfulEvent};
+ghost use Rattle.route_match.specs.Asking.{AsksPatterns, facts_of};
 ghost use Rattle.request_sim.specs.Faults.{MetPattern};
 
-use crate::refusal::{HubFault, NoSuchId};
 use bytes::Bytes;
+use feed_history::refusal::{HubFault, NoSuchId};
 use mesh_base::limits::Limits;
 use mesh_base::list::List;
 use mesh_base::memory::Memory;
@@ -37,7 +37,7 @@ pub enum Reply {
 /// A hub, or what stands in its place. It may tell what it holds, and it may tell its replies.
 pub trait Machine {
     ghost use Rattle.mesh_hub.specs.Hub.{Answers, Cancels, HubState, answer_of, applied, apply_refusal, drained, frames_at, fresh, new_refusal, subscribed, Simulates};
-    ghost use Rattle.mesh_hub.specs.Optional.{Becomes, Grows};
+    ghost use Rattle.feed_history.specs.Optional.{Becomes, Grows};
     ghost use Rattle.mesh_hub.specs.Replies.{MayApply, MayDrain, MaySubscribe, done_reply, drain_reply, sim_reply};
     ghost use Rattle.mesh_hub.specs.Begins.{Begins};
     ghost use Rattle.mesh_hub.specs.declared.machine.Reply.{Reply as TheReply};
@@ -94,10 +94,7 @@ pub trait Machine {
         patterns: &mut P,
         steps: &mut Steps<L>,
     ) -> Result<Verdict, SimFault>
-        ensures state { Becomes (state self.old) (state self.new) (λ old new. Simulates (P.tells patterns.old) (P.refuses patterns.old) request.now result old new) }
+        ensures state { Becomes (state self.old) (state self.new) (λ old new. Simulates (facts_of P.Patterns patterns.old) request.now result old new) }
         ensures replies { Grows (replies self.old) (replies self.new) (sim_reply result) }
-        ensures cause { MetPattern result → Rose (P.refusals patterns.old) (P.refusals patterns.new) }
-        ensures later { P.refusals patterns.old ≤ P.refusals patterns.new }
-        ensures tells_same { P.tells patterns.new ≡ P.tells patterns.old }
-        ensures refuses_same { P.refuses patterns.new ≡ P.refuses patterns.old };
+        ensures asks { AsksPatterns P.Patterns patterns.old patterns.new (MetPattern result) };
 }

@@ -1,5 +1,5 @@
 -- What was written is a front of what is defined, and at the end all of it.
-use Rattle.std.proofs.Common.{◌≡◌, ℕ, ◌+◌, Bool, List, [], ◌∷◌, ◌++◌, length, reverse, refl, sym, ap, ◌∙◌, subst, append-nil, append_assoc, inl, inr}
+use Rattle.std.proofs.Common.{◌≡◌, ℕ, ◌+◌, ◌<◌, Bool, List, [], ◌∷◌, ◌++◌, length, reverse, refl, sym, ap, ◌∙◌, subst, append-nil, append_assoc, inl, inr}
 use Rattle.std.specs.Prelude.{IfSome}
 use Rattle.std.specs.declared.option.Option.{Option}
 use Rattle.std.specs.List.{enumerate_from, filter_map}
@@ -10,7 +10,7 @@ use Rattle.line_run.specs.Run.{Part}
 use Rattle.view_types.specs.declared.message.Message.{Message}
 use Rattle.view_types.specs.declared.query.Method.{Method}
 use Rattle.view_types.specs.declared.view.View.{View}
-use Rattle.mesh_hub.proofs.Optional.{IfSome-weaker}
+use Rattle.feed_history.proofs.Optional.{IfSome-weaker}
 use Rattle.output_fold.specs.Folded.{bad_line, bad_rows, fault_at, folded_in, folded_of, messages_in, refused_in, text_of}
 use Rattle.output_fold.specs.Headline.{WritesFolded, WritesFoldedFront}
 use Rattle.output_fold.specs.Stand.{Ended, Stands}
@@ -71,11 +71,12 @@ module _ (method : Method) (id : ℕ) (limits : Limits) where
         (part.sent, of_all.0, part.written, ap (folded_in method id limits) (sym (reversed limits.line bytes)) ∙ of_all.1)) part.front
 
     -- at the end of a run
-    pub folded_whole : (input output : List ℕ) (refused : Bool) → IfSome left (λ bytes. bytes ≡ input) → Appends held held_new output → Ended method id limits (past_of limits.line input) output refused
-        → WritesFolded method id limits left held held_new refused
-    folded_whole input output refused read written ended = IfSome-weaker left _ _ (λ bytes is.
+    pub folded_whole : (input output : List ℕ) (refused : Bool) → IfSome left (λ bytes. bytes ≡ input) → length input < limits.input → Appends held held_new output
+        → Ended method id limits (past_of limits.line input) output refused → WritesFolded method id limits left held held_new refused
+    folded_whole input output refused read below written ended = IfSome-weaker left _ _ (λ bytes is.
         let rows = λ (xs : List ℕ). reversed limits.line xs in
         let text : output ≡ folded_of method id limits bytes = ended.writes ∙ ap (folded_in method id limits) (rows input) ∙ ap (folded_of method id limits) (sym is) in (
+          subst (λ (xs : List ℕ). length xs < limits.input) (sym is) below,
           subst (λ (xs : List ℕ). Appends held held_new xs) text written,
           ended.refuses ∙ ap (refused_in method id) (rows input) ∙ ap (λ (xs : List ℕ). refused_in method id (rows_of limits.line xs)) (sym is),
         )) read

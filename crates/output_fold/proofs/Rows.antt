@@ -9,7 +9,7 @@ use Rattle.mesh_base.specs.declared.limits.Limits.{Limits}
 use Rattle.mesh_base.specs.declared.memory.Memory.{Memory}
 use Rattle.mesh_base.specs.declared.sub_id.SubId.{SubId}
 use Rattle.line_run.specs.Rows.{Row}
-use Rattle.mesh_hub.specs.Text.{fault_line}
+use Rattle.feed_history.specs.Text.{fault_line}
 use Rattle.view_fold.specs.declared.folding.Fold.{Fold}
 use Rattle.view_fold.proofs.Orderly.{one_more}
 use Rattle.view_rules.specs.Fold.{IsOrderlyIfShown, fold, folded_onto, shown_after}

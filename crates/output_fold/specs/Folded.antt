@@ -8,9 +8,9 @@ use Rattle.view_types.specs.declared.query.Method.{Method}
 use Rattle.view_types.specs.declared.view.View.{View}
 use Rattle.view_rules.specs.Batch.{batch}
 use Rattle.view_rules.specs.Fold.{fold}
-use Rattle.mesh_hub.specs.Drains.{too_long}
-use Rattle.mesh_hub.specs.Output.{lines_by}
-use Rattle.mesh_hub.specs.Text.{fault_line, view_line}
+use Rattle.feed_history.specs.Drains.{too_long}
+use Rattle.feed_history.specs.Output.{lines_by}
+use Rattle.feed_history.specs.Text.{fault_line, view_line}
 use Rattle.output_fold.specs.FaultText.{fold_fault_text}
 use Rattle.output_fold.specs.Lines.{Told, row_says}
 use Rattle.output_fold.specs.declared.fault.FoldFault.{FoldFault}

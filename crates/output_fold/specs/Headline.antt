@@ -1,5 +1,5 @@
 -- What a fold comes to.
-use Rattle.std.specs.Prelude.{◌≡◌, ℕ, Bool, List, ◌++◌, IfSome}
+use Rattle.std.specs.Prelude.{◌≡◌, ◌<◌, ℕ, Bool, List, ◌++◌, IfSome, length}
 use Rattle.std.specs.declared.option.Option.{Option}
 use Rattle.std.specs.Io.KnownBytes.{Appends}
 use Rattle.mesh_base.specs.declared.limits.Limits.{Limits}
@@ -7,10 +7,10 @@ use Rattle.line_run.specs.Rows.{rows_of}
 use Rattle.view_types.specs.declared.query.Method.{Method}
 use Rattle.output_fold.specs.Folded.{folded_of, refused_in}
 
--- What was written is what is defined for the input, and some row didn't read or none.
+-- The input is below its limit, what was written is what is defined for it, and some row didn't read or none.
 abbrev pub WritesFolded : Method → ℕ → Limits → Option (List ℕ) → Option (List ℕ) → Option (List ℕ) → Bool → Type 0
 WritesFolded method id limits left held held_new refused = IfSome left (λ bytes.
-    Appends held held_new (folded_of method id limits bytes) × (refused ≡ refused_in method id (rows_of limits.line bytes)))
+    (length bytes < limits.input) × Appends held held_new (folded_of method id limits bytes) × (refused ≡ refused_in method id (rows_of limits.line bytes)))
 
 -- What was written is a front of that.
 abbrev pub WritesFoldedFront : Method → ℕ → Limits → Option (List ℕ) → Option (List ℕ) → Option (List ℕ) → Type 0

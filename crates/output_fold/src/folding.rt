@@ -1,16 +1,16 @@
 ghost use Rattle.std.specs.Prelude.{◌≡◌, ◌≢◌, ◌≤◌, ◌++◌, OnOk};
 ghost use Rattle.view_rules.specs.Fold.{IsOrderlyIfShown};
-ghost use Rattle.mesh_hub.specs.Orderly.{IsOrderlyIfShown-prop};
-ghost use Rattle.mesh_hub.specs.Text.{fault_line};
+ghost use Rattle.feed_history.specs.Orderly.{IsOrderlyIfShown-prop};
+ghost use Rattle.feed_history.specs.Text.{fault_line};
 ghost use Rattle.output_fold.specs.FaultText.{fold_fault_text};
 
 use crate::fault::FoldFault;
 use crate::line::row_says;
 use crate::view_text::push_view;
+use feed_history::text::push_refused;
 use line_run::LineMachine;
 use mesh_base::limits::Limits;
 use mesh_base::sub_id::SubId;
-use mesh_hub::text::push_refused;
 use std::alloc::{AllocError, Global};
 use view_fold::folding::Fold;
 use view_types::query::Method;

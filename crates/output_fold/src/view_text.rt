@@ -1,18 +1,18 @@
 ghost use Rattle.std.specs.Prelude.{◌≡◌, ◌++◌, ◌≤◌, OnOk, Some};
 ghost use Rattle.view_rules.specs.Batch.{batch};
 ghost use Rattle.view_rules.specs.Fold.{IsOrderlyIfShown};
-ghost use Rattle.mesh_hub.specs.Drains.{too_long};
-ghost use Rattle.mesh_hub.specs.Output.{lines_by};
-ghost use Rattle.mesh_hub.specs.Text.{view_line};
+ghost use Rattle.feed_history.specs.Drains.{too_long};
+ghost use Rattle.feed_history.specs.Output.{lines_by};
+ghost use Rattle.feed_history.specs.Text.{view_line};
 ghost use Rattle.output_fold.specs.Folded.{view_lines};
 
+use feed_history::frames::frames_within;
+use feed_history::refusal::HubFault;
+use feed_history::text::{push_frames, push_oversize};
 use mesh_base::limits::Limits;
 use mesh_base::list::List;
 use mesh_base::memory::Memory;
 use mesh_base::sub_id::SubId;
-use mesh_hub::frames::frames_within;
-use mesh_hub::refusal::HubFault;
-use mesh_hub::text::{push_frames, push_oversize};
 use std::alloc::Global;
 use view_diff::views::batch;
 use view_types::message::Message;

@@ -6,13 +6,13 @@ use Rattle.proxy_proto.specs.MessageReading.{message_of}
 use Rattle.proxy_proto.specs.Sendable.{IsSendable, method_of}
 use Rattle.view_types.specs.declared.message.Message.{Message}
 use Rattle.view_types.specs.declared.query.Method.{Method}
-use Rattle.mesh_hub.specs.History.{after}
-use Rattle.mesh_hub.specs.Lawful.{HeldAreLawful, HeldAtKeys}
-use Rattle.mesh_hub.specs.Marks.{MarkedRow}
-use Rattle.mesh_hub.specs.Output.{output_after}
-use Rattle.mesh_hub.specs.Program.{Program, reading}
-use Rattle.mesh_hub.specs.Sendable.{MessagesAreSendable, MessagesReadBack}
-use Rattle.mesh_hub.specs.Sent.{EndFoldsToView, sent_in_all}
+use Rattle.feed_history.specs.History.{after}
+use Rattle.feed_history.specs.Lawful.{HeldAreLawful, HeldAtKeys}
+use Rattle.feed_history.specs.Marks.{MarkedRow}
+use Rattle.feed_history.specs.Output.{output_after}
+use Rattle.feed_history.specs.Program.{Program, reading}
+use Rattle.feed_history.specs.Sendable.{MessagesAreSendable, MessagesReadBack}
+use Rattle.feed_history.specs.Deliveries.{EndFoldsToView, sent_in_all}
 use Rattle.output_fold.specs.Folded.{view_lines}
 use Rattle.output_laws.specs.Agreement.{FoldAgrees, method_for}
 use Rattle.output_laws.proofs.BytesOfMessages.{sendable_in_bytes}
@@ -40,12 +40,12 @@ readable method limit small (m ∷ ms) back answers sendable short = (
 
 pub fold_agrees : (program : Program) → EndFoldsToView program → MessagesReadBack program → MessagesAreSendable program → HeldAreLawful program → HeldAtKeys program
     → ((past : List MarkedRow) → HasSmallIds (after program past).subs) → ((row : MarkedRow) → IsPlainLine (reading program row)) → FoldAgrees program
-fold_agrees program folds_to reads_back are_sendable lawful at_keys small reads one usual limit refuses past few fair fits id asked drained within =
+fold_agrees program folds_to reads_back are_sendable lawful at_keys small reads one usual limit facts past few fair fits id asked drained within =
     let method = method_for asked.query in
     let messages = sent_in_all program past id in
     let back = all_sent program ReadsBack (λ before n. reads_back usual limit before n) past id in
     let sendable = all_sent program IsSendable (λ before n. are_sendable usual limit before n) past id in
     let short = all_sent program (IsShort program.limits.message) (λ before n. drains_are_short program (after program before) n) past id in
     let good = readable method program.limits.message limit messages back (all_answer program past id asked drained.0) sendable short in
-    folds method id program.limits (output_after program past) messages (output_tells method id program small reads lawful at_keys refuses past few fair fits good) within
+    folds method id program.limits (output_after program past) messages (output_tells method id program small reads lawful at_keys facts past few fair fits good) within
     ∙ ap (view_lines id program.limits) (folds_to one past id asked drained)

@@ -7,7 +7,7 @@ use Rattle.std.proofs.lemmas.Bool.{ltb-true}
 use Rattle.std.proofs.Math.Nat.{pow-succ'}
 use lib.Utf8.{encode, encodes, next, scalar, scalar_cases, scalars}
 use Rattle.k8s_meta.specs.Lawful.{IsString}
-use Rattle.mesh_hub.proofs.Lists.{all_joined, all_mapped}
+use Rattle.feed_history.proofs.Lists.{all_joined, all_mapped}
 use Rattle.proto_wire.specs.declared.record.Rec.{Rec}
 use Rattle.proto_wire.specs.declared.record.WireValue.TheVariants.{Varint, Fixed64, Fixed32}
 use Rattle.proto_wire.specs.Wire.{spelled, spelling, varint, varint_up_to}

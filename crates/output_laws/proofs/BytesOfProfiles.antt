@@ -8,7 +8,7 @@ use Rattle.std.proofs.lemmas.Bool.{ltb-true}
 use Rattle.std.proofs.lemmas.Str.{IsUtf8-from_is_utf8}
 use Rattle.proto_wire.specs.declared.record.Rec.{Rec}
 use Rattle.proto_wire.specs.Wire.{spelling}
-use Rattle.proxy_proto.proofs.MatchRound.{each_true}
+use Rattle.message_laws.proofs.MatchRound.{each_true}
 use Rattle.proxy_proto.specs.Endpoints.{label_records, row_records}
 use Rattle.proxy_proto.specs.FieldRecords.{bool_field, chunk, each_field, number_field, optional_field, text_field}
 use Rattle.proxy_proto.specs.Profiles.{class_records, duration_records, metrics_label, override_records, profile_records, range_records, request_match_by, request_match_records, response_match_by, response_match_records, route_records, seq_records}

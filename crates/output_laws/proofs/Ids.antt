@@ -29,13 +29,13 @@ use Rattle.watch_events.specs.declared.event_type.EventType.TheVariants.{Added, 
 use Rattle.watch_events.specs.declared.line.Line.{Line}
 use Rattle.watch_events.specs.declared.line.Line.TheVariants as lines
 use Rattle.watch_events.specs.declared.line.LineFault.{LineFault}
-use Rattle.mesh_hub.specs.History.{Asked, State, after, after_line, refusal_after, told_now}
-use Rattle.mesh_hub.specs.Ids.{ended, unless_refused}
-use Rattle.mesh_hub.specs.Marks.{MarkedRow}
-use Rattle.mesh_hub.specs.Program.{Program, reading, replay_of}
-use Rattle.mesh_hub.specs.declared.refusal.Refusal.{Refusal}
-use Rattle.mesh_hub.proofs.Lists.{all_joined}
-use Rattle.mesh_hub.proofs.Places.{all_in_place, ended_keeps, told_keeps}
+use Rattle.feed_history.specs.History.{Asked, State, after, after_line, refusal_after, told_now}
+use Rattle.feed_history.specs.Ids.{ended, unless_refused}
+use Rattle.feed_history.specs.Marks.{MarkedRow}
+use Rattle.feed_history.specs.Program.{Program, reading, replay_of}
+use Rattle.feed_history.specs.declared.refusal.Refusal.{Refusal}
+use Rattle.feed_history.proofs.Lists.{all_joined}
+use Rattle.history_laws.proofs.Places.{all_in_place, ended_keeps, told_keeps}
 use Rattle.output_laws.proofs.Written.{HasSmallIds}
 
 -- ---- lines

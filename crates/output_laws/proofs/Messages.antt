@@ -28,16 +28,16 @@ use Rattle.view_types.specs.declared.view.View.{View}
 use Rattle.watch_events.specs.declared.line.Line.{Line}
 use Rattle.watch_events.specs.declared.line.Line.TheVariants as lines
 use Rattle.watch_events.specs.declared.line.LineFault.{LineFault}
-use Rattle.mesh_hub.specs.Drains.{too_long}
-use Rattle.mesh_hub.specs.History.{Asked, State, after, after_line, asked_at, id_of, messages_due, refusal_after, refusal_of, told_now, too_long_for}
-use Rattle.mesh_hub.specs.Ids.{ended, in_place, unless_refused}
-use Rattle.mesh_hub.specs.Marks.{MarkedRow}
-use Rattle.mesh_hub.specs.Program.{Program, reading}
-use Rattle.mesh_hub.specs.Sent.{sent_by, sent_if_live, sent_in_all, sent_now, sent_to, sent_unless}
-use Rattle.mesh_hub.specs.declared.refusal.Refusal.{Refusal}
-use Rattle.mesh_hub.proofs.Lists.{all_if, all_joined, all_made}
-use Rattle.mesh_hub.proofs.Lives.{IsAbove, IsOrdered, above_last, below, ordered}
-use Rattle.mesh_hub.proofs.Places.{ended_keeps, found_in_place, found_with, gone, none_found, others_below, then_at, told_keeps, was_drained}
+use Rattle.feed_history.specs.Drains.{too_long}
+use Rattle.feed_history.specs.History.{Asked, State, after, after_line, asked_at, id_of, messages_due, refusal_after, refusal_of, told_now, too_long_for}
+use Rattle.feed_history.specs.Ids.{ended, in_place, unless_refused}
+use Rattle.feed_history.specs.Marks.{MarkedRow}
+use Rattle.feed_history.specs.Program.{Program, reading}
+use Rattle.feed_history.specs.Deliveries.{sent_by, sent_if_live, sent_in_all, sent_now, sent_to, sent_unless}
+use Rattle.feed_history.specs.declared.refusal.Refusal.{Refusal}
+use Rattle.feed_history.proofs.Lists.{all_if, all_joined, all_made}
+use Rattle.history_laws.proofs.Lives.{IsAbove, IsOrdered, above_last, below, ordered}
+use Rattle.history_laws.proofs.Places.{ended_keeps, found_in_place, found_with, gone, none_found, others_below, then_at, told_keeps, was_drained}
 use Rattle.output_laws.specs.Agreement.{method_for}
 
 pub all_parts : {X : Type 0} (P : X → Type 0) (xs ys : List X) → AllByRecursion P (xs ++ ys) → AllByRecursion P xs × AllByRecursion P ys

@@ -9,11 +9,11 @@ use Rattle.watch_events.specs.declared.line.Line.{Line}
 use Rattle.watch_events.specs.declared.line.Line.TheVariants as lines
 use Rattle.watch_events.specs.declared.line.LineFault.{LineFault}
 use Rattle.watch_events.specs.declared.line.LineFault.TheVariants as faults
-use Rattle.mesh_hub.specs.History.{State, hub_refusal, line_refusal, refusal_of}
-use Rattle.mesh_hub.specs.Program.{Program}
-use Rattle.mesh_hub.specs.declared.refusal.HubFault.{HubFault}
-use Rattle.mesh_hub.specs.declared.refusal.Refusal.{Refusal}
-use Rattle.mesh_hub.specs.declared.refusal.Refusal.TheVariants as refusals
+use Rattle.feed_history.specs.History.{State, hub_refusal, line_refusal, refusal_of}
+use Rattle.feed_history.specs.Program.{Program}
+use Rattle.feed_history.specs.declared.refusal.HubFault.{HubFault}
+use Rattle.feed_history.specs.declared.refusal.Refusal.{Refusal}
+use Rattle.feed_history.specs.declared.refusal.Refusal.TheVariants as refusals
 
 abbrev pub HasPlainPath : ReadFault → Type 0
 HasPlainPath reads.Memory = Unit {0}

@@ -43,13 +43,14 @@ use Rattle.request_rules.specs.Meeting.{MayMeet, route_text, routes_of}
 use Rattle.request_rules.specs.Verdicts.{applies_to_either, asks_routes, by_found, by_pod, by_policy, by_routes, by_server, decided, is_more_than_none, on_route, policy_admits, route_at, shape_of, verdict}
 use Rattle.request_sim.specs.declared.fault.SimFault.{SimFault}
 use Rattle.request_sim.specs.declared.fault.SimFault.TheVariants as sim
-use Rattle.mesh_hub.specs.Fair.{MayBeMarked}
-use Rattle.mesh_hub.specs.History.{State}
-use Rattle.mesh_hub.specs.Marks.{MarkedRow}
-use Rattle.mesh_hub.specs.Program.{Program}
-use Rattle.mesh_hub.proofs.Lists.{all_among, all_weaker, found_is}
+use Rattle.feed_history.specs.MarkCauses.{MayBeMarked}
+use Rattle.feed_history.specs.History.{State}
+use Rattle.feed_history.specs.Marks.{MarkedRow}
+use Rattle.feed_history.specs.Program.{Program}
+use Rattle.feed_history.proofs.Lists.{all_among, all_weaker, found_is}
 use Rattle.output_laws.proofs.PlainFaults.{HasPlainRoute}
 use Rattle.output_laws.proofs.Without.{looked_through, no_break, without_both, without_break}
+use Rattle.route_match.specs.Asking.{PatternFacts}
 
 -- ---- what is held
 
@@ -177,14 +178,14 @@ text_plain meta plain =
     no_break (route_text meta.ns meta.name)
     (without_both 10 meta.ns (codes "/" ++ meta.name) (without_break meta.ns plain.ns) (without_both 10 (codes "/") meta.name (looked_through 10 (codes "/") refl) (without_break meta.name plain.name)))
 
-met_plain : (held : ObjectMap) → AreLawful held → (refuses : Option (List ℕ → Bool)) (request : Request) (text : List ℕ) (rule item : ℕ) → MayMeet held refuses request text rule item → NoBreak text
-met_plain held lawful refuses request text rule item met =
-    let at = stands_at (routes_of held met.server) met.place met.route met.route_is in
-    let plain = attached_plain held lawful met.server.meta.ns (is_server_parent met.server.meta.name) met.route at in
+met_plain : (held : ObjectMap) → AreLawful held → (facts : PatternFacts) (request : Request) (text : List ℕ) (rule item : ℕ) → MayMeet held facts request text rule item → NoBreak text
+met_plain held lawful facts request text rule item met =
+    let at = stands_at (routes_of held met.counts.server) met.place met.route met.route_is in
+    let plain = attached_plain held lawful met.counts.server.meta.ns (is_server_parent met.counts.server.meta.name) met.route at in
     subst NoBreak (sym met.text_is) (text_plain met.route.meta plain)
 
-pub mark_plain : (program : Program) (now : State) → AreLawful now.objects → (refuses : Option (List ℕ → Bool)) (row : MarkedRow) (met : Option SimFault) → MayBeMarked program now refuses row met
+pub mark_plain : (program : Program) (now : State) → AreLawful now.objects → (facts : PatternFacts) (row : MarkedRow) (met : Option SimFault) → MayBeMarked program now facts row met
     → IfSome met HasPlainRoute
-mark_plain program now lawful refuses row None fair = tt
-mark_plain program now lawful refuses row (Some sim.Memory) fair = tt
-mark_plain program now lawful refuses row (Some (sim.Pattern route rule item)) fair = met_plain now.objects lawful refuses fair.request route rule item fair.met
+mark_plain program now lawful facts row None fair = tt
+mark_plain program now lawful facts row (Some sim.Memory) fair = tt
+mark_plain program now lawful facts row (Some (sim.Pattern route rule item)) fair = met_plain now.objects lawful facts fair.request route rule item fair.met

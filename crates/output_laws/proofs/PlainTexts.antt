@@ -20,12 +20,12 @@ use Rattle.view_types.specs.declared.verdict.Verdict.TheVariants.{Allowed, Denie
 use Rattle.watch_events.specs.FaultText.{line_fault_text}
 use Rattle.watch_events.specs.declared.line.LineFault.{LineFault}
 use Rattle.watch_events.specs.declared.line.LineFault.TheVariants as faults
-use Rattle.mesh_hub.specs.RefusalText.{hub_fault_text, refusal_text}
-use Rattle.mesh_hub.specs.VerdictText.{decider_text, kind_text, policy_text, verdict_text}
-use Rattle.mesh_hub.specs.declared.refusal.HubFault.{HubFault}
-use Rattle.mesh_hub.specs.declared.refusal.HubFault.TheVariants as hub
-use Rattle.mesh_hub.specs.declared.refusal.Refusal.{Refusal}
-use Rattle.mesh_hub.specs.declared.refusal.Refusal.TheVariants as refusals
+use Rattle.feed_history.specs.RefusalText.{hub_fault_text, refusal_text}
+use Rattle.feed_history.specs.VerdictText.{decider_text, kind_text, policy_text, verdict_text}
+use Rattle.feed_history.specs.declared.refusal.HubFault.{HubFault}
+use Rattle.feed_history.specs.declared.refusal.HubFault.TheVariants as hub
+use Rattle.feed_history.specs.declared.refusal.Refusal.{Refusal}
+use Rattle.feed_history.specs.declared.refusal.Refusal.TheVariants as refusals
 use Rattle.output_laws.proofs.PlainFaults.{HasPlainFault, HasPlainPath, IsPlainFault}
 use Rattle.output_laws.proofs.PlainNames.{HasPlainNames, IsPlainVerdict}
 use Rattle.output_laws.proofs.Without.{Without, looked_through, without_both, without_break}

@@ -11,15 +11,15 @@ use Rattle.watch_events.specs.declared.event.Event.{Event}
 use Rattle.watch_events.specs.declared.line.Line.{Line}
 use Rattle.watch_events.specs.declared.line.Line.TheVariants as lines
 use Rattle.watch_events.specs.declared.line.LineFault.{LineFault}
-use Rattle.mesh_hub.specs.Events.{event_refusal, objects_after}
-use Rattle.mesh_hub.specs.History.{State, after, after_line, line_refusal, refusal_of}
-use Rattle.mesh_hub.specs.Ids.{unless_refused}
-use Rattle.mesh_hub.specs.Marks.{MarkedRow, rows_in, unmarked}
-use Rattle.mesh_hub.specs.Output.{written_after}
-use Rattle.mesh_hub.specs.Program.{Program, reading}
-use Rattle.mesh_hub.specs.declared.refusal.HubFault.{HubFault}
-use Rattle.mesh_hub.specs.declared.refusal.Refusal.{Refusal}
-use Rattle.mesh_hub.specs.declared.refusal.Refusal.TheVariants as refusals
+use Rattle.feed_history.specs.Events.{event_refusal, objects_after}
+use Rattle.feed_history.specs.History.{State, after, after_line, line_refusal, refusal_of}
+use Rattle.feed_history.specs.Ids.{unless_refused}
+use Rattle.feed_history.specs.Marks.{MarkedRow, rows_in, unmarked}
+use Rattle.feed_history.specs.Output.{written_after}
+use Rattle.feed_history.specs.Program.{Program, reading}
+use Rattle.feed_history.specs.declared.refusal.HubFault.{HubFault}
+use Rattle.feed_history.specs.declared.refusal.Refusal.{Refusal}
+use Rattle.feed_history.specs.declared.refusal.Refusal.TheVariants as refusals
 use Rattle.output_fold.specs.Folded.{view_lines}
 use Rattle.output_laws.specs.Agreement.{FoldAgrees}
 use Rattle.output_laws.proofs.SameRows.{few_rows, rows_unmarked}
@@ -81,11 +81,11 @@ pub same_objects : (one other : Program) → SameEventsSameObjects one other
 same_objects one other same past other_past rows = held_is one past ∙ held_same one other same (rows_in past) ∙ ap (held_by other) rows ∙ sym (held_is other other_past)
 
 pub agrees_with : (program other : Program) → FoldAgrees program → FoldAgreesWith program other
-agrees_with program other agrees same one usual limit refuses input past short rows fair fits id asked drained within =
+agrees_with program other agrees same one usual limit facts input past short rows fair fits id asked drained within =
     let here = unmarked (past_of other.limits.line input) in
     let lines : past_of program.limits.line input ≡ past_of other.limits.line input = ap (λ (limits : Limits). past_of limits.line input) same.limits in
     let objects = same_objects program other same past here (rows ∙ lines ∙ sym (rows_unmarked (past_of other.limits.line input))) in
-    let folded = agrees one usual limit refuses past (few_rows program.limits.line input past rows short) fair fits id asked drained within in
+    let folded = agrees one usual limit facts past (few_rows program.limits.line input past rows short) fair fits id asked drained within in
     sym (
     ap (λ (text : List ℕ). written_after other here ++ text) (
     folded

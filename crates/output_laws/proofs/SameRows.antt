@@ -3,7 +3,7 @@ use Rattle.std.proofs.Common.{◌≡◌, ℕ, suc, ◌+◌, ◌<◌, ◌≤◌, 
 use Rattle.std.proofs.lemmas.List.{length-map}
 use Rattle.std.specs.Prelude.{◌==◌}
 use Rattle.line_run.specs.Rows.{Row, lines_of, onto_first, past_from, past_of, row_of, rows_of}
-use Rattle.mesh_hub.specs.Marks.{MarkedRow, rows_in, unmarked}
+use Rattle.feed_history.specs.Marks.{MarkedRow, rows_in, unmarked}
 
 pub rows_unmarked : (rows : List Row) → rows_in (unmarked rows) ≡ rows
 rows_unmarked [] = refl

@@ -7,7 +7,7 @@ use Rattle.std.proofs.lemmas.List.Elements.{filter_map-append}
 use Rattle.line_run.specs.Rows.{NoBreak, Row, lines_of, row_of}
 use Rattle.line_run.proofs.Cut.{lines_of-break}
 use Rattle.mesh_base.specs.declared.limits.Limits.{Limits}
-use Rattle.mesh_hub.proofs.Lists.{all_joined}
+use Rattle.feed_history.proofs.Lists.{all_joined}
 use Rattle.view_rules.specs.Fold.{fold}
 use Rattle.view_types.specs.declared.message.Message.{Message}
 use Rattle.view_types.specs.declared.query.Method.{Method}

@@ -7,8 +7,8 @@ use Rattle.std.proofs.lemmas.List.Splits.{slice_split_at, slice_split_none}
 use Rattle.hex.specs.Hex.{encode_with, encode_lower, lower_digits}
 use Rattle.line_run.specs.Rows.{NoBreak}
 use Rattle.mesh_base.specs.Pieces.{pieces}
-use Rattle.mesh_hub.proofs.Lists.{all_joined}
-use Rattle.mesh_hub.proofs.Places.{same_id}
+use Rattle.feed_history.proofs.Lists.{all_joined}
+use Rattle.history_laws.proofs.Places.{same_id}
 
 -- no byte is the mark
 abbrev pub Without : ℕ → List ℕ → Type 0

@@ -16,22 +16,22 @@ use Rattle.view_types.specs.declared.request.Request.{Request}
 use Rattle.watch_events.specs.declared.line.Line.{Line}
 use Rattle.watch_events.specs.declared.line.Line.TheVariants as lines
 use Rattle.watch_events.specs.declared.line.LineFault.{LineFault}
-use Rattle.mesh_hub.specs.Fair.{AreFair}
-use Rattle.mesh_hub.specs.History.{Asked, State, after, asked_at, messages_due, refusal_after, too_long_for}
-use Rattle.mesh_hub.specs.Output.{drain_lines, end_lines, line_text, lines_if_live, lines_unless, output_after, piece_of, row_piece, sub_lines, written_after}
-use Rattle.mesh_hub.specs.Lawful.{HeldAreLawful, HeldAtKeys}
-use Rattle.mesh_hub.specs.Live.{Ascend}
-use Rattle.mesh_hub.specs.Marks.{MarkedRow}
-use Rattle.mesh_hub.specs.Program.{Program, reading}
-use Rattle.mesh_hub.specs.RefusalText.{refusal_text}
-use Rattle.mesh_hub.specs.Sent.{frame_lines, sent_by, sent_if_live, sent_in_all, sent_now, sent_to, sent_unless}
-use Rattle.mesh_hub.specs.Text.{fault_line, frame_line, oversize_line}
-use Rattle.mesh_hub.specs.VerdictText.{verdict_text}
-use Rattle.mesh_hub.specs.declared.refusal.Refusal.{Refusal}
-use Rattle.mesh_hub.proofs.Lists.{all_weaker, found_is}
-use Rattle.mesh_hub.proofs.Lives.{live_ids_ascend}
-use Rattle.mesh_hub.proofs.Places.{none_found}
-use Rattle.replay_core.specs.Lengths.{HasLength, LengthsFit, RowHasLength, RowsHaveLengths}
+use Rattle.feed_history.specs.MarkCauses.{AreFair}
+use Rattle.feed_history.specs.History.{Asked, State, after, asked_at, messages_due, refusal_after, too_long_for}
+use Rattle.feed_history.specs.Output.{drain_lines, end_lines, line_text, lines_if_live, lines_unless, output_after, piece_of, row_piece, sub_lines, written_after}
+use Rattle.feed_history.specs.Lawful.{HeldAreLawful, HeldAtKeys}
+use Rattle.feed_history.specs.Live.{Ascend}
+use Rattle.feed_history.specs.Marks.{MarkedRow}
+use Rattle.feed_history.specs.Program.{Program, reading}
+use Rattle.feed_history.specs.RefusalText.{refusal_text}
+use Rattle.feed_history.specs.Deliveries.{frame_lines, sent_by, sent_if_live, sent_in_all, sent_now, sent_to, sent_unless}
+use Rattle.feed_history.specs.Text.{fault_line, frame_line, oversize_line}
+use Rattle.feed_history.specs.VerdictText.{verdict_text}
+use Rattle.feed_history.specs.declared.refusal.Refusal.{Refusal}
+use Rattle.feed_history.proofs.Lists.{all_weaker, found_is}
+use Rattle.history_laws.proofs.Lives.{live_ids_ascend}
+use Rattle.history_laws.proofs.Places.{none_found}
+use Rattle.feed_history.specs.Lengths.{HasLength, LengthsFit, RowHasLength, RowsHaveLengths}
 use Rattle.output_laws.proofs.Decimals.{decimal_without}
 use Rattle.output_laws.proofs.Forms.{line_ended, line_in, line_unbroken, other_frame, oversize_passed, own_frame, passed, read, refused_passed, verdict_passed}
 use Rattle.output_laws.proofs.Frames.{IsReadable, frame_told}
@@ -41,6 +41,7 @@ use Rattle.output_laws.proofs.PlainNames.{IsPlainVerdict, mark_plain, verdict_pl
 use Rattle.output_laws.proofs.PlainTexts.{plain_refusal, plain_verdict}
 use Rattle.output_laws.proofs.Tells.{Tells, tells_both, tells_line, tells_none}
 use Rattle.output_laws.proofs.Without.{Without, hex_without_break, looked_through}
+use Rattle.route_match.specs.Asking.{PatternFacts}
 
 -- the ids of subscriptions are numbers that can be written
 abbrev pub HasSmallIds : List Asked → Type 0
@@ -199,8 +200,8 @@ module _ (method : Method) (id : ℕ) where
         let found = verdict program.config now.objects program.matches request in verdict_tells number (verdict_text request.ns found) few (plain_verdict request.ns found (plain request))
 
     module _ (small : (past : List MarkedRow) → HasSmallIds (after program past).subs) (reads : (row : MarkedRow) → IsPlainLine (reading program row)) where
-      module _ (lawful : HeldAreLawful program) (at_keys : HeldAtKeys program) (refuses : Option (List ℕ → Bool)) where
-        written_tells : (past : List MarkedRow) → length past < 2 ^ 64 → AreFair program refuses past → RowsHaveLengths program past → AllByRecursion (IsReadable method) (sent_to program past id)
+      module _ (lawful : HeldAreLawful program) (at_keys : HeldAtKeys program) (facts : PatternFacts) where
+        written_tells : (past : List MarkedRow) → length past < 2 ^ 64 → AreFair program facts past → RowsHaveLengths program past → AllByRecursion (IsReadable method) (sent_to program past id)
             → Tells method id (written_after program past) (sent_to program past id)
         written_tells [] few fair fits good = tells_none method id
         written_tells (row ∷ past) few fair fits good =
@@ -209,12 +210,12 @@ module _ (method : Method) (id : ℕ) where
             let refusal = refusal_after program past row in
             let parts = all_parts (IsReadable method) (sent_to program past id) (sent_by program now refusal line id) good in
             let names = λ (request : Request). verdict_plain program.config now.objects (lawful past) program.matches request (at_keys past) in
-            let fault = refused_plainly program now row.1 line (mark_plain program now (lawful past) refuses row row.1 fair.0) (reads row) in
+            let fault = refused_plainly program now row.1 line (mark_plain program now (lawful past) facts row row.1 fair.0) (reads row) in
             tells_both method id (written_after program past) (piece_of program past row) (sent_to program past id) (sent_by program now refusal line id)
             (written_tells past (omega (arith, few)) fair.1 fits.1 parts.0) (row_tells now (length past + 1) refusal line (omega (arith, few)) (small past) names fault fits.0 parts.1)
 
         -- all that is written
-        pub output_tells : (past : List MarkedRow) → length past < 2 ^ 64 → AreFair program refuses past → LengthsFit program past → AllByRecursion (IsReadable method) (sent_in_all program past id)
+        pub output_tells : (past : List MarkedRow) → length past < 2 ^ 64 → AreFair program facts past → LengthsFit program past → AllByRecursion (IsReadable method) (sent_in_all program past id)
             → Tells method id (output_after program past) (sent_in_all program past id)
         output_tells past few fair fits good =
             let now = after program past in

@@ -8,15 +8,16 @@ use Rattle.view_types.specs.declared.query.Method.TheVariants.{Get, GetProfile, 
 use Rattle.view_types.specs.declared.query.Query.{Query}
 use Rattle.view_types.specs.declared.query.Query.TheVariants as queries
 use Rattle.view_rules.specs.Views.{view_of}
-use Rattle.mesh_hub.specs.Fair.{AreFair}
-use Rattle.mesh_hub.specs.History.{Asked, after}
-use Rattle.mesh_hub.specs.Marks.{MarkedRow}
-use Rattle.mesh_hub.specs.Output.{output_after}
-use Rattle.mesh_hub.specs.Program.{Program}
-use Rattle.mesh_hub.specs.Sendable.{HasLimit, IsLawfulConfig}
-use Rattle.mesh_hub.specs.Sent.{IsDrained}
-use Rattle.replay_core.specs.Lengths.{LengthsFit}
+use Rattle.feed_history.specs.MarkCauses.{AreFair}
+use Rattle.feed_history.specs.History.{Asked, after}
+use Rattle.feed_history.specs.Marks.{MarkedRow}
+use Rattle.feed_history.specs.Output.{output_after}
+use Rattle.feed_history.specs.Program.{Program}
+use Rattle.feed_history.specs.Sendable.{HasLimit, IsLawfulConfig}
+use Rattle.feed_history.specs.Deliveries.{IsDrained}
+use Rattle.feed_history.specs.Lengths.{LengthsFit}
 use Rattle.output_fold.specs.Folded.{folded_of, view_lines}
+use Rattle.route_match.specs.Asking.{PatternFacts}
 
 -- the method that a query is asked by
 abbrev pub method_for : Query → Method
@@ -33,7 +34,7 @@ LinesAreWithin limit text = AllByRecursion (λ (line : List ℕ). length line �
 -- lines of the view over the objects: each message that leads to it from none, or how long the first is that is too long.
 abbrev pub FoldAgrees : Program → Type 0
 FoldAgrees program = 1 ≤ program.limits.frame_addrs → IsLawfulConfig program.config → HasLimit program
-    → (refuses : Option (List ℕ → Bool)) (past : List MarkedRow) → length past < 2 ^ 64 → AreFair program refuses past → LengthsFit program past
+    → (facts : PatternFacts) (past : List MarkedRow) → length past < 2 ^ 64 → AreFair program facts past → LengthsFit program past
     → (id : ℕ) (asked : Asked) → IsDrained program past id asked → LinesAreWithin program.limits.line (output_after program past)
     → folded_of (method_for asked.query) id program.limits (output_after program past)
     ≡ view_lines id program.limits (Some (view_of program.config (after program past).objects asked.query))

@@ -8,16 +8,17 @@ use Rattle.watch_events.specs.declared.event.Event.{Event}
 use Rattle.watch_events.specs.declared.line.Line.{Line}
 use Rattle.watch_events.specs.declared.line.Line.TheVariants as lines
 use Rattle.watch_events.specs.declared.line.LineFault.{LineFault}
-use Rattle.mesh_hub.specs.Fair.{AreFair}
-use Rattle.mesh_hub.specs.History.{Asked, after}
-use Rattle.mesh_hub.specs.Marks.{MarkedRow, rows_in, unmarked}
-use Rattle.mesh_hub.specs.Output.{output_after, written_after}
-use Rattle.mesh_hub.specs.Program.{Program}
-use Rattle.mesh_hub.specs.Sendable.{HasLimit, IsLawfulConfig}
-use Rattle.mesh_hub.specs.Sent.{IsDrained}
-use Rattle.replay_core.specs.Lengths.{LengthsFit}
+use Rattle.feed_history.specs.MarkCauses.{AreFair}
+use Rattle.feed_history.specs.History.{Asked, after}
+use Rattle.feed_history.specs.Marks.{MarkedRow, rows_in, unmarked}
+use Rattle.feed_history.specs.Output.{output_after, written_after}
+use Rattle.feed_history.specs.Program.{Program}
+use Rattle.feed_history.specs.Sendable.{HasLimit, IsLawfulConfig}
+use Rattle.feed_history.specs.Deliveries.{IsDrained}
+use Rattle.feed_history.specs.Lengths.{LengthsFit}
 use Rattle.output_fold.specs.Folded.{folded_of, view_lines}
 use Rattle.output_laws.specs.Agreement.{LinesAreWithin, method_for}
+use Rattle.route_match.specs.Asking.{PatternFacts}
 
 -- the event of a line, where it has its place
 abbrev pub event_in : (Line → Bool) → Result Line LineFault → Option Event
@@ -51,8 +52,8 @@ shown_of program id query past = written_after program past ++ view_lines id pro
 -- too long.
 abbrev pub FoldAgreesWith : Program → Program → Type 0
 FoldAgreesWith program other = TakeSameEvents program other → 1 ≤ program.limits.frame_addrs → IsLawfulConfig program.config → HasLimit program
-    → (refuses : Option (List ℕ → Bool)) (input : List ℕ) (past : List MarkedRow) → length input < 2 ^ 64 → rows_in past ≡ past_of program.limits.line input
-    → AreFair program refuses past → LengthsFit program past
+    → (facts : PatternFacts) (input : List ℕ) (past : List MarkedRow) → length input < 2 ^ 64 → rows_in past ≡ past_of program.limits.line input
+    → AreFair program facts past → LengthsFit program past
     → (id : ℕ) (asked : Asked) → IsDrained program past id asked → LinesAreWithin program.limits.line (output_after program past)
     → let same = unmarked (past_of other.limits.line input) in
     shown_of other id asked.query same ≡ written_after other same ++ folded_of (method_for asked.query) id program.limits (output_after program past)

@@ -2,8 +2,8 @@ ghost use Rattle.std.specs.Prelude.{◌≡◌, ℕ, List, Some};
 ghost use Rattle.mesh_base.specs.declared.limits.Limits.{Limits};
 ghost use Rattle.route_match.specs.Matching.{Pat};
 ghost use Rattle.view_types.specs.declared.config.Config.{Config};
-ghost use Rattle.mesh_hub.specs.Program.{Program, replay_of};
-ghost use Rattle.mesh_hub.specs.Sendable.{IsLawfulConfig};
+ghost use Rattle.feed_history.specs.Program.{Program, replay_of};
+ghost use Rattle.feed_history.specs.Sendable.{IsLawfulConfig};
 ghost use Rattle.command_words.specs.Commands.{command_in};
 ghost use Rattle.command_words.specs.Configured.{ConfigIs};
 ghost use Rattle.command_words.specs.declared.command.Command.{Command};
@@ -11,9 +11,9 @@ ghost use Rattle.output_laws.specs.Agreement.{FoldAgrees};
 ghost use Rattle.output_laws.specs.Diagnoses.{FoldAgreesWithDiagnosis, ReplayAgreesWithDiagnosis};
 ghost use Rattle.output_laws.specs.SameObjects.{FoldAgreesWith, SameEventsSameObjects};
 
-use mesh_hub::laws::{
+use history_laws::laws::{
     at_the_end_it_folds_to_the_view, held_are_lawful, held_at_their_keys, marks_change_nothing,
-    messages_are_sendable, messages_read_back,
+    messages_are_sendable, messages_read_back, replays_read_lawfully,
 };
 
 /// What a fold of a replay's output writes are the lines of the view over the objects held at the end.
@@ -25,6 +25,7 @@ pub fn frames_and_objects_agree()
     messages_are_sendable();
     held_are_lawful();
     held_at_their_keys();
+    replays_read_lawfully();
 }
 
 /// Programs that take the same events of the same rows come to the same objects.

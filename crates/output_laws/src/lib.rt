@@ -1,6 +1,6 @@
 //! What is proved of a replay's output and who reads it: law functions alone, which do nothing.
 //!
-//! Stands on mesh_hub for the output of a replay, replay_core for what a replay is known to write, output_fold for what is
+//! Stands on feed_history for the output of a replay and what it is known to write, output_fold for what is
 //! written of an output by who folds the frames of one id, and diagnosis for what the objects alone show. `specs/Diagnoses`
 //! says that the two agree.
 #![tactic(auto)]

@@ -13,25 +13,26 @@ use Rattle.line_run.specs.Rows.{Row}
 use Rattle.view_types.specs.Objects.{ObjectMap}
 use Rattle.view_types.specs.declared.config.Config.{Config}
 use Rattle.route_match.specs.Matching.{Pat}
-use Rattle.mesh_hub.specs.Drains.{unless_too_long}
-use Rattle.mesh_hub.specs.History.{Asked, State, after, asked_at, id_of, told_now, too_long_for}
+use Rattle.feed_history.specs.Drains.{unless_too_long}
+use Rattle.feed_history.specs.History.{Asked, State, after, asked_at, id_of, told_now, too_long_for}
 use Rattle.mesh_hub.specs.Hub.{HubState, drained, sub_at}
-use Rattle.mesh_hub.specs.Ids.{in_place, unknown_refusal, unless_refused}
-use Rattle.mesh_hub.specs.Live.{Ascend, LiveIdsAscend}
-use Rattle.mesh_hub.specs.Optional.{Becomes, Becomes-weaker}
-use Rattle.mesh_hub.specs.Output.{sub_lines, written_after}
-use Rattle.mesh_hub.specs.Program.{Program, replay_of}
-use Rattle.mesh_hub.specs.Seen.{seen, seen_sub}
+use Rattle.feed_history.specs.Ids.{in_place, unknown_refusal, unless_refused}
+use Rattle.feed_history.specs.Live.{Ascend, LiveIdsAscend}
+use Rattle.feed_history.specs.Optional.{Becomes, Becomes-weaker}
+use Rattle.feed_history.specs.Output.{sub_lines, written_after}
+use Rattle.feed_history.specs.Program.{Program, replay_of}
+use Rattle.mesh_hub.specs.HubAfter.{seen, seen_sub}
 use Rattle.mesh_hub.specs.declared.machine.Reply.{Reply}
-use Rattle.mesh_hub.specs.declared.refusal.Refusal.{Refusal}
-use Rattle.mesh_hub.proofs.Lists.{all_joined}
-use Rattle.mesh_hub.proofs.Optional.{Becomes-then}
-use Rattle.mesh_hub.proofs.SeenBy.{drained_seen, found_behind, found_here, placed_behind, placed_here, sub_seen}
-use Rattle.replay_core.specs.Lengths.{HasLength}
-use Rattle.replay_core.specs.Said.{Saying, refused_said, reply_text, said_from, saying_left, text_said}
-use Rattle.replay_core.specs.Stand.{Ended, EndedByState, Ending, EndingByReplies, EndingByState, FromNew, PatternsNow, after_some}
-use Rattle.replay_core.specs.Take.{Drains, LengthFits, Replied, drained_lines}
-use Rattle.replay_core.specs.declared.drain.Drained.{Drained}
+use Rattle.feed_history.specs.declared.refusal.Refusal.{Refusal}
+use Rattle.feed_history.proofs.Lists.{all_joined}
+use Rattle.feed_history.proofs.Optional.{Becomes-then}
+use Rattle.mesh_hub.proofs.HubSteps.{drained_seen, found_behind, found_here, placed_behind, placed_here, sub_seen}
+use Rattle.feed_history.specs.Lengths.{HasLength}
+use Rattle.feed_step.specs.Transcript.{Saying, refused_said, reply_text, said_from, saying_left, text_said}
+use Rattle.replay_core.specs.Stand.{Ended, EndedByState, Ending, EndingByReplies, EndingByState, FromNew, after_some}
+use Rattle.feed_step.specs.LineStep.{Drains, LengthFits, Replied, drained_lines}
+use Rattle.feed_step.specs.declared.drain.Drained.{Drained}
+use Rattle.feed_history.specs.KnownPatterns.{PatternsNow}
 
 -- ---- the item at a place
 

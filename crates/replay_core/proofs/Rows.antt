@@ -10,23 +10,24 @@ use Rattle.route_match.specs.Matching.{Pat}
 use Rattle.watch_events.specs.Lines.{row_says, text_line}
 use Rattle.watch_events.specs.declared.line.Line.{Line}
 use Rattle.watch_events.specs.declared.line.LineFault.{LineFault}
-use Rattle.mesh_hub.specs.Fair.{IsTold}
-use Rattle.mesh_hub.specs.History.{State, after}
+use Rattle.feed_history.specs.MarkCauses.{IsTold}
+use Rattle.feed_history.specs.History.{State, after, ids_of}
 use Rattle.mesh_hub.specs.Hub.{HubState}
-use Rattle.mesh_hub.specs.Marks.{MarkedRow, unmarked}
-use Rattle.mesh_hub.specs.Optional.{Becomes}
-use Rattle.mesh_hub.specs.Output.{line_text, refused_after, row_piece, written_after}
-use Rattle.mesh_hub.specs.Program.{Program, replay_of}
-use Rattle.mesh_hub.specs.Seen.{seen}
-use Rattle.mesh_hub.specs.Text.{refused_line}
+use Rattle.feed_history.specs.Marks.{MarkedRow, unmarked}
+use Rattle.feed_history.specs.Optional.{Becomes}
+use Rattle.feed_history.specs.Output.{line_text, refused_after, row_piece, written_after}
+use Rattle.feed_history.specs.Program.{Program, replay_of}
+use Rattle.mesh_hub.specs.HubAfter.{seen}
+use Rattle.feed_history.specs.Text.{refused_line}
 use Rattle.mesh_hub.specs.declared.machine.Reply.{Reply}
-use Rattle.mesh_hub.specs.declared.refusal.Refusal.{Refusal}
-use Rattle.mesh_hub.proofs.Optional.{Becomes-same, Becomes-then}
-use Rattle.replay_core.specs.Lengths.{RowHasLength}
-use Rattle.replay_core.specs.Said.{Saying, refused_said, said_from, text_said}
-use Rattle.replay_core.specs.Stand.{AreMarked, FromNew, GoOn, IsOfRun, Stands, StandsByReplies, StandsByState, ids_of, known_of}
-use Rattle.replay_core.specs.Take.{TakesByReplies, TakesByState, TakesFrom, led_to, text_unless}
-use Rattle.replay_core.proofs.Marks.{as_long, few_more, may_be_marked, none_more, told_before, told_here}
+use Rattle.feed_history.specs.declared.refusal.Refusal.{Refusal}
+use Rattle.feed_history.proofs.Optional.{Becomes-same, Becomes-then}
+use Rattle.feed_history.specs.Lengths.{RowHasLength}
+use Rattle.feed_step.specs.Transcript.{Saying, refused_said, said_from, text_said}
+use Rattle.replay_core.specs.Stand.{FromNew, IsOfRun, Stands, StandsByReplies, StandsByState}
+use Rattle.feed_step.specs.LineStep.{TakesByReplies, TakesByState, TakesFrom, led_to, text_unless}
+use Rattle.feed_history.proofs.Marks.{as_long, few_more, may_be_marked, none_more, told_before, told_here}
+use Rattle.feed_history.specs.KnownPatterns.{AreMarked, GoOn, facts_in, known_of}
 
 -- ---- the text of a row
 
@@ -73,7 +74,7 @@ module _ (program : Program) (tells : Option Pat) (refuses : Option (List ℕ �
   row_marked = record {
     rows_are = ap (λ (rows : List Row). row ∷ rows) stood.are_marked.rows_are;
     few = few_more marked row takes.met before at now stood.are_marked.few takes.counted;
-    fair = (may_be_marked program here refuses row takes.met takes.met takes.may_meet, stood.are_marked.fair);
+    fair = (may_be_marked program here (facts_in (known_of tells refuses before now)) row takes.met takes.met takes.may_meet, stood.are_marked.fair);
   }
 
   row_writes : IsTold program tells (unmarked (row ∷ past)) → text_new ≡ written_after program ((row, takes.met) ∷ marked)

@@ -8,58 +8,20 @@ use Rattle.mesh_base.specs.declared.limits.Limits.{Limits}
 use Rattle.line_run.specs.Rows.{Row}
 use Rattle.view_types.specs.declared.config.Config.{Config}
 use Rattle.route_match.specs.Matching.{Pat}
-use Rattle.mesh_hub.specs.Fair.{AreFair, IsTold}
-use Rattle.mesh_hub.specs.History.{Asked, State, after, after_end, id_of, nothing, told_now}
+use Rattle.feed_history.specs.MarkCauses.{AreFair, IsTold}
+use Rattle.feed_history.specs.History.{Asked, State, after, after_end, id_of, nothing, told_now, ids_of}
 use Rattle.mesh_hub.specs.Hub.{HubState}
-use Rattle.mesh_hub.specs.Marks.{AreFew, MarkedRow, rows_in, unmarked}
-use Rattle.mesh_hub.specs.Optional.{Becomes, Becomes-weaker}
-use Rattle.mesh_hub.specs.Output.{output_after, refused_after, sub_lines, written_after}
-use Rattle.mesh_hub.specs.Program.{Program, replay_of}
-use Rattle.mesh_hub.specs.Seen.{seen}
+use Rattle.feed_history.specs.Marks.{AreFew, MarkedRow, rows_in, unmarked}
+use Rattle.feed_history.specs.Optional.{Becomes, Becomes-weaker}
+use Rattle.feed_history.specs.Output.{output_after, refused_after, sub_lines, written_after}
+use Rattle.feed_history.specs.Program.{Program, replay_of}
+use Rattle.mesh_hub.specs.HubAfter.{seen}
 use Rattle.mesh_hub.specs.declared.machine.Reply.{Reply}
-use Rattle.replay_core.specs.Lengths.{HasLength, LengthsFit, RowsHaveLengths}
-use Rattle.replay_core.specs.Said.{Saying, refused_said, said_from, saying_left, text_said}
-
--- ---- the patterns
-
--- What is known of patterns over some time: which match and which are refused, where that is told, and how often one had
--- been refused before and has been by now.
-pub record PatternsNow : Type 0 where
-  pub tells : Option Pat
-  pub refuses : Option (List ℕ → Bool)
-  pub before : ℕ
-  pub now : ℕ
-
-abbrev pub known_of : Option Pat → Option (List ℕ → Bool) → ℕ → ℕ → PatternsNow
-known_of tells refuses before now = record { tells = tells; refuses = refuses; before = before; now = now }
-
--- the patterns tell what they told, and the count of refusals hasn't fallen
-pub record GoOn (tells tells_now : Option Pat) (refuses refuses_now : Option (List ℕ → Bool)) (before now : ℕ) : Type 0 where
-  pub same_tells : tells_now ≡ tells
-  pub same_refuses : refuses_now ≡ refuses
-  pub later : before ≤ now
-
-pub goes_on_here : (tells : Option Pat) (refuses : Option (List ℕ → Bool)) (count : ℕ) → GoOn tells tells refuses refuses count count
-goes_on_here tells refuses count = record { same_tells = refl; same_refuses = refl; later = omega arith }
-
-pub goes_on_further : {tells tells_now tells_new : Option Pat} {refuses refuses_now refuses_new : Option (List ℕ → Bool)} {before now new : ℕ}
-    → GoOn tells tells_now refuses refuses_now before now → GoOn tells_now tells_new refuses_now refuses_new now new → GoOn tells tells_new refuses refuses_new before new
-goes_on_further on further = record {
-  same_tells = further.same_tells ∙ on.same_tells;
-  same_refuses = further.same_refuses ∙ on.same_refuses;
-  later = let was = on.later in omega (arith, was, further.later);
-}
-
--- The rows are marked where simulations met a pattern that was refused: few are, and each may have met one.
-pub record AreMarked (program : Program) (known : PatternsNow) (rows : List Row) (marked : List MarkedRow) : Type 0 where
-  pub rows_are : rows_in marked ≡ rows
-  pub few : AreFew marked known.before known.now
-  pub fair : AreFair program known.refuses marked
+use Rattle.feed_history.specs.Lengths.{HasLength, LengthsFit, RowsHaveLengths}
+use Rattle.feed_history.specs.KnownPatterns.{AreMarked, PatternsNow}
+use Rattle.feed_step.specs.Transcript.{Saying, refused_said, said_from, saying_left, text_said}
 
 -- ---- by what is held
-
-abbrev pub ids_of : List Asked → List ℕ
-ids_of subs = map id_of subs
 
 -- The machine stands where some marked rows lead. What verdicts are written is told where it is told which patterns match.
 pub record StandsByState (program : Program) (known : PatternsNow) (live : List ℕ) (past : List Row) (text : List ℕ) (refused : Bool) (now : HubState) : Type 0 where

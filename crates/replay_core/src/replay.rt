@@ -1,14 +1,15 @@
 ghost use Rattle.std.specs.Prelude.{◌≡◌, ◌≢◌, ◌≤◌, ◌<◌, ℕ, List, length, Some};
 ghost use Rattle.mesh_outside.specs.Causes.{Rose, Unrisen};
 ghost use Rattle.line_run.specs.Run.{OnEnd, OnStop, TookLimit, IsAnswered, IsTooLong};
-ghost use Rattle.replay_core.specs.Headline.{StandsAtEnd, WritesFront, WritesOutput, WritesPlain, WritesSaid};
-ghost use Rattle.replay_core.specs.Stand.{known_of};
+ghost use Rattle.replay_core.specs.Headline.{RefusesSome, StandsAtEnd, WritesFront, WritesOutput, WritesPlain, WritesSaid, WritesSaidFront};
+ghost use Rattle.feed_history.specs.KnownPatterns.{known_over};
 
 use crate::replaying::Replaying;
 use line_run::{Status, run_lines};
 use mesh_base::copied::Copied;
 use mesh_base::limits::Limits;
 use mesh_base::list::List;
+use mesh_base::steps::Steps;
 use mesh_hub::machine::Machine;
 use mesh_outside::{Patterns, Sink, Source};
 use std::alloc::Global;
@@ -29,16 +30,20 @@ pub fn replay<H: Machine, S: Source, K: Sink, P: Patterns>(
 
     // Read to the end: what was written is the defined output, each length that it tells is below 2 ^ 64, and a line was refused
     // or none.
-    ensures output { OnEnd result (WritesOutput config.now limits.now (known_of (P.tells patterns.old) (P.refuses patterns.old) (P.refusals patterns.old) (P.refusals patterns.new))
+    ensures output { OnEnd result (WritesOutput config.now limits.now (known_over P.Patterns patterns.old patterns.new)
         (H.state hub.old) (S.left input.old) (K.held out.old) (K.held out.new)) }
 
     // No simulation met a pattern that is refused where none was refused.
-    ensures quiet { OnEnd result (WritesPlain config.now limits.now (known_of (P.tells patterns.old) (P.refuses patterns.old) (P.refusals patterns.old) (P.refusals patterns.new))
+    ensures quiet { OnEnd result (WritesPlain config.now limits.now (known_over P.Patterns patterns.old patterns.new)
         (H.state hub.old) (S.left input.old) (K.held out.old) (K.held out.new)) }
 
     // Else it is a front of the defined output.
-    ensures front { OnStop result (WritesFront config.now limits.now (known_of (P.tells patterns.old) (P.refuses patterns.old) (P.refusals patterns.old) (P.refusals patterns.new))
+    ensures front { OnStop result (WritesFront config.now limits.now (known_over P.Patterns patterns.old patterns.new)
         (H.state hub.old) (S.left input.old) (K.held out.old) (K.held out.new)) }
+
+    // Whether a line was refused, whatever patterns match.
+    ensures refused { OnEnd result (RefusesSome config.now limits.now (known_over P.Patterns patterns.old patterns.new)
+        (H.state hub.old) (S.left input.old)) }
 
     // The machine then stands where the input leads.
     ensures state { OnEnd result (λ refused. StandsAtEnd config.now limits.now (H.state hub.old) (H.state hub.new) (S.left input.old)) }
@@ -46,7 +51,12 @@ pub fn replay<H: Machine, S: Source, K: Sink, P: Patterns>(
     // A machine that tells its replies: what was written is what they and the lines say.
     ensures said { OnEnd result (WritesSaid config.now limits.now (H.replies hub.old) (H.replies hub.new) (S.left input.old) (K.held out.old) (K.held out.new)) }
 
-    // The count of refusals hasn't fallen.
+    // Else it is a front of that.
+    ensures said_front { OnStop result (WritesSaidFront config.now limits.now (H.replies hub.old) (H.replies hub.new) (S.left input.old) (K.held out.old) (K.held out.new)) }
+
+    // No count falls.
+    ensures read_later { S.faults input.old ≤ S.faults input.new }
+    ensures write_later { K.faults out.old ≤ K.faults out.new }
     ensures later { P.refusals patterns.old ≤ P.refusals patterns.new }
 
     // When each status comes.
@@ -66,6 +76,7 @@ pub fn replay<H: Machine, S: Source, K: Sink, P: Patterns>(
         return Status::Memory;
     };
     let mut live = List::new(alloc);
+    let mut steps = Steps::<()>::new();
     let mut machine = Replaying {
         alloc,
         config,
@@ -74,6 +85,7 @@ pub fn replay<H: Machine, S: Source, K: Sink, P: Patterns>(
         patterns,
         live: &mut live,
         sent: 0,
+        steps: &mut steps,
     };
     run_lines(alloc, *limits, &mut machine, input, out)
 }

@@ -1,21 +1,22 @@
 ghost use Rattle.std.specs.Prelude.{◌≡◌, ◌-◌, length};
 ghost use Rattle.std.proofs.Common.{refl, ◌∙◌};
 
-use crate::drain::drain;
-use crate::take::take_row;
+use feed_history::text::push_refused;
+use feed_step::drain::drain;
+use feed_step::take::take_row;
 use line_run::LineMachine;
 use mesh_base::limits::Limits;
 use mesh_base::list::List;
+use mesh_base::steps::Steps;
 use mesh_base::sub_id::SubId;
 use mesh_hub::machine::Machine;
-use mesh_hub::text::push_refused;
 use mesh_outside::Patterns;
 use std::alloc::{AllocError, Global};
 use view_types::config::Config;
 
 /// A replay that is under way. What owns memory is lent to it.
 #[derive(Drop)]
-pub(crate) struct Replaying<'a, 'h, 'p, 'l, H: Machine, P: Patterns> {
+pub(crate) struct Replaying<'a, 'h, 'p, 'l, 's, H: Machine, P: Patterns, L> {
     pub(crate) alloc: Global,
     pub(crate) config: &'a Config,
     pub(crate) limits: Limits,
@@ -26,10 +27,15 @@ pub(crate) struct Replaying<'a, 'h, 'p, 'l, H: Machine, P: Patterns> {
     pub(crate) live: &'l mut List<u32>,
     /// How many of them have been drained at the end.
     pub(crate) sent: usize,
+    /// What counts the objects that the run reads.
+    pub(crate) steps: &'s mut Steps<L>,
 }
 
-impl<H: Machine, P: Patterns> LineMachine for Replaying<'_, '_, '_, '_, H, P> {
-    ghost use Rattle.replay_core.specs.Stand.{Ended, Ending, GoOn, IsOfRun, Stands, ending_none, goes_on_further, goes_on_here, known_of};
+impl<H: Machine, P: Patterns, L> LineMachine for Replaying<'_, '_, '_, '_, '_, H, P, L> {
+    ghost use Rattle.feed_history.specs.Optional.{Becomes, Extends};
+    ghost use Rattle.feed_history.proofs.Optional.{extends_same, extends_then};
+    ghost use Rattle.replay_core.specs.Stand.{Ended, Ending, IsOfRun, Stands, ending_none};
+    ghost use Rattle.feed_history.specs.KnownPatterns.{GoOn, goes_on_further, goes_on_here, known_of};
 
     ghost stands = { λ start now past text refused. (now.hub.ghost_name ≡ start.hub.ghost_name) × (now.patterns.ghost_name ≡ start.patterns.ghost_name)
         × IsOfRun start.config.now start.limits now.config.now now.limits
@@ -58,11 +64,17 @@ impl<H: Machine, P: Patterns> LineMachine for Replaying<'_, '_, '_, '_, H, P> {
     ) };
 
     ghost keeps = { λ earlier now. (now.hub.ghost_name ≡ earlier.hub.ghost_name) × (now.patterns.ghost_name ≡ earlier.patterns.ghost_name)
-        × GoOn (P.tells earlier.patterns.now) (P.tells now.patterns.now) (P.refuses earlier.patterns.now) (P.refuses now.patterns.now) (P.refusals earlier.patterns.now) (P.refusals now.patterns.now) };
+        × GoOn (P.tells earlier.patterns.now) (P.tells now.patterns.now) (P.refuses earlier.patterns.now) (P.refuses now.patterns.now) (P.refusals earlier.patterns.now) (P.refusals now.patterns.now)
+        × Becomes (H.replies earlier.hub.now) (H.replies now.hub.now) Extends };
 
-    ghost keeps_itself = { λ machine. (refl, refl, goes_on_here (P.tells machine.patterns.now) (P.refuses machine.patterns.now) (P.refusals machine.patterns.now)) };
+    ghost keeps_itself = { λ machine. (refl, refl, goes_on_here (P.tells machine.patterns.now) (P.refuses machine.patterns.now) (P.refusals machine.patterns.now), extends_same (H.replies machine.hub.now)) };
 
-    ghost keeps_on = { λ first second third on further. (further.0 ∙ on.0, further.1 ∙ on.1, goes_on_further on.2 further.2) };
+    ghost keeps_on = { λ first second third on further. (
+      further.0 ∙ on.0,
+      further.1 ∙ on.1,
+      goes_on_further on.2 further.2,
+      extends_then (H.replies first.hub.now) (H.replies second.hub.now) (H.replies third.hub.now) on.3 further.3,
+    ) };
 
     ghost pieces_left = { λ now. length now.live.now - now.sent };
 
@@ -81,6 +93,7 @@ impl<H: Machine, P: Patterns> LineMachine for Replaying<'_, '_, '_, '_, H, P> {
             number,
             line,
             out,
+            self.steps,
         ) else {
             return Err(AllocError);
         };

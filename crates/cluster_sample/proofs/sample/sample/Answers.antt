@@ -1,5 +1,5 @@
 use Rattle.std.proofs.Common.{◌∙◌}
-use Rattle.replay_core.specs.Stand.{known_of}
+use Rattle.feed_history.specs.KnownPatterns.{known_of}
 use Rattle.cluster_sample.proofs.Sampled.{replays, sampled}
 use Rattle.cluster_sample.proofs.sample.sample.Goals as goal
 
@@ -14,6 +14,6 @@ returns-in-Ok-write_counts-clause-output g c =
     let status = c.replay-status.result in
     let text = c.replay-status.new.out.bytes.items in
     let ended = replays config limits known state replies replies_new c.args.n status c.as_slice.result.now c.new.result.items text (c.as_slice.ensures ∙ c.in-Ok.ensures) c.new.ensures.items
-    c.replay-status.ensures.output c.replay-status.ensures.quiet c.replay-status.ensures.said in
+    c.replay-status.ensures.output c.replay-status.ensures.quiet c.replay-status.ensures.refused c.replay-status.ensures.said in
     sampled config limits known state replies replies_new c.args.n c.as_slice-in-Done.result.now text c.deref.result.now c.count_lines-count.result (c.as_slice-in-Done.ensures ∙ c.in-Ok.ensures)
     c.count_lines-count.ensures c.deref.ensures.value (g.K.Sink.held c.args.out.now) (g.K.Sink.held c.write_counts.new.out) status ended c.in-Ok-write_counts.ensures.whole

@@ -6,7 +6,7 @@ use Rattle.diagnosis.proofs.diagnose.diagnose.Goals as goal
 pub returns-clause-output : goal.returns-clause-output
 returns-clause-output g c = OnEnd-weaker c.run_lines.result _ _ (λ refused whole.
     diagnosed_whole c.args.config.now c.args.limits.now c.args.id.0 c.args.query.now (g.S.Source.left c.args.input.now) (g.K.Sink.held c.args.out.now) (g.K.Sink.held c.run_lines.new.sink)
-    whole.input whole.output refused whole.read whole.written whole.at_end) c.run_lines.ensures.whole
+    whole.input whole.output refused whole.read whole.below whole.written whole.at_end) c.run_lines.ensures.whole
 
 pub returns-clause-front : goal.returns-clause-front
 returns-clause-front g c = OnStop-weaker c.run_lines.result _ _ (λ part.

@@ -30,7 +30,7 @@ fn script_of(alloc: Global) -> Result<ScriptMachine, Fail> {
     Ok(ScriptMachine {
         alloc,
         replies,
-        taken: 0,
+        given: 0,
     })
 }
 
@@ -41,7 +41,7 @@ fn admitting(alloc: Global) -> Result<ScriptMachine, Fail> {
     Ok(ScriptMachine {
         alloc,
         replies,
-        taken: 0,
+        given: 0,
     })
 }
 

@@ -244,6 +244,7 @@ a pattern that is refused: pod open route_refused get => refused 4 Pattern app/r
 a pattern that is refused, in the second rule: pod open route_refused_second get => refused 4 Pattern app/r1 1 1
 a pattern whose method isn't the request's isn't asked: pod open route_refused_post get post_abc => verdict 4 not-found, refused 5 Pattern app/r1 0 0
 a pattern of a header that isn't there isn't asked: pod open route_refused_header get header_x_a => verdict 4 not-found, refused 5 Pattern app/r1 0 0
+a pattern of a route that doesn't count isn't asked: pod open_opaque route_refused get => verdict 4 allowed default all-unauthenticated
 a refused pattern doesn't matter without http: pod open route_refused ask => verdict 4 allowed default all-unauthenticated
 a simulation changes nothing of a view: pod server watch_port ask drain ask => verdict 4 denied default deny, frame 1 0000000009080110051a03776562, verdict 6 denied default deny
 members in their order: bad_workload bad_port bad_client bad_client_net bad_identity bad_tls bad_http => refused 1 BadQuery workload, refused 2 BadQuery port, refused 3 BadQuery client, refused 4 BadQuery client, refused 5 BadQuery identity, refused 6 BadQuery tls, refused 7 BadQuery http

@@ -5,7 +5,7 @@ use Rattle.output_fold.proofs.fold.fold_file.Goals as goal
 
 pub returns-clause-output : goal.returns-clause-output
 returns-clause-output g c = OnEnd-weaker c.run_lines.result _ _ (λ refused whole.
-    folded_whole c.args.method c.args.id.0 c.args.limits.now (g.S.Source.left c.args.input.now) (g.K.Sink.held c.args.out.now) (g.K.Sink.held c.run_lines.new.sink) whole.input whole.output refused whole.read whole.written whole.at_end)
+    folded_whole c.args.method c.args.id.0 c.args.limits.now (g.S.Source.left c.args.input.now) (g.K.Sink.held c.args.out.now) (g.K.Sink.held c.run_lines.new.sink) whole.input whole.output refused whole.read whole.below whole.written whole.at_end)
     c.run_lines.ensures.whole
 
 pub returns-clause-front : goal.returns-clause-front

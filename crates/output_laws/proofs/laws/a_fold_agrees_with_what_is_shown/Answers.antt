@@ -1,4 +1,4 @@
-use Rattle.mesh_hub.specs.Program.{replay_of}
+use Rattle.feed_history.specs.Program.{replay_of}
 use Rattle.output_laws.proofs.SameObjects.{agrees_with}
 use Rattle.output_laws.proofs.laws.a_fold_agrees_with_what_is_shown.Goals as goal
 

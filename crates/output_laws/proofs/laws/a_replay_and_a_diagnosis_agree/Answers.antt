@@ -1,4 +1,4 @@
-use Rattle.mesh_hub.specs.Program.{replay_of}
+use Rattle.feed_history.specs.Program.{replay_of}
 use Rattle.output_laws.proofs.Diagnoses.{replay_agrees}
 use Rattle.output_laws.proofs.laws.a_replay_and_a_diagnosis_agree.Goals as goal
 

@@ -1,9 +1,11 @@
-use Rattle.std.proofs.Common.{◌≡◌, refl, rules, sym}
+use Rattle.std.proofs.Common.{◌≡◌, [], refl, rules, sym}
 use Rattle.line_run.proofs.Progress.{OnEnd-weaker, OnStop-weaker}
-use Rattle.replay_core.specs.Stand.{GoOn, IsOfRun, known_of}
-use Rattle.replay_core.proofs.Fronts.{begun, nothing_written, output_front, output_whole, plain_written, said_whole, state_whole}
-use Rattle.replay_core.proofs.Marks.{at_most}
+use Rattle.replay_core.specs.Stand.{IsOfRun}
+use Rattle.replay_core.proofs.Fronts.{begun, none_said, nothing_written, output_front, output_whole, plain_written, refuses_whole, said_front, said_front_from, said_whole, state_whole}
+use Rattle.feed_history.proofs.Marks.{at_most}
+use Rattle.feed_history.proofs.Optional.{extends_same, grows_extends}
 use Rattle.replay_core.proofs.Rows.{stands_new}
+use Rattle.feed_history.specs.KnownPatterns.{GoOn, known_of}
 use Rattle.replay_core.proofs.replay.replay.Goals as goal
 
 pub run_lines-requires : goal.run_lines-requires
@@ -27,7 +29,7 @@ returns-clause-output g c =
     OnEnd-weaker c.run_lines.result _ _ (λ refused whole.
     let same_patterns = sym whole.at_end.1 in
     let wrote = output_whole c.args.config.now c.args.limits.now (g.S.Source.left c.args.input.now) (g.K.Sink.held c.args.out.now) (g.K.Sink.held c.run_lines.new.sink) known (state c.args.hub.now) (state c.begin.new.self) (state machine.hub.now)
-    (replies c.begin.new.self) (replies machine.hub.now) whole.input whole.output refused whole.read whole.at_end.3
+    (replies c.begin.new.self) (replies machine.hub.now) whole.input whole.output refused whole.read whole.below whole.at_end.3
     (begun c.args.config.now c.in-Ok.copy c.args.limits.now (state c.args.hub.now) (state c.begin.new.self) c.in-Ok-begin.field-0 c.in-Ok.ensures c.in-Ok-begin.ensures.state) whole.written in
     search (rules, wrote, same_patterns)) c.run_lines.ensures.whole
 
@@ -59,7 +61,7 @@ returns-clause-state g c =
     OnEnd-weaker c.run_lines.result _ _ (λ refused whole.
     let same_hub = sym whole.at_end.0 in
     let stands = state_whole c.args.config.now c.args.limits.now (g.S.Source.left c.args.input.now) (g.K.Sink.held c.args.out.now) (g.K.Sink.held c.run_lines.new.sink) _ (state c.args.hub.now) (state c.begin.new.self) (state hub)
-    (replies c.begin.new.self) (replies hub) whole.input whole.output refused whole.read whole.at_end.3
+    (replies c.begin.new.self) (replies hub) whole.input whole.output refused whole.read whole.below whole.at_end.3
     (begun c.args.config.now c.in-Ok.copy c.args.limits.now (state c.args.hub.now) (state c.begin.new.self) c.in-Ok-begin.field-0 c.in-Ok.ensures c.in-Ok-begin.ensures.state) in
     search (rules, stands, same_hub)) c.run_lines.ensures.whole
 
@@ -71,7 +73,7 @@ returns-clause-said g c =
     OnEnd-weaker c.run_lines.result _ _ (λ refused whole.
     let same_hub = sym whole.at_end.0 in
     let said = said_whole c.args.config.now c.args.limits.now (g.S.Source.left c.args.input.now) (g.K.Sink.held c.args.out.now) (g.K.Sink.held c.run_lines.new.sink) _ (state c.args.hub.now) (state c.begin.new.self) (state hub)
-    (replies c.begin.new.self) (replies hub) whole.input whole.output refused whole.read whole.at_end.3 (replies c.args.hub.now) c.in-Ok-begin.ensures.replies whole.written in
+    (replies c.begin.new.self) (replies hub) whole.input whole.output refused whole.read whole.below whole.at_end.3 (replies c.args.hub.now) c.in-Ok-begin.ensures.replies whole.written in
     search (rules, said, same_hub)) c.run_lines.ensures.whole
 
 pub returns-in_default-clause-front : goal.returns-in_default-clause-front
@@ -89,3 +91,45 @@ returns-clause-later g c =
     let same_patterns = sym c.run_lines.ensures.keeps.1 in
     let later = c.run_lines.ensures.keeps.2.later in
     search (rules, later, same_patterns)
+
+pub returns-clause-refused : goal.returns-clause-refused
+returns-clause-refused g c =
+    let state = g.H.Machine.state in
+    let replies = g.H.Machine.replies in
+    let patterns = c.args.patterns.now in
+    let machine = c.run_lines.new.machine in
+    let known = known_of (g.P.Patterns.tells patterns) (g.P.Patterns.refuses patterns) (g.P.Patterns.refusals patterns) (g.P.Patterns.refusals machine.patterns.now) in
+    OnEnd-weaker c.run_lines.result _ _ (λ refused whole.
+    let same_patterns = sym whole.at_end.1 in
+    let is = refuses_whole c.args.config.now c.args.limits.now (g.S.Source.left c.args.input.now) (g.K.Sink.held c.args.out.now) (g.K.Sink.held c.run_lines.new.sink) known (state c.args.hub.now) (state c.begin.new.self) (state machine.hub.now)
+    (replies c.begin.new.self) (replies machine.hub.now) whole.input whole.output refused whole.read whole.below whole.at_end.3
+    (begun c.args.config.now c.in-Ok.copy c.args.limits.now (state c.args.hub.now) (state c.begin.new.self) c.in-Ok-begin.field-0 c.in-Ok.ensures c.in-Ok-begin.ensures.state) in
+    search (rules, is, same_patterns)) c.run_lines.ensures.whole
+
+pub returns-clause-said_front : goal.returns-clause-said_front
+returns-clause-said_front g c =
+    let config = c.args.config.now in
+    let limits = c.args.limits.now in
+    let state = g.H.Machine.state in
+    let replies = g.H.Machine.replies in
+    let patterns = c.args.patterns.now in
+    let same_hub = sym c.run_lines.ensures.keeps.0 in
+    let left = g.S.Source.left c.args.input.now in
+    let held = g.K.Sink.held c.args.out.now in
+    let held_new = g.K.Sink.held c.run_lines.new.sink in
+    let r0 = replies c.begin.new.self in
+    let r1 = replies c.run_lines.new.machine.hub.now in
+    OnStop-weaker c.run_lines.result _ _ (λ part.
+    let wrote = said_front_from config limits (replies c.args.hub.now) r0 r1 left held held_new c.in-Ok-begin.ensures.replies
+    (said_front config limits left held held_new (λ m. known_of (g.P.Patterns.tells patterns) (g.P.Patterns.refuses patterns) (g.P.Patterns.refusals patterns) (g.P.Patterns.refusals m.patterns.now))
+    (state c.begin.new.self) (λ m. state m.hub.now) (λ m. replies m.hub.now) (λ m. m.live.now) (λ m. m.sent)
+    (λ m. m.hub.ghost_name ≡ _) (λ m. m.patterns.ghost_name ≡ _) (λ m. IsOfRun config limits m.config.now m.limits)
+    (λ m. GoOn (g.P.Patterns.tells patterns) (g.P.Patterns.tells m.patterns.now) (g.P.Patterns.refuses patterns) (g.P.Patterns.refuses m.patterns.now) (g.P.Patterns.refusals patterns) (g.P.Patterns.refusals m.patterns.now))
+    _ r0 r1 (λ m kept. kept.3) c.run_lines.ensures.keeps.3 part) in
+    search (rules, wrote, same_hub)) c.run_lines.ensures.part
+
+pub returns-in_default-clause-said_front : goal.returns-in_default-clause-said_front
+returns-in_default-clause-said_front g c = none_said c.args.config.now c.args.limits.now _ _ (g.S.Source.left c.args.input.now) (g.K.Sink.held c.args.out.now) (extends_same _)
+
+pub returns-in_default-begin-clause-said_front : goal.returns-in_default-begin-clause-said_front
+returns-in_default-begin-clause-said_front g c = none_said c.args.config.now c.args.limits.now _ _ (g.S.Source.left c.args.input.now) (g.K.Sink.held c.args.out.now) (grows_extends _ _ [] c.in_default-begin.ensures.replies)

@@ -1,5 +1,5 @@
 use Rattle.mesh_hub.specs.Hub.{id_of}
-use Rattle.mesh_hub.proofs.Placed.{placed}
+use Rattle.feed_history.proofs.Placed.{placed}
 use Rattle.mesh_hub.proofs.hub.Hub.place_of.Goals as goal
 
 pub returns : goal.returns

@@ -1,6 +1,6 @@
 use Rattle.std.proofs.Common.{◌++◌, ◌≡◌, ℕ, List, Some, None, Ok, Err, refl, sym, ap, ◌∙◌, append_assoc}
 use Rattle.std.specs.Option.{option_copied}
-use Rattle.mesh_hub.specs.Text.{fault_line}
+use Rattle.feed_history.specs.Text.{fault_line}
 use Rattle.output_fold.specs.FaultText.{fold_fault_text}
 use Rattle.output_fold.specs.Lines.{row_says}
 use Rattle.output_fold.proofs.Rows.{fails, fault_is, reads, says_too, skipped, taken_is}

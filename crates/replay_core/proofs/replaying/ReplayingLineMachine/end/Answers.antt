@@ -1,8 +1,8 @@
 use Rattle.std.proofs.Common.{◌≡◌, ◌++◌, ◌∙◌, Some, None, slice_get, sym}
-use Rattle.mesh_hub.specs.Program.{replay_of}
-use Rattle.mesh_hub.proofs.Lives.{live_ids_ascend}
-use Rattle.replay_core.specs.Stand.{known_of}
-use Rattle.replay_core.specs.Take.{drain_refusal}
+use Rattle.feed_history.specs.Program.{replay_of}
+use Rattle.history_laws.proofs.Lives.{live_ids_ascend}
+use Rattle.feed_history.specs.KnownPatterns.{known_of}
+use Rattle.feed_step.specs.LineStep.{drain_refusal}
 use Rattle.replay_core.proofs.Ends.{ending_more, ending_whole, none_at, read_at}
 use Rattle.replay_core.proofs.replaying.ReplayingLineMachine.end.Goals as goal
 

@@ -1,0 +1,76 @@
+-- Which query is live under an id is told by the last accepted row that speaks of the id. Live ids ascend, and the
+-- greatest accepted id is the greatest of those of all accepted subscriptions.
+use Rattle.std.specs.Prelude.{◌≡◌, ◌<◌, ℕ, ◌==◌, ◌&&◌, Bool, List, [], ◌∷◌, ◌++◌, Option, Some, None, Result, Ok, Err, if◌then◌else◌, is_some, max, option_and_then, option_map}
+use Rattle.std.specs.List.{AllByRecursion}
+use Rattle.view_types.specs.declared.query.Query.{Query}
+use Rattle.watch_events.specs.declared.line.Line.{Line}
+use Rattle.watch_events.specs.declared.line.Line.TheVariants as lines
+use Rattle.watch_events.specs.declared.line.LineFault.{LineFault}
+use Rattle.feed_history.specs.Marks.{MarkedRow}
+use Rattle.feed_history.specs.Program.{Program, reading}
+use Rattle.feed_history.specs.declared.refusal.Refusal.{Refusal}
+use Rattle.feed_history.specs.History.{Asked, State, after, asked_at, refusal_after, too_long_for}
+use Rattle.feed_history.specs.LookBack.{last_told}
+
+-- whether a drain of the id would meet a message that is too long
+abbrev pub meets_too_long : Program → State → ℕ → Bool
+meets_too_long program now id = is_some (option_and_then (too_long_for program now.objects) (asked_at id now.subs))
+
+-- What a row tells of an id, if it speaks of it: that a query is live under it, or none. A drain ends the id where a message
+-- is too long.
+abbrev pub asked_by : Program → State → Result Line LineFault → ℕ → Option (Option Query)
+asked_by program now (Ok (lines.Subscribe asked query)) id = if asked.0 == id then Some (Some query) else None
+asked_by program now (Ok (lines.Cancel asked)) id = if asked.0 == id then Some None else None
+asked_by program now (Ok (lines.Drain asked)) id = if (asked.0 == id) && meets_too_long program now id then Some None else None
+asked_by program now (Ok (lines.Event event)) id = None
+asked_by program now (Ok lines.Blank) id = None
+asked_by program now (Ok (lines.Simulate request)) id = None
+asked_by program now (Ok lines.Stop) id = None
+asked_by program now (Err fault) id = None
+
+-- the query that is live under an id, looking back through the rows
+abbrev pub live_at : Program → List MarkedRow → ℕ → Option Query
+live_at program [] id = None
+live_at program (row ∷ past) id = last_told (refusal_after program past row) (asked_by program (after program past) (reading program row) id) (live_at program past id)
+
+-- the query under an id
+abbrev pub query_at : ℕ → List Asked → Option Query
+query_at id subs = option_map (λ asked. asked.query) (asked_at id subs)
+
+abbrev pub IsLiveByTheLast : Program → Type 0
+IsLiveByTheLast program = (past : List MarkedRow) (id : ℕ) → query_at id (after program past).subs ≡ live_at program past id
+
+-- each id is below those that follow it
+abbrev pub Ascend : List Asked → Type 0
+Ascend [] = Unit {0}
+Ascend (sub ∷ subs) = AllByRecursion (λ (later : Asked). sub.id.0 < later.id.0) subs × Ascend subs
+
+abbrev pub LiveIdsAscend : Program → Type 0
+LiveIdsAscend program = (past : List MarkedRow) → Ascend (after program past).subs
+
+-- the ids under which rows that were accepted subscribe
+abbrev pub id_accepted : Option Refusal → Result Line LineFault → List ℕ
+id_accepted (Some refusal) line = []
+id_accepted None (Ok (lines.Subscribe id query)) = id.0 ∷ []
+id_accepted None (Ok (lines.Event event)) = []
+id_accepted None (Ok lines.Blank) = []
+id_accepted None (Ok (lines.Cancel id)) = []
+id_accepted None (Ok (lines.Drain id)) = []
+id_accepted None (Ok (lines.Simulate request)) = []
+id_accepted None (Ok lines.Stop) = []
+id_accepted None (Err fault) = []
+
+abbrev pub accepted_ids : Program → List MarkedRow → List ℕ
+accepted_ids program [] = []
+accepted_ids program (row ∷ past) = id_accepted (refusal_after program past row) (reading program row) ++ accepted_ids program past
+
+abbrev pub max_with : ℕ → Option ℕ → ℕ
+max_with n None = n
+max_with n (Some other) = max n other
+
+abbrev pub greatest : List ℕ → Option ℕ
+greatest [] = None
+greatest (n ∷ ns) = Some (max_with n (greatest ns))
+
+abbrev pub LastIsGreatest : Program → Type 0
+LastIsGreatest program = (past : List MarkedRow) → (after program past).last ≡ greatest (accepted_ids program past)

@@ -1,0 +1,24 @@
+-- What a call does to a meaning that a machine may tell or not.
+use Rattle.std.specs.Prelude.{◌≡◌, List, ◌++◌, Some, None}
+use Rattle.std.specs.declared.option.Option.{Option}
+
+-- a told value stays told, and goes over into one by the relation
+abbrev pub Becomes : {S : Type 0} → Option S → Option S → (S → S → Type 0) → Type 0
+Becomes None new R = Unit {0}
+Becomes (Some old) None R = ⊥
+Becomes (Some old) (Some new) R = R old new
+
+-- a told list grows by these
+abbrev pub Grows : {A : Type 0} → Option (List A) → Option (List A) → List A → Type 0
+Grows old new added = Becomes old new (λ xs ys. ys ≡ xs ++ added)
+
+-- a list goes on, whatever it goes on with
+pub record Extends {A : Type 0} (old new : List A) : Type 0 where
+  pub added : List A
+  pub adds : new ≡ old ++ added
+
+-- a relation that follows from the other holds with it
+pub Becomes-weaker : {S : Type 0} (a b : Option S) (R Q : S → S → Type 0) → ((x y : S) → R x y → Q x y) → Becomes a b R → Becomes a b Q
+Becomes-weaker None b R Q weaker holds = tt
+Becomes-weaker (Some x) None R Q weaker holds = holds
+Becomes-weaker (Some x) (Some y) R Q weaker holds = weaker x y holds

@@ -1,0 +1,40 @@
+ghost use Rattle.feed_history.specs.Drains.{IsOrMemory, frame_within, frames_within};
+
+use crate::refusal::HubFault;
+use bytes::Bytes;
+use mesh_base::list::List;
+use proto_wire::frame::frame;
+use proxy_proto::writing::write_message;
+use std::alloc::Global;
+use view_types::message::Message;
+
+// The frame of a message, unless it is longer than may be.
+fn frame_within(alloc: Global, limit: u32, message: &Message) -> Result<Bytes, HubFault>
+    ensures { IsOrMemory (frame_within limit message.now) result }
+{
+    let bytes = write_message(alloc, message)?;
+    if bytes.len() > limit as usize {
+        return Err(HubFault::Oversize {
+            bytes: bytes.len() as u64,
+        });
+    }
+    match frame(alloc, bytes.as_slice()) {
+        Ok(frame) => Ok(frame),
+        Err(_) => Err(HubFault::Memory),
+    }
+}
+
+/// The frames of messages, or the length of the first that is longer than may be.
+pub fn frames_within(
+    alloc: Global,
+    limit: u32,
+    messages: &[Message],
+) -> Result<List<Bytes>, HubFault>
+    ensures { IsOrMemory (frames_within limit messages.now) result }
+{
+    let mut frames = List::new(alloc);
+    for message in messages {
+        frames.add(frame_within(alloc, limit, message)?)?;
+    }
+    Ok(frames)
+}

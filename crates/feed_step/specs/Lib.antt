@@ -1,0 +1,2 @@
+pub mod LineStep
+pub mod Transcript

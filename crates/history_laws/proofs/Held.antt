@@ -1,0 +1,120 @@
+-- What is held is lawful and stands at its own key, and a live query is lawful, since the row that told it says so.
+use Rattle.std.proofs.Common.{◌≡◌, ℕ, Bool, true, false, cond, eqb, ◌&&◌, List, [], ◌∷◌, Option, Some, None, Ordering, refl, sym, ap, ◌∙◌, subst, ◌⊎◌, inl, inr}
+use Rattle.std.specs.Prelude.{Result, Ok, Err}
+use Rattle.std.specs.List.{AllByRecursion}
+use Rattle.std.specs.Ordering.{eq_by_cmp, is_eq}
+use Rattle.std.specs.declared.cmp.Ordering.TheVariants.{Less, Equal, Greater}
+use Rattle.mesh_base.specs.KeyOrder.{key_cmp}
+use Rattle.mesh_base.proofs.KeyOrder.{keys_exact}
+use Rattle.mesh_base.specs.declared.key.ObjKey.{ObjKey}
+use Rattle.view_types.specs.declared.object.Object.{Object}
+use Rattle.view_types.specs.Lawful.{IsLawful}
+use Rattle.view_types.specs.Objects.{key_of}
+use Rattle.object_store.specs.Relisted.{is_of, item_at}
+use Rattle.watch_events.specs.declared.event.Event.TheVariants.{Set, Delete, Relist, Bookmark}
+use Rattle.watch_events.specs.declared.line.Line.{Line}
+use Rattle.watch_events.specs.declared.line.Line.TheVariants as lines
+use Rattle.watch_events.specs.declared.line.LineFault.{LineFault}
+use Rattle.feed_history.specs.declared.refusal.Refusal.{Refusal}
+use Rattle.view_types.specs.declared.query.Query.{Query}
+use Rattle.watch_events.specs.Lawful.{IsLawfulQuery}
+use Rattle.feed_history.specs.History.{State, after, refusal_after}
+use Rattle.feed_history.specs.Lawful.{HeldAreLawful, HeldAtKeys, QueriesAreLawful, ReadsLawfully}
+use Rattle.feed_history.specs.Live.{asked_by, live_at, meets_too_long}
+use Rattle.feed_history.specs.LookBack.{told_by, last_told, held_at}
+use Rattle.feed_history.specs.Marks.{MarkedRow}
+use Rattle.feed_history.specs.Program.{Program, reading}
+use Rattle.history_laws.proofs.Lives.{live_by_the_last}
+use Rattle.history_laws.proofs.Telling.{AreLawful, row_lawful, told_by_the_last}
+
+equal : (r : Ordering) → is_eq r ≡ true → r ≡ Equal
+equal Less e = cc
+equal Equal e = refl
+equal Greater e = cc
+
+-- the object is lawful and has the key
+abbrev IsRight : ObjKey → Object → Type 0
+IsRight key object = IsLawful object × (key_of object ≡ key)
+
+right_at : (key : ObjKey) (o object : Object) → IsLawful o → (b : Bool) → eq_by_cmp key_cmp key (key_of o) ≡ b → cond b (Some (Some o)) None ≡ Some (Some object) → IsRight key object
+right_at key o object lawful true tied is = let same : o ≡ object = cc is in subst (IsRight key) same (lawful, sym (keys_exact key (key_of o) (equal _ tied)))
+right_at key o object lawful false tied is = absurd (cc is)
+
+right_item : (key : ObjKey) (items : List Object) (object : Object) → AllByRecursion IsLawful items → item_at key items ≡ Some object → IsRight key object
+right_item key [] object lawful is = absurd (cc is)
+right_item key (o ∷ os) object lawful is =
+    elim (eq_by_cmp key_cmp key (key_of o)) as (λ b. eq_by_cmp key_cmp key (key_of o) ≡ b → cond b (Some o) (item_at key os) ≡ Some object → IsRight key object) [
+      | true ↦ λ tied is. let same : o ≡ object = cc is in subst (IsRight key) same (lawful.0, sym (keys_exact key (key_of o) (equal _ tied)))
+      | false ↦ λ tied is. right_item key os object lawful.1 is
+    ] refl is
+
+of_list : (b : Bool) (item : Option Object) (object : Object) → cond b (Some item) None ≡ Some (Some object) → item ≡ Some object
+of_list true item object is = cc is
+of_list false item object is = absurd (cc is)
+
+gone : (b : Bool) (object : Object) → cond b (Some None) None ≡ Some (Some object) → ⊥
+gone true object is = cc is
+gone false object is = cc is
+
+told_right : (line : Result Line LineFault) (key : ObjKey) (object : Object) → AreLawful line → told_by line key ≡ Some (Some object) → IsRight key object
+told_right (Ok (lines.Event (Set o))) key object lawful is = right_at key o object lawful (eq_by_cmp key_cmp key (key_of o)) refl is
+told_right (Ok (lines.Event (Delete key_gone))) key object lawful is = absurd (gone (eq_by_cmp key_cmp key key_gone) object is)
+told_right (Ok (lines.Event (Relist kind items))) key object lawful is = right_item key items object lawful.1 (of_list (is_of kind key) (item_at key items) object is)
+told_right (Ok (lines.Event Bookmark)) key object lawful is = absurd (cc is)
+told_right (Ok lines.Blank) key object lawful is = absurd (cc is)
+told_right (Ok (lines.Subscribe id query)) key object lawful is = absurd (cc is)
+told_right (Ok (lines.Cancel id)) key object lawful is = absurd (cc is)
+told_right (Ok (lines.Drain id)) key object lawful is = absurd (cc is)
+told_right (Ok (lines.Simulate request)) key object lawful is = absurd (cc is)
+told_right (Ok lines.Stop) key object lawful is = absurd (cc is)
+told_right (Err fault) key object lawful is = absurd (cc is)
+
+told_or_before : {X : Type 0} (refusal : Option Refusal) (told : Option (Option X)) (before : Option X) (x : X) → last_told refusal told before ≡ Some x
+    → (told ≡ Some (Some x)) ⊎ (before ≡ Some x)
+told_or_before (Some refusal) told before x is = inr is
+told_or_before None None before x is = inr is
+told_or_before None (Some told) before x is = inl (ap Some is)
+
+right : (program : Program) → ReadsLawfully program → (past : List MarkedRow) (key : ObjKey) (object : Object) → held_at program past key ≡ Some object → IsRight key object
+right program reads [] key object is = absurd (cc is)
+right program reads (row ∷ past) key object is = elim (told_or_before (refusal_after program past row) (told_by (reading program row) key) (held_at program past key) object is) [
+  | inl told ↦ told_right (reading program row) key object (row_lawful program reads row) told
+  | inr before ↦ right program reads past key object before
+]
+
+pub held_are_lawful : (program : Program) → ReadsLawfully program → HeldAreLawful program
+held_are_lawful program reads past key object is = (right program reads past key object (sym (told_by_the_last program reads past key) ∙ is)).0
+
+pub held_at_keys : (program : Program) → ReadsLawfully program → HeldAtKeys program
+held_at_keys program reads past key object is = (right program reads past key object (sym (told_by_the_last program reads past key) ∙ is)).1
+
+-- ---- queries
+
+-- what is told under one condition or another is told under neither or by the query itself
+asked_query : (b : Bool) (query found : Query) → cond b (Some (Some query)) None ≡ Some (Some found) → query ≡ found
+asked_query true query found is = cc is
+asked_query false query found is = absurd (cc is)
+
+none_asked : (b : Bool) (query : Query) → cond b (Some None) None ≡ Some (Some query) → ⊥
+none_asked true query is = cc is
+none_asked false query is = cc is
+
+asked_right : (program : Program) (now : State) (line : Result Line LineFault) (id : ℕ) (query : Query) → AreLawful line → asked_by program now line id ≡ Some (Some query) → IsLawfulQuery query
+asked_right program now (Ok (lines.Subscribe asked found)) id query lawful is = subst IsLawfulQuery (asked_query (eqb asked.0 id) found query is) lawful
+asked_right program now (Ok (lines.Cancel asked)) id query lawful is = absurd (none_asked (eqb asked.0 id) query is)
+asked_right program now (Ok (lines.Drain asked)) id query lawful is = absurd (none_asked (eqb asked.0 id && meets_too_long program now id) query is)
+asked_right program now (Ok (lines.Event event)) id query lawful is = absurd (cc is)
+asked_right program now (Ok lines.Blank) id query lawful is = absurd (cc is)
+asked_right program now (Ok (lines.Simulate request)) id query lawful is = absurd (cc is)
+asked_right program now (Ok lines.Stop) id query lawful is = absurd (cc is)
+asked_right program now (Err fault) id query lawful is = absurd (cc is)
+
+live_right : (program : Program) → ReadsLawfully program → (past : List MarkedRow) (id : ℕ) (query : Query) → live_at program past id ≡ Some query → IsLawfulQuery query
+live_right program reads [] id query is = absurd (cc is)
+live_right program reads (row ∷ past) id query is = elim (told_or_before (refusal_after program past row) (asked_by program (after program past) (reading program row) id) (live_at program past id) query is) [
+  | inl told ↦ asked_right program (after program past) (reading program row) id query (row_lawful program reads row) told
+  | inr before ↦ live_right program reads past id query before
+]
+
+pub queries_are_lawful : (program : Program) → ReadsLawfully program → QueriesAreLawful program
+queries_are_lawful program reads past id query is = live_right program reads past id query (sym (live_by_the_last program past id) ∙ is)

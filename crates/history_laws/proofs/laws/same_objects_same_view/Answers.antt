@@ -1,0 +1,5 @@
+use Rattle.history_laws.proofs.Deliveries.{same_objects_same_view}
+use Rattle.history_laws.proofs.laws.same_objects_same_view.Goals as goal
+
+pub returns : goal.returns
+returns c program = same_objects_same_view program c.messages_fold.ensures

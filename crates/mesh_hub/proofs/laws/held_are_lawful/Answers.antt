@@ -1,6 +1,0 @@
-use Rattle.mesh_hub.proofs.Held.{held_are_lawful}
-use Rattle.mesh_hub.specs.Program.{replay_of}
-use Rattle.mesh_hub.proofs.laws.held_are_lawful.Goals as goal
-
-pub returns : goal.returns
-returns c config limits pat = held_are_lawful (replay_of config limits pat) (c.lines_are_lawful.ensures.texts config)

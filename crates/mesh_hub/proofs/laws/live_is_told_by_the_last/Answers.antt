@@ -1,5 +1,0 @@
-use Rattle.mesh_hub.proofs.Lives.{live_by_the_last}
-use Rattle.mesh_hub.proofs.laws.live_is_told_by_the_last.Goals as goal
-
-pub returns : goal.returns
-returns c = live_by_the_last

@@ -1,5 +1,0 @@
-use Rattle.mesh_hub.proofs.Lives.{last_is_greatest}
-use Rattle.mesh_hub.proofs.laws.the_last_id_is_the_greatest.Goals as goal
-
-pub returns : goal.returns
-returns c = last_is_greatest

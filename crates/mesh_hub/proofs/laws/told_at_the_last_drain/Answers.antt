@@ -1,5 +1,0 @@
-use Rattle.mesh_hub.proofs.Told.{told_at_last_drain}
-use Rattle.mesh_hub.proofs.laws.told_at_the_last_drain.Goals as goal
-
-pub returns : goal.returns
-returns c = told_at_last_drain

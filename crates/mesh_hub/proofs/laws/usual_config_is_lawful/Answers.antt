@@ -1,5 +1,0 @@
-use Rattle.mesh_hub.proofs.Sendable.{usual_is_lawful}
-use Rattle.mesh_hub.proofs.laws.usual_config_is_lawful.Goals as goal
-
-pub returns : goal.returns
-returns c = usual_is_lawful
