@@ -1,0 +1,14 @@
+pub mod FedLines
+pub mod Batches
+pub mod LinkStates
+pub mod Turns
+pub mod Traces
+pub mod LinkErasure
+pub mod Due
+pub mod LinkFailures
+pub mod Outboxes
+pub mod WrittenBytes
+pub mod OwedBytes
+pub mod LinkOrder
+pub mod TraceExtension
+pub mod Hubs

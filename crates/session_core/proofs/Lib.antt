@@ -1,0 +1,9 @@
+pub mod PhaseLaws
+pub mod Rows
+pub mod CutPieces
+pub mod RowCuts
+pub mod FeedLines
+pub mod StateSteps
+pub mod OutboxItems
+pub mod PieceAnswers
+pub mod WorkedRows

@@ -1,0 +1,10 @@
+pub mod Paths
+pub mod Lines
+pub mod Phases
+pub mod Pieces
+pub mod Laws
+pub mod Feeds
+pub mod Requests
+pub mod States
+pub mod Outboxes
+pub mod Sessions
