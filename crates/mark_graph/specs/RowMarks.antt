@@ -1,8 +1,10 @@
 -- The marks that rows watch: kept for each row, and for each mark the other way round.
-use Rattle.std.specs.Prelude.{ℕ, Bool, false, nat_eq, List, Option, Some, None}
+use Rattle.std.specs.Prelude.{◌≡◌, ◌&&◌, ◌||◌, if◌then◌else◌, not, ℕ, Bool, false, nat_eq, List, Option, Some, None}
 use Rattle.std.specs.List.{list_any}
 use Rattle.std.specs.BTreeMap as tree
 use Rattle.std.specs.BTreeMap.{BTreeMap}
+use Rattle.std.specs.BTreeSet as sorted
+use Rattle.std.specs.BTreeSet.{BTreeSet}
 use Rattle.std.specs.Ordering.{eq_by_cmp, nat_cmp}
 use Rattle.std.specs.declared.cmp.Ordering.{Ordering}
 use Rattle.std.specs.declared.vec.Vec.{Vec}
@@ -14,6 +16,10 @@ has_row row rows = list_any (nat_eq row) rows
 abbrev pub some_row : {Z : Type 0} → ℕ → Option (Vec ℕ Z) → Bool
 some_row row None = false
 some_row row (Some rows) = has_row row rows.items
+
+-- the rows of the set new are those of old and those that are added
+abbrev pub Gathers : (ℕ → Bool) → BTreeSet ℕ → BTreeSet ℕ → Type 0
+Gathers added old new = (r : ℕ) → sorted.contains nat_cmp new r ≡ (added r || sorted.contains nat_cmp old r)
 
 module _ {M : Type 0} (cmp : M → M → Ordering) where
   -- a list of marks contains the mark
@@ -31,3 +37,19 @@ module _ {M : Type 0} (cmp : M → M → Ordering) where
   -- the row watches the mark
   abbrev pub watches : BTreeMap ℕ (List M) → ℕ → M → Bool
   watches rows row mark = some_mark (tree.get nat_cmp rows row) mark
+
+  -- the row is added at the marks of the set, and else each row stands where it stood
+  abbrev pub AddsRow : {Y Z : Type 0} → (M → Bool) → ℕ → BTreeMap M (Vec ℕ Y) → BTreeMap M (Vec ℕ Z) → Type 0
+  AddsRow set row old new = (m : M) (r : ℕ) → row_at new m r ≡ ((set m && nat_eq r row) || row_at old m r)
+
+  -- the row is removed from the marks of the set, and else each row stands where it stood
+  abbrev pub RemovesRow : {Y Z : Type 0} → (M → Bool) → ℕ → BTreeMap M (Vec ℕ Y) → BTreeMap M (Vec ℕ Z) → Type 0
+  RemovesRow set row old new = (m : M) (r : ℕ) → row_at new m r ≡ (not (set m && nat_eq r row) && row_at old m r)
+
+  -- the row watches the marks of the set alone, and each other row what it watched
+  abbrev pub Rewatches : (M → Bool) → ℕ → BTreeMap ℕ (List M) → BTreeMap ℕ (List M) → Type 0
+  Rewatches set row old new = (r : ℕ) (m : M) → watches new r m ≡ (if nat_eq r row then set m else watches old r m)
+
+  -- a row stands at a mark exactly where it watches it
+  abbrev pub Agree : {Z : Type 0} → BTreeMap M (Vec ℕ Z) → BTreeMap ℕ (List M) → Type 0
+  Agree by_mark rows = (m : M) (r : ℕ) → row_at by_mark m r ≡ watches rows r m

@@ -1,10 +1,9 @@
 // The rows at each mark.
-ghost use Rattle.std.specs.Prelude.{◌≡◌, ◌&&◌, ◌||◌, not, nat_eq, ℕ, IfOk, OnOk};
+ghost use Rattle.std.specs.Prelude.{◌≡◌, not, nat_eq, IfOk, OnOk};
 ghost use Rattle.std.specs.List.{filter, list_any};
 ghost use Rattle.std.specs.List.Sorted.{IsStrictlySortedBy};
-ghost use Rattle.std.specs.BTreeSet as sorted;
 ghost use Rattle.std.specs.Ordering.{eq_by_cmp, nat_cmp};
-ghost use Rattle.mark_graph.specs.RowMarks.{has_row, has_mark, row_at};
+ghost use Rattle.mark_graph.specs.RowMarks.{AddsRow, Gathers, RemovesRow, has_mark, has_row, row_at};
 
 use mesh_base::copied::Copied;
 use mesh_base::list::List;
@@ -19,7 +18,7 @@ pub fn put_one<M: Ord + Copied>(
     mark: &M,
     row: u64,
 ) -> Result<(), Memory>
-    ensures { OnOk result ((m : M) (r : ℕ) → row_at M.cmp by.new m r ≡ ((eq_by_cmp M.cmp mark.now m && nat_eq r row) || row_at M.cmp by.old m r)) }
+    ensures { OnOk result (AddsRow M.cmp (eq_by_cmp M.cmp mark.now) row by.old by.new) }
 {
     match by.get_mut(mark) {
         Some(rows) => {
@@ -36,7 +35,7 @@ pub fn put_one<M: Ord + Copied>(
 
 /// Removes a row from a mark.
 pub fn take_one<M: Ord + Copied>(by: &mut BTreeMap<M, Vec<u64>>, mark: &M, row: u64)
-    ensures { (m : M) (r : ℕ) → row_at M.cmp by.new m r ≡ (not (eq_by_cmp M.cmp mark.now m && nat_eq r row) && row_at M.cmp by.old m r) }
+    ensures { RemovesRow M.cmp (eq_by_cmp M.cmp mark.now) row by.old by.new }
 {
     if let Some(rows) = by.get_mut(mark) {
         take_row(rows, row);
@@ -56,7 +55,7 @@ pub fn put_all<M: Ord + Copied>(
     marks: &[M],
     row: u64,
 ) -> Result<(), Memory>
-    ensures { OnOk result ((m : M) (r : ℕ) → row_at M.cmp by.new m r ≡ ((has_mark M.cmp marks.now m && nat_eq r row) || row_at M.cmp by.old m r)) }
+    ensures { OnOk result (AddsRow M.cmp (has_mark M.cmp marks.now) row by.old by.new) }
 {
     for mark in marks {
         put_one(alloc, by, mark, row)?;
@@ -66,7 +65,7 @@ pub fn put_all<M: Ord + Copied>(
 
 /// Removes a row from each mark.
 pub fn take_all<M: Ord + Copied>(by: &mut BTreeMap<M, Vec<u64>>, marks: &[M], row: u64)
-    ensures { (m : M) (r : ℕ) → row_at M.cmp by.new m r ≡ (not (has_mark M.cmp marks.now m && nat_eq r row) && row_at M.cmp by.old m r) }
+    ensures { RemovesRow M.cmp (has_mark M.cmp marks.now) row by.old by.new }
 {
     for mark in marks {
         take_one(by, mark, row);
@@ -79,7 +78,7 @@ pub fn gather_all<M: Ord + Copied>(
     marks: &[M],
     set: &mut BTreeSet<u64>,
 ) -> Result<(), Memory>
-    ensures { OnOk result ((r : ℕ) → sorted.contains nat_cmp set.new r ≡ (list_any (λ m. row_at M.cmp by.now m r) marks.now || sorted.contains nat_cmp set.old r)) }
+    ensures { OnOk result (Gathers (λ r. list_any (λ m. row_at M.cmp by.now m r) marks.now) set.old set.new) }
 {
     for mark in marks {
         gather_one(by, mark, set)?;
@@ -92,7 +91,7 @@ fn gather_one<M: Ord + Copied>(
     mark: &M,
     set: &mut BTreeSet<u64>,
 ) -> Result<(), Memory>
-    ensures { OnOk result ((r : ℕ) → sorted.contains nat_cmp set.new r ≡ (row_at M.cmp by.now mark.now r || sorted.contains nat_cmp set.old r)) }
+    ensures { OnOk result (Gathers (row_at M.cmp by.now mark.now) set.old set.new) }
 {
     match by.get(mark) {
         Some(rows) => add_rows(set, rows.as_slice()),
@@ -101,7 +100,7 @@ fn gather_one<M: Ord + Copied>(
 }
 
 fn add_rows(set: &mut BTreeSet<u64>, rows: &[u64]) -> Result<(), Memory>
-    ensures { OnOk result ((r : ℕ) → sorted.contains nat_cmp set.new r ≡ (has_row r rows.now || sorted.contains nat_cmp set.old r)) }
+    ensures { OnOk result (Gathers (λ r. has_row r rows.now) set.old set.new) }
 {
     for row in rows {
         set.insert(*row)?;

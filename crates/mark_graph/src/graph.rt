@@ -1,9 +1,9 @@
 // A graph of rows and marks.
-ghost use Rattle.std.specs.Prelude.{◌≡◌, ◌&&◌, ◌||◌, if◌then◌else◌, nat_eq, ℕ, true, false, IsErr, IfOk, OnOk};
+ghost use Rattle.std.specs.Prelude.{◌≡◌, ℕ, true, false, IsErr, IfOk, OnOk};
 ghost use Rattle.std.specs.List.{list_any};
 ghost use Rattle.std.specs.List.Sorted.{IsStrictlySortedBy};
 ghost use Rattle.std.specs.Ordering.{nat_cmp};
-ghost use Rattle.mark_graph.specs.RowMarks.{has_mark, has_row, row_at, some_mark, watches};
+ghost use Rattle.mark_graph.specs.RowMarks.{Agree, Rewatches, has_mark, has_row, watches};
 
 use crate::by_mark::{gather_all, list_of, put_all, take_all};
 use mesh_base::copied::Copied;
@@ -18,7 +18,7 @@ pub struct Graph<M: Ord + Copied> {
     rows: BTreeMap<u64, List<M>>,
     spent: bool,
     alloc: Global,
-    ghost agree: { spent ≡ false → (m : M) (r : ℕ) → row_at M.cmp by_mark m r ≡ watches M.cmp rows r m },
+    ghost agree: { spent ≡ false → Agree M.cmp by_mark rows },
 }
 
 impl<M: Ord + Copied> Graph<M> {
@@ -37,7 +37,7 @@ impl<M: Ord + Copied> Graph<M> {
 
     /// Lets the row watch these marks, and no others. After Memory the graph is spent.
     pub fn watch(&mut self, row: u64, marks: List<M>) -> Result<(), Memory>
-        ensures watched { OnOk result ((r : ℕ) (m : M) → watches M.cmp self.new.rows r m ≡ (if nat_eq r row then has_mark M.cmp marks m else watches M.cmp self.old.rows r m)) }
+        ensures watched { OnOk result (Rewatches M.cmp (has_mark M.cmp marks) row self.old.rows self.new.rows) }
         ensures going { OnOk result (self.new.spent ≡ false) }
         ensures spent { IsErr result → self.new.spent ≡ true }
         ensures was_spent { self.old.spent ≡ true → IsErr result }
@@ -55,7 +55,7 @@ impl<M: Ord + Copied> Graph<M> {
 
     /// Lets the row watch nothing.
     pub fn unwatch(&mut self, row: u64)
-        ensures watched { (r : ℕ) (m : M) → watches M.cmp self.new.rows r m ≡ (if nat_eq r row then false else watches M.cmp self.old.rows r m) }
+        ensures watched { Rewatches M.cmp (λ m. false) row self.old.rows self.new.rows }
         ensures spent { self.new.spent ≡ self.old.spent }
     {
         remove_row(&mut self.by_mark, &mut self.rows, row);
@@ -81,8 +81,8 @@ fn remove_row<M: Ord + Copied>(
     rows: &mut BTreeMap<u64, List<M>>,
     row: u64,
 )
-    ensures watched { (r : ℕ) (m : M) → watches M.cmp rows.new r m ≡ (if nat_eq r row then false else watches M.cmp rows.old r m) }
-    ensures agree { ((m : M) (r : ℕ) → row_at M.cmp by.old m r ≡ watches M.cmp rows.old r m) → (m : M) (r : ℕ) → row_at M.cmp by.new m r ≡ watches M.cmp rows.new r m }
+    ensures watched { Rewatches M.cmp (λ m. false) row rows.old rows.new }
+    ensures agree { Agree M.cmp by.old rows.old → Agree M.cmp by.new rows.new }
 {
     if let Some(marks) = rows.remove(&row) {
         take_all(by, marks.as_slice(), row);
