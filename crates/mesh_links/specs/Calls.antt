@@ -1,5 +1,5 @@
 -- The trace of calls on links, and what it tells of them.
-use Rattle.std.specs.Prelude.{◌<◌, ℕ, ◌==◌, Bool, false, ◌||◌, List, [], ◌∷◌, ◌++◌, Option, Some, None, Result, Ok, Err, if◌then◌else◌, max, take}
+use Rattle.std.specs.Prelude.{◌≡◌, ◌<◌, ℕ, ◌==◌, Bool, false, ◌||◌, List, [], ◌∷◌, ◌++◌, Option, Some, None, Result, Ok, Err, if◌then◌else◌, max, take}
 use Rattle.mesh_links.specs.declared.call.LinkCall.{LinkCall}
 use Rattle.mesh_links.specs.declared.call.LinkCall.TheVariants as calls
 use Rattle.mesh_links.specs.declared.call.LinkEvent.{LinkEvent}
@@ -15,6 +15,10 @@ use Rattle.mesh_links.specs.declared.links.PollFault.TheVariants as polls
 abbrev pub with_call : List LinkCall → Option LinkCall → List LinkCall
 with_call trace None = trace
 with_call trace (Some call) = trace ++ call ∷ []
+
+-- where the trace was told before, it is told now, with the call that was made
+abbrev pub Continues : Option (List LinkCall) → Option (List LinkCall) → (List LinkCall → Option LinkCall) → Type 0
+Continues old new made = (trace : List LinkCall) → old ≡ Some trace → new ≡ Some (with_call trace (made trace))
 
 -- ---- the call that was made, by its answer
 
