@@ -35,8 +35,8 @@ at_stop ReadFault X other more holds = holds
 at_stop WriteFault X other more holds = holds
 at_stop InputTooLong X other more holds = holds
 
-pub memory_cause : {T : Type 0} (before now : ℕ) → before ≤ now → FailsByCause {T = T} before now (Err NoMemory)
-memory_cause before now later = record { later = later; failed = λ e. absurd cc }
+pub memory_cause : {T : Type 0} (before now : ℕ) → before ≤ now → now ≡ before → FailsByCause {T = T} before now (Err NoMemory)
+memory_cause before now later same = record { later = later; failed = λ e. absurd cc; other = λ is. same }
 
 module _ (n lines : ℕ) (text : List ℕ) (small : length text < 2 ^ 64) where
   abbrev told : List ℕ

@@ -38,9 +38,11 @@ struct Counting {
 impl LineMachine for Counting {
     ghost use Rattle.cluster_sample.specs.Stand.{Ended, Stands};
 
-    ghost stands = { λ start now past text refused. Stands start.n start.lines now.n now.lines now.counts past text };
+    ghost stands = { λ start now past text refused. Stands start.n start.lines now.n now.lines
+        now.counts past text };
 
-    ghost ending = { λ start now past text refused. Stands start.n start.lines now.n now.lines now.counts past text };
+    ghost ending = { λ start now past text refused. Stands start.n start.lines now.n now.lines
+        now.counts past text };
 
     ghost ended = { λ start now past text refused. Ended start.n start.lines past text };
 
@@ -83,8 +85,11 @@ pub(crate) fn write_counts<K: Sink>(
     out: &mut K,
 ) -> Result<(), SinkFault>
     requires { length text.now < 2 ^ 64 }
-    ensures whole { OnOk result (Appends (K.held out.old) (K.held out.new) (sample_text n lines (counts_of (lines_of text.now)))) }
-    ensures front { OnErr result ((rest : List ℕ) × Moves (sample_text n lines (counts_of (lines_of text.now))) rest (K.held out.old) (K.held out.new)) }
+    ensures whole { OnOk result (Appends (K.held out.old) (K.held out.new)
+        (sample_text n lines (counts_of (lines_of text.now)))) }
+    ensures front { OnErr result ((rest : List ℕ)
+        × Moves (sample_text n lines (counts_of (lines_of text.now))) rest (K.held out.old)
+        (K.held out.new)) }
     ensures cause { FailsByCause (K.faults out.old) (K.faults out.new) result }
 {
     // No text in memory is longer, so all of it is counted.

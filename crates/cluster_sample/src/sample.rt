@@ -31,26 +31,33 @@ pub fn sample<H: Machine, K: Sink, P: Patterns>(
     requires { 1 ≤ limits.now.frame_addrs }
 
     // The lines were replayed to their end: the counts of what a replay writes were written, and a line was refused or none.
-    ensures output { OnEnd result (WritesSample config.now limits.now (known_over P.Patterns patterns.old patterns.new)
+    ensures output { OnEnd result (WritesSample config.now limits.now
+        (known_over P.Patterns patterns.old patterns.new)
         (H.state hub.old) (H.replies hub.old) (H.replies hub.new) n (K.held out.old) (K.held out.new)) }
 
     // Else it is nothing, or a front of them.
-    ensures front { OnStop result (WritesSampleFront config.now limits.now (known_over P.Patterns patterns.old patterns.new)
+    ensures front { OnStop result (WritesSampleFront config.now limits.now
+        (known_over P.Patterns patterns.old patterns.new)
         (H.state hub.old) (H.replies hub.old) (H.replies hub.new) n (K.held out.old) (K.held out.new)) }
 
     // The machine then stands where the lines lead.
-    ensures state { OnEnd result (λ refused. StandsAtEnd config.now limits.now (H.state hub.old) (H.state hub.new) (Some (generated n))) }
+    ensures state { OnEnd result (λ refused.
+        StandsAtEnd config.now limits.now (H.state hub.old) (H.state hub.new)
+        (Some (generated n))) }
 
-    // No count falls.
+    // No count falls, and each fault is told by its status.
     ensures later { P.refusals patterns.old ≤ P.refusals patterns.new }
     ensures write_later { K.faults out.old ≤ K.faults out.new }
+    ensures write_told { result ≢ Status.WriteFault → K.faults out.new ≡ K.faults out.old }
 
     // When each status comes.
     ensures read { result ≢ Status.ReadFault }
     ensures write { result ≡ Status.WriteFault → Rose (K.faults out.old) (K.faults out.new) }
     ensures long { result ≡ Status.InputTooLong → limits.now.input ≤ length (generated n) }
-    ensures complete { Unrisen (K.faults out.old) (K.faults out.new) → length (generated n) < limits.now.input → IsAnswered result }
-    ensures too_long { Unrisen (K.faults out.old) (K.faults out.new) → limits.now.input ≤ length (generated n) → IsTooLong result }
+    ensures complete { Unrisen (K.faults out.old) (K.faults out.new)
+        → length (generated n) < limits.now.input → IsAnswered result }
+    ensures too_long { Unrisen (K.faults out.old) (K.faults out.new)
+        → limits.now.input ≤ length (generated n) → IsTooLong result }
     ensures usage { result ≢ Status.Usage }
 {
     let Ok(lines) = generate(alloc, n) else {

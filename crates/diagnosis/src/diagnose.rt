@@ -27,23 +27,32 @@ pub fn diagnose<S: Source, K: Sink>(
     requires { 1 ≤ limits.now.frame_addrs }
 
     // Read to the end: what was written is the defined text, and a line was refused or none.
-    ensures output { OnEnd result (WritesDiagnosed config.now limits.now id.0 query.now (S.left input.old) (K.held out.old) (K.held out.new)) }
+    ensures output { OnEnd result (WritesDiagnosed config.now limits.now id.0 query.now
+        (S.left input.old) (K.held out.old) (K.held out.new)) }
 
     // Else it is a front of the defined text.
-    ensures front { OnStop result (WritesDiagnosedFront config.now limits.now id.0 query.now (S.left input.old) (K.held out.old) (K.held out.new)) }
+    ensures front { OnStop result (WritesDiagnosedFront config.now limits.now id.0 query.now
+        (S.left input.old) (K.held out.old) (K.held out.new)) }
 
     // When each status comes.
     ensures read { result ≡ Status.ReadFault → Rose (S.faults input.old) (S.faults input.new) }
     ensures write { result ≡ Status.WriteFault → Rose (K.faults out.old) (K.faults out.new) }
     ensures long { result ≡ Status.InputTooLong → TookLimit limits.now.input (S.left input.old) }
-    ensures complete { Unrisen (S.faults input.old) (S.faults input.new) → Unrisen (K.faults out.old) (K.faults out.new)
-        → (bytes : List ℕ) → S.left input.old ≡ Some bytes → length bytes < limits.now.input → IsAnswered result }
-    ensures too_long { Unrisen (S.faults input.old) (S.faults input.new) → Unrisen (K.faults out.old) (K.faults out.new)
-        → (bytes : List ℕ) → S.left input.old ≡ Some bytes → limits.now.input ≤ length bytes → IsTooLong result }
+    ensures complete { Unrisen (S.faults input.old) (S.faults input.new)
+        → Unrisen (K.faults out.old) (K.faults out.new)
+        → (bytes : List ℕ) → S.left input.old ≡ Some bytes → length bytes < limits.now.input
+        → IsAnswered result }
+    ensures too_long { Unrisen (S.faults input.old) (S.faults input.new)
+        → Unrisen (K.faults out.old) (K.faults out.new)
+        → (bytes : List ℕ) → S.left input.old ≡ Some bytes → limits.now.input ≤ length bytes
+        → IsTooLong result }
     ensures usage { result ≢ Status.Usage }
 
+    // No count falls, and each fault is told by its status.
     ensures read_later { S.faults input.old ≤ S.faults input.new }
     ensures write_later { K.faults out.old ≤ K.faults out.new }
+    ensures read_told { result ≢ Status.ReadFault → S.faults input.new ≡ S.faults input.old }
+    ensures write_told { result ≢ Status.WriteFault → K.faults out.new ≡ K.faults out.old }
 {
     let mut machine = Diagnosing {
         alloc,

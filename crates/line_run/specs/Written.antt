@@ -1,5 +1,5 @@
 -- What a write of several bytes comes to.
-use Rattle.std.specs.Prelude.{◌≡◌, ◌≤◌, ℕ, List, ◌++◌, Result, IsErrOf}
+use Rattle.std.specs.Prelude.{◌≡◌, ◌≢◌, ◌≤◌, ℕ, List, ◌++◌, Result, Err, IsErrOf}
 use Rattle.std.specs.declared.option.Option.{Option}
 use Rattle.std.specs.Io.KnownBytes.{Appends}
 use Rattle.mesh_outside.specs.Causes.{Rose}
@@ -10,7 +10,8 @@ use Rattle.mesh_outside.specs.declared.sink.SinkFault.TheVariants.{Failed}
 abbrev pub Moves : List ℕ → List ℕ → Option (List ℕ) → Option (List ℕ) → Type 0
 Moves bytes rest held held_new = (front : List ℕ) × (bytes ≡ front ++ rest) × Appends held held_new front
 
--- the count of faults doesn't fall, and `Failed` is answered only where it rose
+-- The count of faults doesn't fall. `Failed` is answered only where it rose, and it stays where that isn't answered.
 pub record FailsByCause {T : Type 0} (before now : ℕ) (result : Result T SinkFault) : Type 0 where
   pub later : before ≤ now
   pub failed : IsErrOf result Failed → Rose before now
+  pub other : result ≢ Err Failed → now ≡ before

@@ -41,9 +41,11 @@ impl Feeder {
     fn tell<M: LineMachine>(&mut self, limit: u64, machine: &mut M) -> Result<(), AllocError>
         requires { self.old.lines + 1 < 2 ^ 64 }
         ensures lines { self.new.lines ≡ self.old.lines + 1 }
-        ensures stands { OnOk result ((start : M) (past : List Row) (sent : List ℕ) → self.old.lines ≡ length past
+        ensures stands { OnOk result ((start : M) (past : List Row) (sent : List ℕ)
+            → self.old.lines ≡ length past
             → M.stands start machine.old past (sent ++ self.old.out.items) self.old.refused
-            → M.stands start machine.new (row_of limit self.old.cutter.part.items ∷ past) (sent ++ self.new.out.items) self.new.refused) }
+            → M.stands start machine.new (row_of limit self.old.cutter.part.items ∷ past)
+            (sent ++ self.new.out.items) self.new.refused) }
         ensures keeps { M.keeps machine.old machine.new }
     {
         self.lines += 1;
@@ -63,12 +65,17 @@ impl Feeder {
         requires { self.old.lines + 1 < 2 ^ 64 }
         ensures lines { self.new.lines ≡ self.old.lines + 1 }
         ensures part { OnOk result (self.new.cutter.part.items ≡ []) }
-        ensures stands { OnOk result ((start : M) (held : Option (List ℕ)) (past : List Row) → self.old.lines ≡ length past
+        ensures stands { OnOk result ((start : M) (held : Option (List ℕ)) (past : List Row)
+            → self.old.lines ≡ length past
             → Says (M.stands start) held past (now_of machine.old (K.held sink.old) self.old)
-            → Says (M.stands start) held (row_of limit self.old.cutter.part.items ∷ past) (now_of machine.new (K.held sink.new) self.new)) }
-        ensures stopped { OnErr result ((start : M) (held : Option (List ℕ)) (past rest : List Row) → self.old.lines ≡ length past
+            → Says (M.stands start) held (row_of limit self.old.cutter.part.items ∷ past)
+            (now_of machine.new (K.held sink.new) self.new)) }
+        ensures stopped { OnErr result ((start : M) (held : Option (List ℕ)) (past rest : List Row)
+            → self.old.lines ≡ length past
             → Says (M.stands start) held past (now_of machine.old (K.held sink.old) self.old)
-            → Stopped (M.stands start) (M.ending start) (M.ended start) (λ there. M.keeps there machine.new) held (K.held sink.new) (past_from past (row_of limit self.old.cutter.part.items ∷ rest))) }
+            → Stopped (M.stands start) (M.ending start) (M.ended start)
+            (λ there. M.keeps there machine.new) held (K.held sink.new)
+            (past_from past (row_of limit self.old.cutter.part.items ∷ rest))) }
         ensures keeps { M.keeps machine.old machine.new }
         ensures cause { FailsByCause (K.faults sink.old) (K.faults sink.new) result }
     {
@@ -93,11 +100,16 @@ impl Feeder {
         ensures lines { self.new.lines ≤ self.old.lines + length block.now }
         ensures part { OnOk result (NoBreak self.new.cutter.part.items) }
         ensures come { OnOk result ((start : M) (held : Option (List ℕ)) (taken : List ℕ)
-            → Come (M.stands start) limit held taken self.old.cutter.part.items (now_of machine.old (K.held sink.old) self.old)
-            → Come (M.stands start) limit held (taken ++ block.now) self.new.cutter.part.items (now_of machine.new (K.held sink.new) self.new)) }
+            → Come (M.stands start) limit held taken self.old.cutter.part.items
+            (now_of machine.old (K.held sink.old) self.old)
+            → Come (M.stands start) limit held (taken ++ block.now) self.new.cutter.part.items
+            (now_of machine.new (K.held sink.new) self.new)) }
         ensures stopped { OnErr result ((start : M) (held : Option (List ℕ)) (taken more : List ℕ)
-            → Come (M.stands start) limit held taken self.old.cutter.part.items (now_of machine.old (K.held sink.old) self.old)
-            → Stopped (M.stands start) (M.ending start) (M.ended start) (λ there. M.keeps there machine.new) held (K.held sink.new) (past_of limit ((taken ++ block.now) ++ more))) }
+            → Come (M.stands start) limit held taken self.old.cutter.part.items
+            (now_of machine.old (K.held sink.old) self.old)
+            → Stopped (M.stands start) (M.ending start) (M.ended start)
+            (λ there. M.keeps there machine.new) held (K.held sink.new)
+            (past_of limit ((taken ++ block.now) ++ more))) }
         ensures keeps { M.keeps machine.old machine.new }
         ensures cause { FailsByCause (K.faults sink.old) (K.faults sink.new) result }
     {
@@ -124,11 +136,15 @@ impl Feeder {
         requires part { NoBreak self.old.cutter.part.items }
         requires room { self.old.lines + 1 < 2 ^ 64 }
         ensures stands { OnOk result ((start : M) (held : Option (List ℕ)) (taken : List ℕ)
-            → Come (M.stands start) limit held taken self.old.cutter.part.items (now_of machine.old (K.held sink.old) self.old)
-            → Says (M.stands start) held (past_of limit taken) (now_of machine.new (K.held sink.new) self.new)) }
+            → Come (M.stands start) limit held taken self.old.cutter.part.items
+            (now_of machine.old (K.held sink.old) self.old)
+            → Says (M.stands start) held (past_of limit taken)
+            (now_of machine.new (K.held sink.new) self.new)) }
         ensures stopped { OnErr result ((start : M) (held : Option (List ℕ)) (taken : List ℕ)
-            → Come (M.stands start) limit held taken self.old.cutter.part.items (now_of machine.old (K.held sink.old) self.old)
-            → Stopped (M.stands start) (M.ending start) (M.ended start) (λ there. M.keeps there machine.new) held (K.held sink.new) (past_of limit taken)) }
+            → Come (M.stands start) limit held taken self.old.cutter.part.items
+            (now_of machine.old (K.held sink.old) self.old)
+            → Stopped (M.stands start) (M.ending start) (M.ended start)
+            (λ there. M.keeps there machine.new) held (K.held sink.new) (past_of limit taken)) }
         ensures keeps { M.keeps machine.old machine.new }
         ensures cause { FailsByCause (K.faults sink.old) (K.faults sink.new) result }
     {
@@ -152,7 +168,8 @@ impl Feeder {
             → Says (M.ended start) held past (now_of machine.new (K.held sink.new) self.new) }
         ensures stopped { OnErr result ((start : M) (held : Option (List ℕ)) (past : List Row)
             → Says (M.ending start) held past (now_of machine.old (K.held sink.old) self.old)
-            → Stopped (M.stands start) (M.ending start) (M.ended start) (λ there. M.keeps there machine.new) held (K.held sink.new) past) }
+            → Stopped (M.stands start) (M.ending start) (M.ended start)
+            (λ there. M.keeps there machine.new) held (K.held sink.new) past) }
         ensures fewer { result ≡ Ok true → M.pieces_left machine.new < M.pieces_left machine.old }
         ensures keeps { M.keeps machine.old machine.new }
         ensures cause { FailsByCause (K.faults sink.old) (K.faults sink.new) result }
@@ -176,7 +193,8 @@ impl Feeder {
             → Says (M.ended start) held past (now_of machine.new (K.held sink.new) self.new)) }
         ensures stopped { OnErr result ((start : M) (held : Option (List ℕ)) (past : List Row)
             → Says (M.ending start) held past (now_of machine.old (K.held sink.old) self.old)
-            → Stopped (M.stands start) (M.ending start) (M.ended start) (λ there. M.keeps there machine.new) held (K.held sink.new) past) }
+            → Stopped (M.stands start) (M.ending start) (M.ended start)
+            (λ there. M.keeps there machine.new) held (K.held sink.new) past) }
         ensures keeps { M.keeps machine.old machine.new }
         ensures cause { FailsByCause (K.faults sink.old) (K.faults sink.new) result }
     {
@@ -196,11 +214,15 @@ impl Feeder {
         requires room { self.old.lines + 1 < 2 ^ 64 }
         ensures out { OnOk result (self.new.out.items ≡ []) }
         ensures ended { OnOk result ((start : M) (held : Option (List ℕ)) (taken : List ℕ)
-            → Come (M.stands start) limit held taken self.old.cutter.part.items (now_of machine.old (K.held sink.old) self.old)
-            → Says (M.ended start) held (past_of limit taken) (now_of machine.new (K.held sink.new) self.new)) }
+            → Come (M.stands start) limit held taken self.old.cutter.part.items
+            (now_of machine.old (K.held sink.old) self.old)
+            → Says (M.ended start) held (past_of limit taken)
+            (now_of machine.new (K.held sink.new) self.new)) }
         ensures stopped { OnErr result ((start : M) (held : Option (List ℕ)) (taken : List ℕ)
-            → Come (M.stands start) limit held taken self.old.cutter.part.items (now_of machine.old (K.held sink.old) self.old)
-            → Stopped (M.stands start) (M.ending start) (M.ended start) (λ there. M.keeps there machine.new) held (K.held sink.new) (past_of limit taken)) }
+            → Come (M.stands start) limit held taken self.old.cutter.part.items
+            (now_of machine.old (K.held sink.old) self.old)
+            → Stopped (M.stands start) (M.ending start) (M.ended start)
+            (λ there. M.keeps there machine.new) held (K.held sink.new) (past_of limit taken)) }
         ensures keeps { M.keeps machine.old machine.new }
         ensures cause { FailsByCause (K.faults sink.old) (K.faults sink.new) result }
     {

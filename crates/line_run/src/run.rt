@@ -27,7 +27,8 @@ fn read_front<S: Source>(source: &mut S, block: &mut [u8], most: usize) -> Resul
     requires some { 0 < most }
     requires room { most ≤ length block.old }
     ensures bound { IfOk result (λ n. n ≤ most) }
-    ensures bytes { IfOk result (λ n. Consumes (S.left source.old) (S.left source.new) (take n block.new)) }
+    ensures bytes { IfOk result (λ n. Consumes (S.left source.old) (S.left source.new)
+        (take n block.new)) }
     ensures end { IfOk result (λ n. n ≡ 0 → IsAtEnd (S.left source.new)) }
     ensures kept { OnErr result (Keeps (S.left source.old) (S.left source.new)) }
     ensures cause { HasCause (S.faults source.old) (S.faults source.new) result }
@@ -36,7 +37,9 @@ fn read_front<S: Source>(source: &mut S, block: &mut [u8], most: usize) -> Resul
 }
 
 fn status_of(fault: SinkFault) -> Status
-    ensures { ((result ≡ Status.WriteFault) × (fault ≡ SinkFault.Failed)) ⊎ (result ≡ Status.Memory) }
+    ensures cause { ((result ≡ Status.WriteFault) × (fault ≡ SinkFault.Failed))
+        ⊎ (result ≡ Status.Memory) }
+    ensures failed { fault ≡ SinkFault.Failed → result ≡ Status.WriteFault }
 {
     match fault {
         SinkFault::Failed => Status::WriteFault,
@@ -57,10 +60,14 @@ pub fn run_lines<M: LineMachine, S: Source, K: Sink>(
     requires { M.stands machine.old machine.old [] [] false }
 
     // Read to the end: what was written is what the machine says of all the rows, and whether a line was refused.
-    ensures whole { OnEnd result (λ refused. Whole (M.ended machine.old) limits.line limits.input (S.left source.old) (K.held sink.old) (K.held sink.new) machine.new refused) }
+    ensures whole { OnEnd result (λ refused.
+        Whole (M.ended machine.old) limits.line limits.input (S.left source.old) (K.held sink.old)
+        (K.held sink.new) machine.new refused) }
 
     // Else it is a front of that, and the machine there leads to the machine now.
-    ensures part { OnStop result (Part (M.stands machine.old) (M.ending machine.old) (M.ended machine.old) (λ there. M.keeps there machine.new) limits.line (S.left source.old) (K.held sink.old) (K.held sink.new)) }
+    ensures part { OnStop result (Part (M.stands machine.old) (M.ending machine.old)
+        (M.ended machine.old) (λ there. M.keeps there machine.new) limits.line (S.left source.old)
+        (K.held sink.old) (K.held sink.new)) }
 
     ensures keeps { M.keeps machine.old machine.new }
 
@@ -71,13 +78,20 @@ pub fn run_lines<M: LineMachine, S: Source, K: Sink>(
 
     // On ends that don't fail, an input below the limit is read to its end unless there is no memory, and a longer
     // one is too long.
-    ensures complete { Unrisen (S.faults source.old) (S.faults source.new) → Unrisen (K.faults sink.old) (K.faults sink.new)
-        → (bytes : List ℕ) → S.left source.old ≡ Some bytes → length bytes < limits.input → IsAnswered result }
-    ensures too_long { Unrisen (S.faults source.old) (S.faults source.new) → Unrisen (K.faults sink.old) (K.faults sink.new)
-        → (bytes : List ℕ) → S.left source.old ≡ Some bytes → limits.input ≤ length bytes → IsTooLong result }
+    ensures complete { Unrisen (S.faults source.old) (S.faults source.new)
+        → Unrisen (K.faults sink.old) (K.faults sink.new)
+        → (bytes : List ℕ) → S.left source.old ≡ Some bytes → length bytes < limits.input
+        → IsAnswered result }
+    ensures too_long { Unrisen (S.faults source.old) (S.faults source.new)
+        → Unrisen (K.faults sink.old) (K.faults sink.new)
+        → (bytes : List ℕ) → S.left source.old ≡ Some bytes → limits.input ≤ length bytes
+        → IsTooLong result }
 
+    // No count falls, and each fault is told by its status.
     ensures read_later { S.faults source.old ≤ S.faults source.new }
     ensures write_later { K.faults sink.old ≤ K.faults sink.new }
+    ensures read_told { result ≢ Status.ReadFault → S.faults source.new ≡ S.faults source.old }
+    ensures write_told { result ≢ Status.WriteFault → K.faults sink.new ≡ K.faults sink.old }
 {
     let mut feeder = Feeder::new(alloc);
     let Ok(mut store) = new_block(alloc) else {
@@ -116,15 +130,20 @@ fn end<M: LineMachine, K: Sink>(
     ensures refused { OnEnd result (λ refused. feeder.new.refused ≡ refused) }
     ensures out { OnEnd result (λ refused. feeder.new.out.items ≡ []) }
     ensures whole { OnEnd result (λ refused. (start : M) (held : Option (List ℕ)) (taken : List ℕ)
-        → Come (M.stands start) limit held taken feeder.old.cutter.part.items (now_of machine.old (K.held sink.old) feeder.old)
-        → Says (M.ended start) held (past_of limit taken) (now_of machine.new (K.held sink.new) feeder.new)) }
+        → Come (M.stands start) limit held taken feeder.old.cutter.part.items
+        (now_of machine.old (K.held sink.old) feeder.old)
+        → Says (M.ended start) held (past_of limit taken)
+        (now_of machine.new (K.held sink.new) feeder.new)) }
     ensures part { OnStop result ((start : M) (held : Option (List ℕ)) (taken : List ℕ)
-        → Come (M.stands start) limit held taken feeder.old.cutter.part.items (now_of machine.old (K.held sink.old) feeder.old)
-        → Stopped (M.stands start) (M.ending start) (M.ended start) (λ there. M.keeps there machine.new) held (K.held sink.new) (past_of limit taken)) }
+        → Come (M.stands start) limit held taken feeder.old.cutter.part.items
+        (now_of machine.old (K.held sink.old) feeder.old)
+        → Stopped (M.stands start) (M.ending start) (M.ended start)
+        (λ there. M.keeps there machine.new) held (K.held sink.new) (past_of limit taken)) }
     ensures keeps { M.keeps machine.old machine.new }
     ensures write { result ≡ Status.WriteFault → Rose (K.faults sink.old) (K.faults sink.new) }
     ensures others { (result ≢ Status.ReadFault) × (result ≢ Status.InputTooLong) }
     ensures write_later { K.faults sink.old ≤ K.faults sink.new }
+    ensures write_told { result ≢ Status.WriteFault → K.faults sink.new ≡ K.faults sink.old }
 {
     if let Err(fault) = feeder.finish(limit, machine, sink) {
         return status_of(fault);

@@ -29,7 +29,8 @@ pub fn write_all<K: Sink>(sink: &mut K, bytes: &[u8]) -> Result<(), SinkFault>
 pub(crate) fn flush<K: Sink>(out: &mut Vec<u8>, sink: &mut K) -> Result<(), SinkFault>
     ensures moved { OnOk result (Moves out.old.items out.new.items (K.held sink.old) (K.held sink.new)) }
     ensures none { OnOk result (out.new.items ≡ []) }
-    ensures front { OnErr result ((rest : List ℕ) × Moves out.old.items rest (K.held sink.old) (K.held sink.new)) }
+    ensures front { OnErr result ((rest : List ℕ)
+        × Moves out.old.items rest (K.held sink.old) (K.held sink.new)) }
     ensures cause { FailsByCause (K.faults sink.old) (K.faults sink.new) result }
 {
     write_all(sink, out)?;
@@ -40,7 +41,8 @@ pub(crate) fn flush<K: Sink>(out: &mut Vec<u8>, sink: &mut K) -> Result<(), Sink
 /// Writes what has gathered, once it is much.
 pub(crate) fn flush_much<K: Sink>(out: &mut Vec<u8>, sink: &mut K) -> Result<(), SinkFault>
     ensures moved { OnOk result (Moves out.old.items out.new.items (K.held sink.old) (K.held sink.new)) }
-    ensures front { OnErr result ((rest : List ℕ) × Moves out.old.items rest (K.held sink.old) (K.held sink.new)) }
+    ensures front { OnErr result ((rest : List ℕ)
+        × Moves out.old.items rest (K.held sink.old) (K.held sink.new)) }
     ensures cause { FailsByCause (K.faults sink.old) (K.faults sink.new) result }
 {
     if out.len() < GATHERED {

@@ -1,6 +1,11 @@
 -- What a call of the program comes to.
-use Rattle.std.specs.Prelude.{ℕ, Bool, List, Some, ⊤}
+use Rattle.std.specs.Prelude.{◌≡◌, ℕ, Bool, List, Some, ⊤}
 use Rattle.std.specs.declared.option.Option.{Option}
+use Rattle.mesh_base.specs.declared.sub_id.SubId.{SubId}
+use Rattle.view_types.specs.declared.config.Config.{Config}
+use Rattle.view_types.specs.declared.query.Method.{Method}
+use Rattle.view_types.specs.declared.query.Query.{Query}
+use Rattle.command_words.specs.Commands.{command_in}
 use Rattle.command_words.specs.declared.command.Command.{Command}
 use Rattle.command_words.specs.declared.command.Command.TheVariants.{Replay, Diagnose, Fold, Sample}
 use Rattle.gen_cluster.specs.Generated.{generated}
@@ -9,6 +14,26 @@ use Rattle.line_run.specs.declared.status.Status.{Status}
 use Rattle.line_run.specs.declared.status.Status.TheVariants as statuses
 use Rattle.linkerd_cli.specs.declared.top.Outcome.{Outcome}
 use Rattle.linkerd_cli.specs.declared.top.Outcome.TheVariants.{Ended}
+
+-- P of the command that the words ask for
+abbrev pub OfCommand : List (List ℕ) → (Command → Type 0) → Type 0
+OfCommand words P = (command : Command) → command_in words ≡ Some command → P command
+
+-- P of its configuration, where the words ask for a replay
+abbrev pub OfReplay : List (List ℕ) → (Config → Type 0) → Type 0
+OfReplay words P = (config : Config) → command_in words ≡ Some (Replay config) → P config
+
+-- P of the id, the query and the configuration, where the words ask for a diagnosis
+abbrev pub OfDiagnose : List (List ℕ) → (SubId → Query → Config → Type 0) → Type 0
+OfDiagnose words P = (id : SubId) (query : Query) (config : Config) → command_in words ≡ Some (Diagnose id query config) → P id query config
+
+-- P of the id and the method, where the words ask for a fold
+abbrev pub OfFold : List (List ℕ) → (SubId → Method → Type 0) → Type 0
+OfFold words P = (id : SubId) (method : Method) → command_in words ≡ Some (Fold id method) → P id method
+
+-- P of the number and the configuration, where the words ask for a sample
+abbrev pub OfSample : List (List ℕ) → (ℕ → Config → Type 0) → Type 0
+OfSample words P = (n : ℕ) (config : Config) → command_in words ≡ Some (Sample n config) → P n config
 
 -- P of the status with which the call ended
 abbrev pub EndsWith : Outcome → (Status → Type 0) → Type 0
@@ -34,3 +59,7 @@ abbrev pub IsUnread : Status → Type 0
 IsUnread statuses.Usage = ⊤
 IsUnread statuses.Memory = ⊤
 IsUnread _ = ⊥
+
+-- P of the bytes that a command reads, where they are known
+abbrev pub OfBytes : Command → Option (List ℕ) → (List ℕ → Type 0) → Type 0
+OfBytes command input P = (bytes : List ℕ) → read_by command input ≡ Some bytes → P bytes

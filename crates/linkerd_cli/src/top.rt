@@ -1,4 +1,4 @@
-ghost use Rattle.std.specs.Prelude.{◌≡◌, ◌≢◌, ◌≤◌, ◌<◌, ℕ, IsSome, List, None, Some, length};
+ghost use Rattle.std.specs.Prelude.{◌≡◌, ◌≢◌, ◌≤◌, ◌<◌, IsSome, None, Some, length};
 ghost use Rattle.mesh_outside.specs.Causes.{Rose, Unrisen};
 ghost use Rattle.line_run.specs.Run.{TookLimit, IsAnswered, IsTooLong};
 ghost use Rattle.gen_cluster.specs.Generated.{generated};
@@ -8,8 +8,7 @@ ghost use Rattle.output_fold.specs.Headline.{WritesFolded, WritesFoldedFront};
 ghost use Rattle.diagnosis.specs.Headline.{WritesDiagnosed, WritesDiagnosedFront};
 ghost use Rattle.cluster_sample.specs.Headline.{WritesSample, WritesSampleFront};
 ghost use Rattle.command_words.specs.Commands.{command_in};
-ghost use Rattle.command_words.specs.declared.command.Command.TheVariants as commands;
-ghost use Rattle.linkerd_cli.specs.Outcome.{AtEnd, AtStop, EndsWith, IsUnread, read_by};
+ghost use Rattle.linkerd_cli.specs.Outcome.{AtEnd, AtStop, EndsWith, IsUnread, OfBytes, OfCommand, OfDiagnose, OfFold, OfReplay, OfSample, read_by};
 
 use cluster_sample::sample::sample;
 use command_words::command::Command;
@@ -54,90 +53,118 @@ pub fn top<H: Machine, S: Source, K: Sink, P: Patterns>(
     // Words that give none are refused, unless memory ran out.
     ensures refused { command_in words.now ≡ None → EndsWith result IsUnread }
     // In both cases nothing was read or written.
-    ensures untouched { EndsWith result (λ status. status ≡ Status.Usage → (hub.new ≡ hub.old) × (input.new ≡ input.old) × (out.new ≡ out.old) × (patterns.new ≡ patterns.old)) }
-    ensures unread { command_in words.now ≡ None → (hub.new ≡ hub.old) × (input.new ≡ input.old) × (out.new ≡ out.old) × (patterns.new ≡ patterns.old) }
+    ensures untouched { EndsWith result (λ status. status ≡ Status.Usage
+        → (hub.new ≡ hub.old) × (input.new ≡ input.old) × (out.new ≡ out.old)
+        × (patterns.new ≡ patterns.old)) }
+    ensures unread { command_in words.now ≡ None
+        → (hub.new ≡ hub.old) × (input.new ≡ input.old) × (out.new ≡ out.old)
+        × (patterns.new ≡ patterns.old) }
 
     // ---- replay
 
     // Read to the end, where the machine tells what it holds: what was written is the defined output, in which
     // simulations may have met patterns that are refused, at most as many as refusals rose, and a line was refused or none.
-    ensures output { (config : Config) → command_in words.now ≡ Some (commands.Replay config) → AtEnd result (WritesOutput config limits.now
-        (known_over P.Patterns patterns.old patterns.new) (H.state hub.old) (S.left input.old) (K.held out.old) (K.held out.new)) }
+    ensures output { OfReplay words.now (λ config. AtEnd result (WritesOutput config limits.now
+        (known_over P.Patterns patterns.old patterns.new)
+        (H.state hub.old) (S.left input.old) (K.held out.old) (K.held out.new))) }
 
     // Where no pattern was refused, no simulation met one.
-    ensures quiet { (config : Config) → command_in words.now ≡ Some (commands.Replay config) → AtEnd result (WritesPlain config limits.now
-        (known_over P.Patterns patterns.old patterns.new) (H.state hub.old) (S.left input.old) (K.held out.old) (K.held out.new)) }
+    ensures quiet { OfReplay words.now (λ config. AtEnd result (WritesPlain config limits.now
+        (known_over P.Patterns patterns.old patterns.new)
+        (H.state hub.old) (S.left input.old) (K.held out.old) (K.held out.new))) }
 
     // Whether a line was refused, whatever patterns match.
-    ensures refuses { (config : Config) → command_in words.now ≡ Some (commands.Replay config) → AtEnd result (RefusesSome config limits.now
-        (known_over P.Patterns patterns.old patterns.new) (H.state hub.old) (S.left input.old)) }
+    ensures refuses { OfReplay words.now (λ config. AtEnd result (RefusesSome config limits.now
+        (known_over P.Patterns patterns.old patterns.new) (H.state hub.old) (S.left input.old))) }
 
     // The machine then stands where the input leads.
-    ensures state { (config : Config) → command_in words.now ≡ Some (commands.Replay config) → AtEnd result (λ refused. StandsAtEnd config limits.now (H.state hub.old) (H.state hub.new) (S.left input.old)) }
+    ensures state { OfReplay words.now (λ config. AtEnd result (λ refused.
+        StandsAtEnd config limits.now (H.state hub.old) (H.state hub.new) (S.left input.old))) }
 
     // Where it tells its replies, what was written is what they and the lines say.
-    ensures said { (config : Config) → command_in words.now ≡ Some (commands.Replay config) → AtEnd result (WritesSaid config limits.now
-        (H.replies hub.old) (H.replies hub.new) (S.left input.old) (K.held out.old) (K.held out.new)) }
+    ensures said { OfReplay words.now (λ config. AtEnd result (WritesSaid config limits.now
+        (H.replies hub.old) (H.replies hub.new) (S.left input.old) (K.held out.old) (K.held out.new))) }
 
     // Else it is a front of the defined output.
-    ensures front { (config : Config) → command_in words.now ≡ Some (commands.Replay config) → AtStop result (WritesFront config limits.now
-        (known_over P.Patterns patterns.old patterns.new) (H.state hub.old) (S.left input.old) (K.held out.old) (K.held out.new)) }
+    ensures front { OfReplay words.now (λ config. AtStop result (WritesFront config limits.now
+        (known_over P.Patterns patterns.old patterns.new)
+        (H.state hub.old) (S.left input.old) (K.held out.old) (K.held out.new))) }
 
     // A machine that tells its replies: it is a front of what they and the lines say.
-    ensures said_front { (config : Config) → command_in words.now ≡ Some (commands.Replay config) → AtStop result (WritesSaidFront config limits.now
-        (H.replies hub.old) (H.replies hub.new) (S.left input.old) (K.held out.old) (K.held out.new)) }
+    ensures said_front { OfReplay words.now (λ config. AtStop result (WritesSaidFront config limits.now
+        (H.replies hub.old) (H.replies hub.new) (S.left input.old) (K.held out.old) (K.held out.new))) }
 
     // ---- diagnose
 
     // Read to the end: what was written is the defined text, and a line was refused or none. Else it is a front of that text.
     // The machine stays as it is.
-    ensures diagnosed { (id : SubId) (query : Query) (config : Config) → command_in words.now ≡ Some (commands.Diagnose id query config)
-        → AtEnd result (WritesDiagnosed config limits.now id.0 query (S.left input.old) (K.held out.old) (K.held out.new)) }
-    ensures diagnosed_front { (id : SubId) (query : Query) (config : Config) → command_in words.now ≡ Some (commands.Diagnose id query config)
-        → AtStop result (WritesDiagnosedFront config limits.now id.0 query (S.left input.old) (K.held out.old) (K.held out.new)) }
-    ensures undiagnosed { (id : SubId) (query : Query) (config : Config) → command_in words.now ≡ Some (commands.Diagnose id query config) → (hub.new ≡ hub.old) × (patterns.new ≡ patterns.old) }
+    ensures diagnosed { OfDiagnose words.now (λ id query config.
+        AtEnd result (WritesDiagnosed config limits.now
+        id.0 query (S.left input.old) (K.held out.old) (K.held out.new))) }
+    ensures diagnosed_front { OfDiagnose words.now (λ id query config.
+        AtStop result (WritesDiagnosedFront config
+        limits.now id.0 query (S.left input.old) (K.held out.old) (K.held out.new))) }
+    ensures undiagnosed { OfDiagnose words.now (λ id query config.
+        (hub.new ≡ hub.old) × (patterns.new ≡ patterns.old)) }
 
     // ---- fold
 
     // Read to the end: what was written is the defined text, and a line didn't read or none. Else it is a front of that text.
     // The machine stays as it is.
-    ensures folded { (id : SubId) (method : Method) → command_in words.now ≡ Some (commands.Fold id method)
-        → AtEnd result (WritesFolded method id.0 limits.now (S.left input.old) (K.held out.old) (K.held out.new)) }
-    ensures folded_front { (id : SubId) (method : Method) → command_in words.now ≡ Some (commands.Fold id method)
-        → AtStop result (WritesFoldedFront method id.0 limits.now (S.left input.old) (K.held out.old) (K.held out.new)) }
-    ensures unheld { (id : SubId) (method : Method) → command_in words.now ≡ Some (commands.Fold id method) → (hub.new ≡ hub.old) × (patterns.new ≡ patterns.old) }
+    ensures folded { OfFold words.now (λ id method. AtEnd result (WritesFolded method id.0
+        limits.now (S.left input.old) (K.held out.old) (K.held out.new))) }
+    ensures folded_front { OfFold words.now (λ id method. AtStop result (WritesFoldedFront method id.0
+        limits.now (S.left input.old) (K.held out.old) (K.held out.new))) }
+    ensures unheld { OfFold words.now (λ id method.
+        (hub.new ≡ hub.old) × (patterns.new ≡ patterns.old)) }
 
     // ---- sample
 
     // The lines of the generated cluster were replayed to their end: the counts of what a replay writes were written, and a
     // line was refused or none. Else it is nothing, or a front of them.
-    ensures sampled { (n : ℕ) (config : Config) → command_in words.now ≡ Some (commands.Sample n config) → AtEnd result (WritesSample config limits.now
-        (known_over P.Patterns patterns.old patterns.new) (H.state hub.old) (H.replies hub.old) (H.replies hub.new) n (K.held out.old) (K.held out.new)) }
-    ensures sampled_front { (n : ℕ) (config : Config) → command_in words.now ≡ Some (commands.Sample n config) → AtStop result (WritesSampleFront config limits.now
-        (known_over P.Patterns patterns.old patterns.new) (H.state hub.old) (H.replies hub.old) (H.replies hub.new) n (K.held out.old) (K.held out.new)) }
+    ensures sampled { OfSample words.now (λ n config. AtEnd result (WritesSample config limits.now
+        (known_over P.Patterns patterns.old patterns.new)
+        (H.state hub.old) (H.replies hub.old) (H.replies hub.new) n (K.held out.old) (K.held out.new))) }
+    ensures sampled_front { OfSample words.now (λ n config.
+        AtStop result (WritesSampleFront config limits.now
+        (known_over P.Patterns patterns.old patterns.new)
+        (H.state hub.old) (H.replies hub.old) (H.replies hub.new) n (K.held out.old) (K.held out.new))) }
 
     // The machine then stands where the lines lead.
-    ensures sampled_state { (n : ℕ) (config : Config) → command_in words.now ≡ Some (commands.Sample n config)
-        → AtEnd result (λ refused. StandsAtEnd config limits.now (H.state hub.old) (H.state hub.new) (Some (generated n))) }
+    ensures sampled_state { OfSample words.now (λ n config. AtEnd result (λ refused.
+        StandsAtEnd config limits.now (H.state hub.old) (H.state hub.new) (Some (generated n)))) }
 
     // The input isn't read.
-    ensures sampled_alone { (n : ℕ) (config : Config) → command_in words.now ≡ Some (commands.Sample n config) → (input.new ≡ input.old) × EndsWith result (λ status. status ≢ Status.ReadFault) }
+    ensures sampled_alone { OfSample words.now (λ n config.
+        (input.new ≡ input.old) × EndsWith result (λ status. status ≢ Status.ReadFault)) }
 
     // ---- any command
 
-    // No count falls.
+    // No count falls, and each fault is told by its status.
     ensures later { P.refusals patterns.old ≤ P.refusals patterns.new }
     ensures read_later { S.faults input.old ≤ S.faults input.new }
     ensures write_later { K.faults out.old ≤ K.faults out.new }
+    ensures read_told { EndsWith result (λ status.
+        status ≢ Status.ReadFault → S.faults input.new ≡ S.faults input.old) }
+    ensures write_told { EndsWith result (λ status.
+        status ≢ Status.WriteFault → K.faults out.new ≡ K.faults out.old) }
 
     // When each other status comes.
-    ensures read { EndsWith result (λ status. status ≡ Status.ReadFault → Rose (S.faults input.old) (S.faults input.new)) }
-    ensures write { EndsWith result (λ status. status ≡ Status.WriteFault → Rose (K.faults out.old) (K.faults out.new)) }
-    ensures long { (command : Command) → command_in words.now ≡ Some command → EndsWith result (λ status. status ≡ Status.InputTooLong → TookLimit limits.now.input (read_by command (S.left input.old))) }
-    ensures complete { (command : Command) → command_in words.now ≡ Some command → EndsWith result (λ status. Unrisen (S.faults input.old) (S.faults input.new) → Unrisen (K.faults out.old) (K.faults out.new)
-        → (bytes : List ℕ) → read_by command (S.left input.old) ≡ Some bytes → length bytes < limits.now.input → IsAnswered status) }
-    ensures too_long { (command : Command) → command_in words.now ≡ Some command → EndsWith result (λ status. Unrisen (S.faults input.old) (S.faults input.new) → Unrisen (K.faults out.old) (K.faults out.new)
-        → (bytes : List ℕ) → read_by command (S.left input.old) ≡ Some bytes → limits.now.input ≤ length bytes → IsTooLong status) }
+    ensures read { EndsWith result (λ status.
+        status ≡ Status.ReadFault → Rose (S.faults input.old) (S.faults input.new)) }
+    ensures write { EndsWith result (λ status.
+        status ≡ Status.WriteFault → Rose (K.faults out.old) (K.faults out.new)) }
+    ensures long { OfCommand words.now (λ command. EndsWith result (λ status.
+        status ≡ Status.InputTooLong
+        → TookLimit limits.now.input (read_by command (S.left input.old)))) }
+    ensures complete { OfCommand words.now (λ command. EndsWith result (λ status.
+        Unrisen (S.faults input.old) (S.faults input.new) → Unrisen (K.faults out.old) (K.faults out.new)
+        → OfBytes command (S.left input.old) (λ bytes.
+        length bytes < limits.now.input → IsAnswered status))) }
+    ensures too_long { OfCommand words.now (λ command. EndsWith result (λ status.
+        Unrisen (S.faults input.old) (S.faults input.new) → Unrisen (K.faults out.old) (K.faults out.new)
+        → OfBytes command (S.left input.old) (λ bytes.
+        limits.now.input ≤ length bytes → IsTooLong status))) }
 {
     match read_words(alloc, words) {
         Ok(Command::Replay(config)) => {

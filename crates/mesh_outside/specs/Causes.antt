@@ -1,5 +1,5 @@
 -- When a fault of the outside may be answered: the count of faults rose in the call, or stands at its type's end.
-use Rattle.std.specs.Prelude.{◌≡◌, ◌+◌, ◌-◌, ◌^◌, ◌≤◌, ◌<◌, ℕ, Bool, true, false, ◌&&◌, ◌==◌, nat_lt, if◌then◌else◌, List, length, min, Result, Ok, Err, OnErr, IsErrOf}
+use Rattle.std.specs.Prelude.{◌≡◌, ◌+◌, ◌-◌, ◌^◌, ◌≤◌, ◌<◌, ℕ, Bool, true, false, ◌&&◌, ◌==◌, nat_lt, if◌then◌else◌, List, length, min, Result, Ok, Err, OnErr, OnOk, IsErrOf}
 use Rattle.mesh_outside.specs.declared.sink.SinkFault.{SinkFault}
 use Rattle.mesh_outside.specs.declared.sink.SinkFault.TheVariants.{Failed, Memory}
 
@@ -35,13 +35,16 @@ Rose before now = one_more before ≤ now
 abbrev pub Unrisen : ℕ → ℕ → Type 0
 Unrisen before now = (now ≡ before) × (before < 2 ^ 64 - 1)
 
--- the count doesn't fall in a call, and an error is answered only where it rose
+-- The count doesn't fall in a call. An error is answered only where it rose, and it stays where none is.
 pub record HasCause {T E : Type 0} (before now : ℕ) (result : Result T E) : Type 0 where
   pub later : before ≤ now
   pub failed : OnErr result (Rose before now)
+  pub other : OnOk result (now ≡ before)
 
--- the count doesn't fall in a write; `Failed`, and 0 for a piece that isn't empty, are answered only where it rose
+-- The count doesn't fall in a write. `Failed`, and 0 for a piece that isn't empty, are answered only where it rose, and it
+-- stays where neither is.
 pub record WriteHasCause (before now : ℕ) (piece : List ℕ) (result : Result ℕ SinkFault) : Type 0 where
   pub later : before ≤ now
   pub failed : IsErrOf result Failed → Rose before now
   pub nothing : result ≡ Ok 0 → 0 < length piece → Rose before now
+  pub other : is_fault piece result ≡ false → now ≡ before

@@ -29,10 +29,13 @@ pub trait Patterns {
 
     /// Whether the pattern matches the whole text.
     fn whole(&mut self, alloc: Global, pattern: &str, text: &str) -> Result<bool, PatternFault>
-        ensures told { IfOk result (λ answer. IfSome (tells self.old) (λ f. answer ≡ f pattern.now text.now)) }
+        ensures told { IfOk result (λ answer.
+            IfSome (tells self.old) (λ f. answer ≡ f pattern.now text.now)) }
         ensures later { refusals self.old ≤ refusals self.new }
-        ensures refused { IsErrOf result PatternFault.Refused → Rose (refusals self.old) (refusals self.new) }
-        ensures named { IsErrOf result PatternFault.Refused → IfSome (refuses self.old) (λ f. f pattern.now ≡ true) }
+        ensures refused { IsErrOf result PatternFault.Refused
+            → Rose (refusals self.old) (refusals self.new) }
+        ensures named { IsErrOf result PatternFault.Refused → IfSome (refuses self.old) (λ f.
+            f pattern.now ≡ true) }
         ensures other { result ≢ Err PatternFault.Refused → refusals self.new ≡ refusals self.old }
         ensures tells_same { tells self.new ≡ tells self.old }
         ensures refuses_same { refuses self.new ≡ refuses self.old };
@@ -82,12 +85,14 @@ impl Patterns for MemPatterns {
         ensures told { IfOk result (λ answer. answer ≡ bytes_eq pattern.now text.now) }
         ensures later { self.old.count ≤ self.new.count }
         ensures refused { IsErrOf result PatternFault.Refused → Rose self.old.count self.new.count }
-        ensures named { IsErrOf result PatternFault.Refused → is_among pattern.now self.old.refuse ≡ true }
+        ensures named { IsErrOf result PatternFault.Refused
+            → is_among pattern.now self.old.refuse ≡ true }
         ensures other { result ≢ Err PatternFault.Refused → self.new.count ≡ self.old.count }
         ensures refuses_same { self.new.refuse ≡ self.old.refuse }
 
         // The field says which are refused, and the others are told without memory. Refusals alone are counted.
-        ensures answer { result ≡ (if is_among pattern.now self.old.refuse then Err PatternFault.Refused else Ok (bytes_eq pattern.now text.now)) }
+        ensures answer { result ≡ (if is_among pattern.now self.old.refuse then Err
+            PatternFault.Refused else Ok (bytes_eq pattern.now text.now)) }
         ensures count { self.new.count ≡ counted (is_among pattern.now self.old.refuse) self.old.count }
     {
         if is_refused(self.refuse.as_slice(), pattern) {

@@ -32,7 +32,7 @@ pub trait Sink {
         ensures bound { WritesAtMost result piece.now }
         ensures bytes { WriteAppends (held self.old) (held self.new) result piece.now }
         ensures cause { WriteHasCause (faults self.old) (faults self.new) piece.now result }
-        ensures memory { IsErrOf result SinkFault.Memory → (held self.new ≡ held self.old) × (faults self.new ≡ faults self.old) };
+        ensures memory { IsErrOf result SinkFault.Memory → held self.new ≡ held self.old };
 }
 
 /// Bytes in memory. The calls whose numbers, from 1, stand in `fails` fail.
@@ -71,12 +71,15 @@ impl Sink for MemSink {
 
     fn write(&mut self, piece: &[u8]) -> Result<usize, SinkFault>
         ensures bound { WritesAtMost result piece.now }
-        ensures bytes { WriteAppends (Some self.old.bytes.items) (Some self.new.bytes.items) result piece.now }
+        ensures bytes { WriteAppends (Some self.old.bytes.items) (Some self.new.bytes.items) result
+            piece.now }
         ensures cause { WriteHasCause self.old.count self.new.count piece.now result }
-        ensures memory { IsErrOf result SinkFault.Memory → (Some self.new.bytes.items ≡ Some self.old.bytes.items) × (self.new.count ≡ self.old.count) }
+        ensures memory { IsErrOf result SinkFault.Memory
+            → Some self.new.bytes.items ≡ Some self.old.bytes.items }
 
         // The fields say which calls fail, and the others take the whole piece. A call that had no memory isn't counted.
-        ensures fails { IsErrOf result SinkFault.Failed ↔ Contains self.old.fails (one_more self.old.calls) }
+        ensures fails { IsErrOf result SinkFault.Failed
+            ↔ Contains self.old.fails (one_more self.old.calls) }
         ensures whole { IfOk result (λ n. n ≡ length piece.now) }
         ensures calls { self.new.calls ≡ counted (had_memory result) self.old.calls }
         ensures count { self.new.count ≡ counted (is_fault piece.now result) self.old.count }
@@ -110,9 +113,11 @@ impl Sink for SureSink {
 
     fn write(&mut self, piece: &[u8]) -> Result<usize, SinkFault>
         ensures bound { WritesAtMost result piece.now }
-        ensures bytes { WriteAppends (Some self.old.bytes.items) (Some self.new.bytes.items) result piece.now }
+        ensures bytes { WriteAppends (Some self.old.bytes.items) (Some self.new.bytes.items) result
+            piece.now }
         ensures cause { WriteHasCause none_ever none_ever piece.now result }
-        ensures memory { IsErrOf result SinkFault.Memory → (Some self.new.bytes.items ≡ Some self.old.bytes.items) × (none_ever ≡ none_ever) }
+        ensures memory { IsErrOf result SinkFault.Memory
+            → Some self.new.bytes.items ≡ Some self.old.bytes.items }
 
         // It takes the whole piece.
         ensures whole { IfOk result (λ n. n ≡ length piece.now) }
@@ -148,9 +153,11 @@ impl<W: Write> Sink for WriteSink<W> {
 
     fn write(&mut self, piece: &[u8]) -> Result<usize, SinkFault>
         ensures bound { WritesAtMost result piece.now }
-        ensures bytes { WriteAppends (W.contents self.old.writer) (W.contents self.new.writer) result piece.now }
+        ensures bytes { WriteAppends (W.contents self.old.writer) (W.contents self.new.writer)
+            result piece.now }
         ensures cause { WriteHasCause self.old.count self.new.count piece.now result }
-        ensures memory { IsErrOf result SinkFault.Memory → (W.contents self.new.writer ≡ W.contents self.old.writer) × (self.new.count ≡ self.old.count) }
+        ensures memory { IsErrOf result SinkFault.Memory
+            → W.contents self.new.writer ≡ W.contents self.old.writer }
 
         // Faults alone are counted, and it takes no memory.
         ensures count { self.new.count ≡ counted (is_fault piece.now result) self.old.count }

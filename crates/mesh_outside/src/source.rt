@@ -74,7 +74,8 @@ impl Source for MemSource {
 
     fn read(&mut self, buf: &mut [u8]) -> Result<usize, Failed>
         ensures bound { ReadsAtMost result buf.new }
-        ensures bytes { ReadConsumes (Some self.old.bytes.items) (Some self.new.bytes.items) result buf.new }
+        ensures bytes { ReadConsumes (Some self.old.bytes.items) (Some self.new.bytes.items) result
+            buf.new }
         ensures cause { HasCause self.old.count self.new.count result }
 
         // The fields say which calls fail, and the others give as much as there is.
@@ -148,7 +149,8 @@ impl<R: Read> Source for ReadSource<R> {
 
     fn read(&mut self, buf: &mut [u8]) -> Result<usize, Failed>
         ensures bound { ReadsAtMost result buf.new }
-        ensures bytes { ReadConsumes (R.remaining self.old.reader) (R.remaining self.new.reader) result buf.new }
+        ensures bytes { ReadConsumes (R.remaining self.old.reader) (R.remaining self.new.reader)
+            result buf.new }
         ensures cause { HasCause self.old.count self.new.count result }
 
         // Faults alone are counted.

@@ -30,43 +30,56 @@ pub fn replay<H: Machine, S: Source, K: Sink, P: Patterns>(
 
     // Read to the end: what was written is the defined output, each length that it tells is below 2 ^ 64, and a line was refused
     // or none.
-    ensures output { OnEnd result (WritesOutput config.now limits.now (known_over P.Patterns patterns.old patterns.new)
+    ensures output { OnEnd result (WritesOutput config.now limits.now
+        (known_over P.Patterns patterns.old patterns.new)
         (H.state hub.old) (S.left input.old) (K.held out.old) (K.held out.new)) }
 
     // No simulation met a pattern that is refused where none was refused.
-    ensures quiet { OnEnd result (WritesPlain config.now limits.now (known_over P.Patterns patterns.old patterns.new)
+    ensures quiet { OnEnd result (WritesPlain config.now limits.now
+        (known_over P.Patterns patterns.old patterns.new)
         (H.state hub.old) (S.left input.old) (K.held out.old) (K.held out.new)) }
 
     // Else it is a front of the defined output.
-    ensures front { OnStop result (WritesFront config.now limits.now (known_over P.Patterns patterns.old patterns.new)
+    ensures front { OnStop result (WritesFront config.now limits.now
+        (known_over P.Patterns patterns.old patterns.new)
         (H.state hub.old) (S.left input.old) (K.held out.old) (K.held out.new)) }
 
     // Whether a line was refused, whatever patterns match.
-    ensures refused { OnEnd result (RefusesSome config.now limits.now (known_over P.Patterns patterns.old patterns.new)
+    ensures refused { OnEnd result (RefusesSome config.now limits.now
+        (known_over P.Patterns patterns.old patterns.new)
         (H.state hub.old) (S.left input.old)) }
 
     // The machine then stands where the input leads.
-    ensures state { OnEnd result (λ refused. StandsAtEnd config.now limits.now (H.state hub.old) (H.state hub.new) (S.left input.old)) }
+    ensures state { OnEnd result (λ refused.
+        StandsAtEnd config.now limits.now (H.state hub.old) (H.state hub.new) (S.left input.old)) }
 
     // A machine that tells its replies: what was written is what they and the lines say.
-    ensures said { OnEnd result (WritesSaid config.now limits.now (H.replies hub.old) (H.replies hub.new) (S.left input.old) (K.held out.old) (K.held out.new)) }
+    ensures said { OnEnd result (WritesSaid config.now limits.now (H.replies hub.old)
+        (H.replies hub.new) (S.left input.old) (K.held out.old) (K.held out.new)) }
 
     // Else it is a front of that.
-    ensures said_front { OnStop result (WritesSaidFront config.now limits.now (H.replies hub.old) (H.replies hub.new) (S.left input.old) (K.held out.old) (K.held out.new)) }
+    ensures said_front { OnStop result (WritesSaidFront config.now limits.now (H.replies hub.old)
+        (H.replies hub.new) (S.left input.old) (K.held out.old) (K.held out.new)) }
 
-    // No count falls.
+    // No count falls, and each fault is told by its status.
     ensures read_later { S.faults input.old ≤ S.faults input.new }
     ensures write_later { K.faults out.old ≤ K.faults out.new }
+    ensures read_told { result ≢ Status.ReadFault → S.faults input.new ≡ S.faults input.old }
+    ensures write_told { result ≢ Status.WriteFault → K.faults out.new ≡ K.faults out.old }
     ensures later { P.refusals patterns.old ≤ P.refusals patterns.new }
 
     // When each status comes.
     ensures read { result ≡ Status.ReadFault → Rose (S.faults input.old) (S.faults input.new) }
     ensures write { result ≡ Status.WriteFault → Rose (K.faults out.old) (K.faults out.new) }
     ensures long { result ≡ Status.InputTooLong → TookLimit limits.now.input (S.left input.old) }
-    ensures complete { Unrisen (S.faults input.old) (S.faults input.new) → Unrisen (K.faults out.old) (K.faults out.new)
-        → (bytes : List ℕ) → S.left input.old ≡ Some bytes → length bytes < limits.now.input → IsAnswered result }
-    ensures too_long { Unrisen (S.faults input.old) (S.faults input.new) → Unrisen (K.faults out.old) (K.faults out.new)
-        → (bytes : List ℕ) → S.left input.old ≡ Some bytes → limits.now.input ≤ length bytes → IsTooLong result }
+    ensures complete { Unrisen (S.faults input.old) (S.faults input.new)
+        → Unrisen (K.faults out.old) (K.faults out.new)
+        → (bytes : List ℕ) → S.left input.old ≡ Some bytes → length bytes < limits.now.input
+        → IsAnswered result }
+    ensures too_long { Unrisen (S.faults input.old) (S.faults input.new)
+        → Unrisen (K.faults out.old) (K.faults out.new)
+        → (bytes : List ℕ) → S.left input.old ≡ Some bytes → limits.now.input ≤ length bytes
+        → IsTooLong result }
     ensures usage { result ≢ Status.Usage }
 {
     let Ok(copy) = config.copy(alloc) else {

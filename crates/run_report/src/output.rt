@@ -349,7 +349,7 @@ impl<K: Sink, W: Write> Sink for OutputTally<K, W> {
         ensures bound { WritesAtMost result piece.now }
         ensures bytes { WriteAppends (K.held self.old.sink) (K.held self.new.sink) result piece.now }
         ensures cause { WriteHasCause (K.faults self.old.sink) (K.faults self.new.sink) piece.now result }
-        ensures memory { IsErrOf result SinkFault.Memory → (K.held self.new.sink ≡ K.held self.old.sink) × (K.faults self.new.sink ≡ K.faults self.old.sink) }
+        ensures memory { IsErrOf result SinkFault.Memory → K.held self.new.sink ≡ K.held self.old.sink }
 
         // What the sink accepts is counted.
         ensures counts { (written : List ℕ) → AreWritten self.old.counts written → IfOk result (λ n. AreWritten self.new.counts (written ++ take n piece.now)) }

@@ -17,5 +17,6 @@ returns-in_default g c =
     let front = front_written c.args.n c.args.lines c.args.text.now c.requires (g.K.Sink.held c.args.out.now) (g.K.Sink.held c.run_lines.new.sink) (λ m. m.n) (λ m. m.lines) (λ m. m.counts) in record {
       whole = tt;
       front = at_stop c.run_lines.result _ c.in_default.not-Done c.in_default.not-SomeRefused (OnStop-weaker c.run_lines.result _ _ front c.run_lines.ensures.part);
-      cause = memory_cause (g.K.Sink.faults c.args.out.now) (g.K.Sink.faults c.run_lines.new.sink) c.run_lines.ensures.write_later;
+      cause = memory_cause (g.K.Sink.faults c.args.out.now) (g.K.Sink.faults c.run_lines.new.sink) c.run_lines.ensures.write_later
+          (c.run_lines.ensures.write_told c.in_default.not-WriteFault);
     }

@@ -29,6 +29,6 @@ loop-found-preserved g c =
           subst (λ part. Come (g.M.LineMachine.stands start) c.args.limit held (taken ++ c.args.block.now) (part ++ c.in-Some.after.now) (now_of c.give.new.machine (g.K.Sink.held c.give.new.sink) c.give.new.self)) (sym empty)
           (takes_line (g.M.LineMachine.stands start) (is.come start held taken come) (at_some c.in-Ok.found c.in-Some.after _ c.in-Some.is c.in-Ok.ensures.line) c.in_ok-give.ensures.lines
           (λ past counted says. c.in_ok-give.ensures.stands start held past counted says));
-      later = omega (arith, is.later, c.in_ok-give.ensures.cause.later);
+      told = grind (arith, c.in_ok-give.ensures.cause.other, is.told);
       keeps = g.M.LineMachine.keeps_on _ _ _ is.keeps c.give.ensures.keeps;
     }
