@@ -4,6 +4,7 @@ use crate::take::take_row;
 use feed_history::text::push_refused;
 use line_run::LineMachine;
 use mesh_base::limits::Limits;
+use mesh_base::steps::Steps;
 use mesh_base::sub_id::SubId;
 use object_store::store::Store;
 use output_fold::view_text::push_view;
@@ -28,13 +29,16 @@ pub(crate) struct Diagnosing<'a> {
 impl LineMachine for Diagnosing<'_> {
     ghost use Rattle.diagnosis.specs.Stand.{Ended, IsOfRun, Stands};
 
-    ghost stands = { λ start now past text refused. IsOfRun start.config.now start.limits start.id start.query.now now.config.now now.limits now.id now.query.now
+    ghost stands = { λ start now past text refused. IsOfRun start.config.now start.limits start.id
+        start.query.now now.config.now now.limits now.id now.query.now
         × Stands start.config.now start.limits past text refused now.store };
 
-    ghost ending = { λ start now past text refused. IsOfRun start.config.now start.limits start.id start.query.now now.config.now now.limits now.id now.query.now
+    ghost ending = { λ start now past text refused. IsOfRun start.config.now start.limits start.id
+        start.query.now now.config.now now.limits now.id now.query.now
         × Stands start.config.now start.limits past text refused now.store };
 
-    ghost ended = { λ start now past text refused. Ended start.config.now start.limits start.id.0 start.query.now past text refused };
+    ghost ended = { λ start now past text refused. Ended start.config.now start.limits start.id.0
+        start.query.now past text refused };
 
     ghost begins = { λ start now past text refused stood. stood };
 
@@ -65,7 +69,8 @@ impl LineMachine for Diagnosing<'_> {
     }
 
     fn end(&mut self, out: &mut Vec<u8>) -> Result<bool, AllocError> {
-        let Ok(view) = scratch(self.alloc, &self.store, self.config, self.query) else {
+        let mut steps = Steps::<Store>::new();
+        let Ok(view) = scratch(self.alloc, &self.store, self.config, self.query, &mut steps) else {
             return Err(AllocError);
         };
         let Ok(()) = push_view(self.alloc, self.id, &self.limits, &view, out) else {

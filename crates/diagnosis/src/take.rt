@@ -21,7 +21,9 @@ use watch_events::read::read_row;
 
 fn take_event(store: &mut Store, event: Event) -> Result<Option<Refusal>, Memory>
     requires { IsLawfulEvent event }
-    ensures { IfOk result (λ refusal. (config : TheConfig) (limits : Limits) → Takes config limits (Ok (lines.Event event)) refusal store.old store.new) }
+    ensures { IfOk result (λ refusal.
+        (config : TheConfig) (limits : Limits)
+        → Takes config limits (Ok (lines.Event event)) refusal store.old store.new) }
 {
     match apply(store, event)? {
         None => Ok(None),
@@ -32,7 +34,9 @@ fn take_event(store: &mut Store, event: Event) -> Result<Option<Refusal>, Memory
 // Events are applied. Of subscriptions and requests nothing is asked but that their lines read.
 fn take_line(store: &mut Store, line: Line) -> Result<Option<Refusal>, Memory>
     requires { IsLawfulLine line }
-    ensures { IfOk result (λ refusal. (config : TheConfig) (limits : Limits) → Takes config limits (Ok line) refusal store.old store.new) }
+    ensures { IfOk result (λ refusal.
+        (config : TheConfig) (limits : Limits)
+        → Takes config limits (Ok line) refusal store.old store.new) }
 {
     match line {
         Line::Event(event) => take_event(store, event),
@@ -59,7 +63,9 @@ pub(crate) fn take_row(
     store: &mut Store,
     row: Option<&[u8]>,
 ) -> Result<Option<Refusal>, Memory>
-    ensures { IfOk result (λ refusal. (limits : Limits) → Takes config.now limits (row_says (text_line config.now) (option_copied row.entry)) refusal store.old store.new) }
+    ensures { IfOk result (λ refusal.
+        (limits : Limits) → Takes config.now limits (row_says (text_line config.now)
+        (option_copied row.entry)) refusal store.old store.new) }
 {
     match read_row(alloc, row, config) {
         Ok(line) => take_line(store, line),

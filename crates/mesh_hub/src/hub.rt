@@ -2,6 +2,7 @@ ghost use Rattle.std.specs.Prelude.{◌≡◌, ◌==◌, ◌≤◌, ◌<◌, fal
 ghost use Rattle.std.specs.List.{position_from};
 ghost use Rattle.view_types.specs.Objects.{IsListOf};
 ghost use Rattle.view_rules.specs.Fold.{IsOrderlyIfShown};
+ghost use Rattle.view_rules.specs.Views.{view_of};
 ghost use Rattle.route_match.specs.Asking.{AsksPatterns, facts_of};
 ghost use Rattle.request_sim.specs.Faults.{MetPattern, Simulated};
 
@@ -18,6 +19,7 @@ use mesh_base::sub_id::SubId;
 use mesh_outside::Patterns;
 use object_store::change::StoreFault;
 use object_store::store::Store;
+use policy_rows::snapshot::Snapshot;
 use request_sim::decide::decide;
 use request_sim::fault::SimFault;
 use std::alloc::Global;
@@ -135,7 +137,9 @@ impl Hub {
     /// Does what a watch event says. `Full` comes where more objects would be held than may be.
     pub fn apply<L>(&mut self, event: Event, _steps: &mut Steps<L>) -> Result<(), HubFault>
         requires { IsLawfulEvent event }
-        ensures answers { Answers (state_of self.old) (answer_of (apply_refusal (state_of self.old) event)) (applied (state_of self.old) event) result (state_of self.new) }
+        ensures answers { Answers (state_of self.old)
+            (answer_of (apply_refusal (state_of self.old) event))
+            (applied (state_of self.old) event) result (state_of self.new) }
         ensures may { MayApply result }
     {
         if self.spent {
@@ -157,7 +161,9 @@ impl Hub {
         query: Query,
         _steps: &mut Steps<L>,
     ) -> Result<(), HubFault>
-        ensures answers { Answers (state_of self.old) (answer_of (new_refusal (state_of self.old) id.0)) (subscribed (state_of self.old) id query) result (state_of self.new) }
+        ensures answers { Answers (state_of self.old)
+            (answer_of (new_refusal (state_of self.old) id.0))
+            (subscribed (state_of self.old) id query) result (state_of self.new) }
         ensures may { MaySubscribe result }
     {
         if self.spent {
@@ -191,7 +197,8 @@ impl Hub {
     /// comes where the id isn't live, and `Oversize` where a message is longer than may be; it tells the first such
     /// length, and the subscription has ended.
     pub fn drain(&mut self, id: SubId) -> Result<List<Bytes>, HubFault>
-        ensures answers { Answers (state_of self.old) (frames_at (state_of self.old) id.0) (drained (state_of self.old) id.0) result (state_of self.new) }
+        ensures answers { Answers (state_of self.old) (frames_at (state_of self.old) id.0)
+            (drained (state_of self.old) id.0) result (state_of self.new) }
         ensures may { MayDrain id result }
     {
         if self.spent {
@@ -209,15 +216,16 @@ impl Hub {
         &mut self,
         request: &Request,
         patterns: &mut P,
-        _steps: &mut Steps<L>,
+        steps: &mut Steps<L>,
     ) -> Result<Verdict, SimFault>
-        ensures answers { Simulates (facts_of P.Patterns patterns.old) request.now result (state_of self.old) (state_of self.new) }
+        ensures answers { Simulates (facts_of P.Patterns patterns.old) request.now result
+            (state_of self.old) (state_of self.new) }
         ensures asks { AsksPatterns P.Patterns patterns.old patterns.new (MetPattern result) }
     {
         if self.spent {
             return Err(SimFault::Memory);
         }
-        match self.verdict(request, patterns) {
+        match self.verdict(request, patterns, steps) {
             Ok(verdict) => Ok(verdict),
             Err(SimFault::Pattern { route, rule, item }) => {
                 Err(SimFault::Pattern { route, rule, item })
@@ -230,20 +238,24 @@ impl Hub {
     }
 
     // What comes of a request, by the view of its port.
-    fn verdict<P: Patterns>(&self, request: &Request, patterns: &mut P) -> Result<Verdict, SimFault>
-        ensures simulated { Simulated self.now.config self.now.store.objects (facts_of P.Patterns patterns.old) request.now result }
+    fn verdict<P: Patterns, L>(
+        &self,
+        request: &Request,
+        patterns: &mut P,
+        steps: &mut Steps<L>,
+    ) -> Result<Verdict, SimFault>
+        ensures simulated { Simulated self.now.config self.now.store.objects
+            (facts_of P.Patterns patterns.old) request.now result }
         ensures asks { AsksPatterns P.Patterns patterns.old patterns.new (MetPattern result) }
     {
         // The decision rests on it that each object stands at its own key.
         self.store.stand_at_keys();
-        let Ok(view) = inbound(
-            self.alloc,
-            &self.config,
-            &self.store,
-            &request.ns,
-            &request.pod,
-            request.port,
-        ) else {
+        let from = Snapshot {
+            alloc: self.alloc,
+            config: &self.config,
+            store: &self.store,
+        };
+        let Ok(view) = inbound(&from, &request.ns, &request.pod, request.port, steps) else {
             return Err(SimFault::Memory);
         };
         decide(self.alloc, &view, request, &self.config, patterns)
@@ -280,7 +292,9 @@ impl Hub {
 
     fn set(&mut self, object: Object) -> Result<(), HubFault>
         requires { self.old.spent ≡ false }
-        ensures answers { Answers (state_of self.old) (answer_of (apply_refusal (state_of self.old) (Set object))) (applied (state_of self.old) (Set object)) result (state_of self.new) }
+        ensures answers { Answers (state_of self.old)
+            (answer_of (apply_refusal (state_of self.old) (Set object)))
+            (applied (state_of self.old) (Set object)) result (state_of self.new) }
         ensures may { MayApply result }
     {
         match self.store.set(object) {
@@ -295,7 +309,9 @@ impl Hub {
 
     fn delete(&mut self, key: &ObjKey) -> Result<(), HubFault>
         requires { self.old.spent ≡ false }
-        ensures answers { Answers (state_of self.old) (answer_of (apply_refusal (state_of self.old) (Delete key.now))) (applied (state_of self.old) (Delete key.now)) result (state_of self.new) }
+        ensures answers { Answers (state_of self.old)
+            (answer_of (apply_refusal (state_of self.old) (Delete key.now)))
+            (applied (state_of self.old) (Delete key.now)) result (state_of self.new) }
         ensures may { MayApply result }
     {
         match self.store.remove(key) {
@@ -310,7 +326,9 @@ impl Hub {
     fn relist(&mut self, kind: Kind, items: List<Object>) -> Result<(), HubFault>
         requires going { self.old.spent ≡ false }
         requires list { IsListOf kind items }
-        ensures answers { Answers (state_of self.old) (answer_of (apply_refusal (state_of self.old) (Relist kind items))) (applied (state_of self.old) (Relist kind items)) result (state_of self.new) }
+        ensures answers { Answers (state_of self.old)
+            (answer_of (apply_refusal (state_of self.old) (Relist kind items)))
+            (applied (state_of self.old) (Relist kind items)) result (state_of self.new) }
         ensures may { MayApply result }
     {
         match self.store.relist(kind, items) {
@@ -327,7 +345,9 @@ impl Hub {
     fn make_live(&mut self, id: SubId, query: Query) -> Result<(), HubFault>
         requires going { self.old.spent ≡ false }
         requires accepted { new_refusal (state_of self.old) id.0 ≡ None }
-        ensures answers { Answers (state_of self.old) (answer_of (new_refusal (state_of self.old) id.0)) (subscribed (state_of self.old) id query) result (state_of self.new) }
+        ensures answers { Answers (state_of self.old)
+            (answer_of (new_refusal (state_of self.old) id.0))
+            (subscribed (state_of self.old) id query) result (state_of self.new) }
         ensures may { MaySubscribe result }
     {
         match self.subs.add(Subscription::new(id, query)) {
@@ -346,7 +366,8 @@ impl Hub {
     fn send(&mut self, id: SubId, at: usize) -> Result<List<Bytes>, HubFault>
         requires going { self.old.spent ≡ false }
         requires stands { StandsAt id_of id.0 self.old.subs at }
-        ensures answers { Answers (state_of self.old) (frames_at (state_of self.old) id.0) (drained (state_of self.old) id.0) result (state_of self.new) }
+        ensures answers { Answers (state_of self.old) (frames_at (state_of self.old) id.0)
+            (drained (state_of self.old) id.0) result (state_of self.new) }
         ensures may { MayDrain id result }
     {
         match self.due(&self.subs.as_slice()[at]) {
@@ -369,10 +390,20 @@ impl Hub {
     fn due(&self, sub: &Subscription) -> Result<(View, List<Bytes>), HubFault>
         ensures { IsDueOrTooLong (state_of self.now) sub.now result }
     {
-        let view = scratch(self.alloc, &self.store, &self.config, &sub.query)?;
+        let view = self.view_of(&sub.query)?;
         let messages = batch(self.alloc, sub.shown.as_ref(), &view, &self.limits)?;
         let frames = frames_within(self.alloc, self.limits.message, messages.as_slice())?;
         Ok((view, frames))
+    }
+
+    // The view of a query. A drain is lent no counter, so it makes its own.
+    fn view_of(&self, query: &Query) -> Result<View, Memory>
+        ensures value { IfOk result (λ view.
+            view ≡ view_of self.now.config self.now.store.objects query.now) }
+        ensures orderly { IfOk result (λ view. IsOrderlyIfShown (Some view)) }
+    {
+        let mut steps = Steps::<Hub>::new();
+        scratch(self.alloc, &self.store, &self.config, query, &mut steps)
     }
 
     // Notes the view that the subscriber at a place was shown.

@@ -57,7 +57,8 @@ pub trait Machine {
     /// Does what a watch event says. `Full` comes where it would hold more objects than it may.
     fn apply<L>(&mut self, event: Event, steps: &mut Steps<L>) -> Result<(), HubFault>
         requires { IsLawfulEvent event }
-        ensures state { Becomes (state self.old) (state self.new) (λ old new. Answers old (answer_of (apply_refusal old event)) (applied old event) result new) }
+        ensures state { Becomes (state self.old) (state self.new) (λ old new.
+            Answers old (answer_of (apply_refusal old event)) (applied old event) result new) }
         ensures replies { Grows (replies self.old) (replies self.new) (done_reply result) }
         ensures may { MayApply result };
 
@@ -69,20 +70,24 @@ pub trait Machine {
         query: Query,
         steps: &mut Steps<L>,
     ) -> Result<(), HubFault>
-        ensures state { Becomes (state self.old) (state self.new) (λ old new. Answers old (answer_of (new_refusal old id.0)) (subscribed old id query) result new) }
+        ensures state { Becomes (state self.old) (state self.new) (λ old new.
+            Answers old (answer_of (new_refusal old id.0)) (subscribed old id query) result new) }
         ensures replies { Grows (replies self.old) (replies self.new) (done_reply result) }
         ensures may { MaySubscribe result };
 
     /// Ends a live subscription. It takes no memory. A machine that tells its replies always answers Ok, and adds none.
     fn cancel(&mut self, id: SubId) -> Result<(), NoSuchId>
-        ensures state { Becomes (state self.old) (state self.new) (λ old new. Cancels id.0 old result new) }
-        ensures replies { Becomes (replies self.old) (replies self.new) (λ old new. (new ≡ old) × (result ≡ Ok tt)) };
+        ensures state { Becomes (state self.old) (state self.new) (λ old new.
+            Cancels id.0 old result new) }
+        ensures replies { Becomes (replies self.old) (replies self.new) (λ old new.
+            (new ≡ old) × (result ≡ Ok tt)) };
 
     /// The frames that bring a subscriber from the view that it was last shown to the one it is to see now. `NoSuchId`
     /// comes where the id isn't live, and `Oversize` where a message is longer than may be; it tells the first such
     /// length, and the subscription has ended.
     fn drain(&mut self, id: SubId) -> Result<List<Bytes>, HubFault>
-        ensures state { Becomes (state self.old) (state self.new) (λ old new. Answers old (frames_at old id.0) (drained old id.0) result new) }
+        ensures state { Becomes (state self.old) (state self.new) (λ old new.
+            Answers old (frames_at old id.0) (drained old id.0) result new) }
         ensures replies { Grows (replies self.old) (replies self.new) (drain_reply id result) }
         ensures may { MayDrain id result };
 
@@ -94,7 +99,8 @@ pub trait Machine {
         patterns: &mut P,
         steps: &mut Steps<L>,
     ) -> Result<Verdict, SimFault>
-        ensures state { Becomes (state self.old) (state self.new) (λ old new. Simulates (facts_of P.Patterns patterns.old) request.now result old new) }
+        ensures state { Becomes (state self.old) (state self.new) (λ old new.
+            Simulates (facts_of P.Patterns patterns.old) request.now result old new) }
         ensures replies { Grows (replies self.old) (replies self.new) (sim_reply result) }
         ensures asks { AsksPatterns P.Patterns patterns.old patterns.new (MetPattern result) };
 }

@@ -41,7 +41,9 @@ impl ScriptMachine {
     fn next(&self) -> Option<&Reply>
         ensures is { option_copied result ≡ next_reply self.now.replies self.now.given }
         ensures counted { IfSome result (λ reply. self.now.given + 1 < 2 ^ 32) }
-        ensures next { IfSome result (λ reply. take (self.now.given + 1) self.now.replies ≡ take self.now.given self.now.replies ++ reply.now ∷ []) }
+        ensures next { IfSome result (λ reply.
+            take (self.now.given + 1) self.now.replies
+            ≡ take self.now.given self.now.replies ++ reply.now ∷ []) }
     {
         if self.given == u32::MAX {
             return None;
@@ -70,7 +72,8 @@ impl Machine for ScriptMachine {
 
     fn begin(&mut self, _config: Config, _limits: Limits) -> Result<(), Memory>
         ensures done { result ≡ Ok tt }
-        ensures replies { Grows (Some (take self.old.given self.old.replies)) (Some (take self.new.given self.new.replies)) [] }
+        ensures replies { Grows (Some (take self.old.given self.old.replies))
+            (Some (take self.new.given self.new.replies)) [] }
         ensures script { self.new.replies ≡ self.old.replies }
         ensures given { self.new.given ≡ self.old.given }
     {
@@ -79,7 +82,8 @@ impl Machine for ScriptMachine {
 
     fn apply<L>(&mut self, _event: Event, _steps: &mut Steps<L>) -> Result<(), HubFault>
         ensures answer { result ≡ apply_answer (next_reply self.old.replies self.old.given) }
-        ensures replies { Grows (Some (take self.old.given self.old.replies)) (Some (take self.new.given self.new.replies)) (done_reply result) }
+        ensures replies { Grows (Some (take self.old.given self.old.replies))
+            (Some (take self.new.given self.new.replies)) (done_reply result) }
         ensures may { MayApply result }
         ensures script { self.new.replies ≡ self.old.replies }
         ensures given { self.new.given ≡ given_after result self.old.given }
@@ -105,7 +109,8 @@ impl Machine for ScriptMachine {
         _steps: &mut Steps<L>,
     ) -> Result<(), HubFault>
         ensures answer { result ≡ subscribe_answer (next_reply self.old.replies self.old.given) }
-        ensures replies { Grows (Some (take self.old.given self.old.replies)) (Some (take self.new.given self.new.replies)) (done_reply result) }
+        ensures replies { Grows (Some (take self.old.given self.old.replies))
+            (Some (take self.new.given self.new.replies)) (done_reply result) }
         ensures may { MaySubscribe result }
         ensures script { self.new.replies ≡ self.old.replies }
         ensures given { self.new.given ≡ given_after result self.old.given }
@@ -138,8 +143,10 @@ impl Machine for ScriptMachine {
     }
 
     fn drain(&mut self, id: SubId) -> Result<List<Bytes>, HubFault>
-        ensures answer { IsOrMemory (drain_answer id (next_reply self.old.replies self.old.given)) result }
-        ensures replies { Grows (Some (take self.old.given self.old.replies)) (Some (take self.new.given self.new.replies)) (drain_reply id result) }
+        ensures answer { IsOrMemory (drain_answer id (next_reply self.old.replies self.old.given))
+            result }
+        ensures replies { Grows (Some (take self.old.given self.old.replies))
+            (Some (take self.new.given self.new.replies)) (drain_reply id result) }
         ensures may { MayDrain id result }
         ensures script { self.new.replies ≡ self.old.replies }
         ensures given { self.new.given ≡ given_after result self.old.given }
@@ -169,8 +176,10 @@ impl Machine for ScriptMachine {
         _patterns: &mut P,
         _steps: &mut Steps<L>,
     ) -> Result<Verdict, SimFault>
-        ensures answer { IsVerdictOrMemory (simulate_answer (next_reply self.old.replies self.old.given)) result }
-        ensures replies { Grows (Some (take self.old.given self.old.replies)) (Some (take self.new.given self.new.replies)) (sim_reply result) }
+        ensures answer { IsVerdictOrMemory (simulate_answer
+            (next_reply self.old.replies self.old.given)) result }
+        ensures replies { Grows (Some (take self.old.given self.old.replies))
+            (Some (take self.new.given self.new.replies)) (sim_reply result) }
         ensures asks { AsksPatterns P.Patterns _patterns.old _patterns.new (MetPattern result) }
         ensures script { self.new.replies ≡ self.old.replies }
         ensures given { self.new.given ≡ given_after_verdict result self.old.given }

@@ -1,6 +1,7 @@
 use crate::rows::object_of;
 use crate::told::is_shown;
 use mesh_base::memory::Memory;
+use mesh_base::steps::Steps;
 use mesh_base::text::Text;
 use object_store::store::Store;
 use serde_json::Value;
@@ -154,7 +155,7 @@ fn query_of(alloc: Global, port: u16) -> Result<Query, Memory> {
 fn is_told(alloc: Global, store: &Store, port: u16, expected: &str) -> Result<bool, Memory> {
     let config = Config::usual(alloc)?;
     let query = query_of(alloc, port)?;
-    match &scratch(alloc, store, &config, &query)? {
+    match &scratch(alloc, store, &config, &query, &mut Steps::<View>::new())? {
         View::Endpoints(view) => Ok(is_shown(alloc, view, expected)),
         _ => Ok(false),
     }

@@ -65,7 +65,8 @@ fn identity_in(alloc: Global, config: &Config, id: &IdSpec) -> Result<Option<Tex
 }
 
 fn written_identity(string: &Text) -> Result<Option<Text>, Memory>
-    ensures { IfOk result (λ identity. identity ≡ (if is_star string.now || is_wild string.now then None else Some string.now)) }
+    ensures { IfOk result (λ identity.
+        identity ≡ (if is_star string.now || is_wild string.now then None else Some string.now)) }
 {
     if is_star(string) || is_wild(string) {
         Ok(None)
@@ -85,7 +86,8 @@ fn suffix_in(alloc: Global, config: &Config, id: &IdSpec) -> Result<Option<Text>
 }
 
 fn written_suffix(alloc: Global, string: &Text) -> Result<Option<Text>, Memory>
-    ensures { IfOk result (λ suffix. suffix ≡ (if is_wild string.now then Some (drop 1 string.now) else None)) }
+    ensures { IfOk result (λ suffix.
+        suffix ≡ (if is_wild string.now then Some (drop 1 string.now) else None)) }
 {
     if !is_wild(string) {
         return Ok(None);

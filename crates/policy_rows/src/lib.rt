@@ -15,4 +15,5 @@ pub mod routes;
 pub mod rows;
 mod selects;
 pub mod server;
+pub mod snapshot;
 pub mod subject;

@@ -5,9 +5,11 @@ ghost use Rattle.view_rules.specs.Policies.{blocks_in, clients, everywhere, ids_
 
 use crate::clients::clients_shown;
 use crate::held::{mesh_authn_held, net_authn_held};
+use crate::snapshot::Snapshot;
 use mesh_base::copied::Copied;
 use mesh_base::list::List;
 use mesh_base::memory::Memory;
+use mesh_base::steps::Steps;
 use mesh_base::text::Text;
 use net_cidr::block::Block;
 use net_cidr::ip::Ip;
@@ -15,7 +17,6 @@ use net_cidr::net::Net;
 use object_store::store::Store;
 use std::alloc::Global;
 use view_types::authn::{AuthzPolicy, IdSpec, MeshAuthn, NetAuthn, Ref, RefKind};
-use view_types::config::Config;
 use view_types::server_view::Authn;
 
 /// The namespace of a reference, by default that of its policy.
@@ -29,43 +30,47 @@ pub(crate) fn ns_of<'a>(own: &'a Text, need: &'a Ref) -> &'a Text
 }
 
 /// Each reference of the policy is there.
-pub(crate) fn is_complete(store: &Store, policy: &AuthzPolicy) -> Result<bool, Memory>
-    ensures { IfOk result (λ complete. complete ≡ is_complete store.now.objects policy.now) }
+pub(crate) fn is_complete<L>(store: &Store, policy: &AuthzPolicy, steps: &mut Steps<L>) -> bool
+    ensures { result ≡ is_complete store.now.objects policy.now }
 {
     let own = &policy.meta.ns;
     for need in policy.needs.as_slice() {
-        if !is_there(store, ns_of(own, need), &need.name, need.kind)? {
-            return Ok(false);
+        if !is_there(store, ns_of(own, need), &need.name, need.kind, steps) {
+            return false;
         }
     }
-    Ok(true)
+    true
 }
 
-fn is_there(store: &Store, ns: &Text, name: &Text, kind: RefKind) -> Result<bool, Memory>
-    ensures { IfOk result (λ there. there ≡ is_there store.now.objects ns.now name.now kind) }
+fn is_there<L>(store: &Store, ns: &Text, name: &Text, kind: RefKind, steps: &mut Steps<L>) -> bool
+    ensures { result ≡ is_there store.now.objects ns.now name.now kind }
 {
     match kind {
-        RefKind::ServiceAccount => Ok(true),
-        RefKind::MeshAuthn => Ok(mesh_authn_held(store, ns, name)?.is_some()),
-        RefKind::NetAuthn => Ok(net_authn_held(store, ns, name)?.is_some()),
-        _ => Ok(false),
+        RefKind::ServiceAccount => true,
+        RefKind::MeshAuthn => mesh_authn_held(store, ns, name, steps).is_some(),
+        RefKind::NetAuthn => net_authn_held(store, ns, name, steps).is_some(),
+        _ => false,
     }
 }
 
 /// The networks that the policy refers to, or all addresses.
-pub(crate) fn policy_blocks(
-    alloc: Global,
-    store: &Store,
+pub(crate) fn policy_blocks<L>(
+    from: &Snapshot,
     policy: &AuthzPolicy,
+    steps: &mut Steps<L>,
 ) -> Result<List<Block>, Memory>
-    ensures { IfOk result (λ blocks. blocks ≡ unwrap_or (networks store.now.objects policy.now) everywhere) }
+    ensures { IfOk result (λ blocks.
+        blocks ≡ unwrap_or (networks from.now.store.now.objects policy.now) everywhere) }
 {
     match networks_need(policy.needs.as_slice()) {
         Some(need) => {
             let ns = ns_of(&policy.meta.ns, need);
-            blocks_in(alloc, net_authn_held(store, ns, &need.name)?)
+            blocks_in(
+                from.alloc,
+                net_authn_held(from.store, ns, &need.name, steps),
+            )
         }
-        None => everywhere(alloc),
+        None => everywhere(from.alloc),
     }
 }
 
@@ -113,19 +118,19 @@ fn whole(alloc: Global, base: Ip) -> Block
 }
 
 /// The clients that the policy refers to, or anyone.
-pub(crate) fn policy_authn(
-    alloc: Global,
-    config: &Config,
-    store: &Store,
+pub(crate) fn policy_authn<L>(
+    from: &Snapshot,
     policy: &AuthzPolicy,
+    steps: &mut Steps<L>,
 ) -> Result<Authn, Memory>
-    ensures { IfOk result (λ authn. authn ≡ policy_authn config.now (clients store.now.objects policy.now)) }
+    ensures { IfOk result (λ authn.
+        authn ≡ policy_authn from.now.config.now (clients from.now.store.now.objects policy.now)) }
 {
     match clients_need(policy.needs.as_slice()) {
         Some(need) => {
             let ns = ns_of(&policy.meta.ns, need);
-            let ids = ids_at(alloc, store, ns, &need.name, need.kind)?;
-            clients_shown(alloc, config, ids.as_slice())
+            let ids = ids_at(from, ns, &need.name, need.kind, steps)?;
+            clients_shown(from.alloc, from.config, ids.as_slice())
         }
         None => Ok(Authn::Anyone),
     }
@@ -148,19 +153,19 @@ fn gives_clients(kind: RefKind) -> bool
 }
 
 /// The clients of a MeshTLSAuthentication, or a ServiceAccount.
-fn ids_at(
-    alloc: Global,
-    store: &Store,
+fn ids_at<L>(
+    from: &Snapshot,
     ns: &Text,
     name: &Text,
     kind: RefKind,
+    steps: &mut Steps<L>,
 ) -> Result<List<IdSpec>, Memory>
-    ensures { IfOk result (λ ids. ids ≡ ids_at store.now.objects ns.now name.now kind) }
+    ensures { IfOk result (λ ids. ids ≡ ids_at from.now.store.now.objects ns.now name.now kind) }
 {
     match kind {
-        RefKind::MeshAuthn => ids_in(alloc, mesh_authn_held(store, ns, name)?),
-        RefKind::ServiceAccount => account(alloc, ns, name),
-        _ => Ok(List::new(alloc)),
+        RefKind::MeshAuthn => ids_in(from.alloc, mesh_authn_held(from.store, ns, name, steps)),
+        RefKind::ServiceAccount => account(from.alloc, ns, name),
+        _ => Ok(List::new(from.alloc)),
     }
 }
 

@@ -18,7 +18,8 @@ pub fn route_row(
     rules: List<RuleRow>,
     authz: List<AuthzRow>,
 ) -> Result<RouteRow, Memory>
-    ensures { IfOk result (λ row. (rule_row : Written → Shown) → rules ≡ map rule_row route.now.rules → row ≡ route_row rule_row authz route.now) }
+    ensures { IfOk result (λ row. (rule_row : Written → Shown)
+        → rules ≡ map rule_row route.now.rules → row ≡ route_row rule_row authz route.now) }
 {
     Ok(RouteRow {
         kind: route.kind,

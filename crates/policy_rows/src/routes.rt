@@ -24,7 +24,9 @@ pub fn attached_routes<'a, A: Attachment>(
     ns: &Text,
     attachment: &A,
 ) -> Result<Vec<&'a Route>, Memory>
-    ensures { IfOk result (λ routes. map (λ route. route.now) routes.items ≡ attached_routes store.now.objects ns.now (A.is_parent attachment.now)) }
+    ensures { IfOk result (λ routes.
+        map (λ route. route.now) routes.items
+        ≡ attached_routes store.now.objects ns.now (A.is_parent attachment.now)) }
 {
     let mut routes = Vec::new(alloc);
     for object in store.all() {
@@ -35,7 +37,8 @@ pub fn attached_routes<'a, A: Attachment>(
 }
 
 fn add<'a>(routes: &mut Vec<&'a Route>, route: Option<&'a Route>) -> Result<(), Memory>
-    ensures { OnOk result (map (λ r. r.now) routes.new.items ≡ map (λ r. r.now) routes.old.items ++ option_to_list (option_copied route.entry)) }
+    ensures { OnOk result (map (λ r. r.now) routes.new.items
+        ≡ map (λ r. r.now) routes.old.items ++ option_to_list (option_copied route.entry)) }
 {
     if let Some(route) = route {
         routes.push(route)?;
@@ -48,7 +51,9 @@ fn attached_route<'a, A: Attachment>(
     ns: &Text,
     attachment: &A,
 ) -> Option<&'a Route>
-    ensures { option_to_list (option_copied result) ≡ filter (has_parent ns.now (A.is_parent attachment.now)) (option_to_list (as_route object.now)) }
+    ensures { option_to_list (option_copied result)
+        ≡ filter (has_parent ns.now (A.is_parent attachment.now))
+        (option_to_list (as_route object.now)) }
 {
     match as_route(object) {
         Some(route) if has_parent(ns, attachment, route) => Some(route),
@@ -80,7 +85,8 @@ fn is_attached<A: Attachment>(parents: &[Parent], attachment: &A) -> bool
 
 /// Each place in the order once, by its first route.
 fn put_in_order(routes: &mut Vec<&Route>) -> Result<(), Memory>
-    ensures { OnOk result (map (λ r. r.now) routes.new.items ≡ in_order_by route_cmp place_of (map (λ r. r.now) routes.old.items)) }
+    ensures { OnOk result (map (λ r. r.now) routes.new.items
+        ≡ in_order_by route_cmp place_of (map (λ r. r.now) routes.old.items)) }
 {
     routes.sort_by(|a, b| compare_routes(a, b))?;
     routes.dedup_by(|route, kept| is_same_place(route, kept));

@@ -1,4 +1,4 @@
-ghost use Rattle.std.specs.Prelude.{◌≡◌, Bool, IfOk};
+ghost use Rattle.std.specs.Prelude.{◌≡◌, Bool};
 ghost use Rattle.view_types.specs.Objects.{ObjectMap};
 ghost use Rattle.view_types.specs.declared.object.Object.{Object as Held};
 ghost use Rattle.view_rules.specs.Policies.{applies_to_route, applies_to_server, authorizes, is_on_route, is_on_server, is_route_kind, names_server, policy_applies};
@@ -6,7 +6,7 @@ ghost use Rattle.view_rules.specs.Policies.{applies_to_route, applies_to_server,
 use crate::refs::{is_complete, ns_of};
 use crate::selects::selects;
 use mesh_base::key::{Kind, ObjKey};
-use mesh_base::memory::Memory;
+use mesh_base::steps::Steps;
 use mesh_base::text::Text;
 use object_store::store::Store;
 use view_types::authn::{AuthzPolicy, RefKind, ServerAuthz, ServerRef};
@@ -18,22 +18,22 @@ pub trait Subject {
     /// An object applies to it.
     ghost applies: { ObjectMap → Self → Held → Bool };
 
-    fn applies(&self, store: &Store, object: &Object) -> Result<bool, Memory>
-        ensures { IfOk result (λ does. does ≡ applies store.now.objects self.now object.now) };
+    fn applies<L>(&self, store: &Store, object: &Object, steps: &mut Steps<L>) -> bool
+        ensures { result ≡ applies store.now.objects self.now object.now };
 }
 
 impl Subject for ServerSpec {
     ghost applies = { applies_to_server };
 
-    fn applies(&self, store: &Store, object: &Object) -> Result<bool, Memory> {
+    fn applies<L>(&self, store: &Store, object: &Object, steps: &mut Steps<L>) -> bool {
         match object {
-            Object::ServerAuthorization(authz) => Ok(authorizes(authz.get(), self)),
+            Object::ServerAuthorization(authz) => authorizes(authz.get(), self),
             Object::AuthorizationPolicy(policy) => {
                 let target = &policy.get().target;
                 let is_target = is_on_server(self, target.kind, &target.name);
-                policy_applies(store, &self.meta.ns, is_target, policy.get())
+                policy_applies(store, &self.meta.ns, is_target, policy.get(), steps)
             }
-            _ => Ok(false),
+            _ => false,
         }
     }
 }
@@ -41,32 +41,33 @@ impl Subject for ServerSpec {
 impl Subject for ObjKey {
     ghost applies = { applies_to_route };
 
-    fn applies(&self, store: &Store, object: &Object) -> Result<bool, Memory> {
+    fn applies<L>(&self, store: &Store, object: &Object, steps: &mut Steps<L>) -> bool {
         match object {
             Object::AuthorizationPolicy(policy) => {
                 let target = &policy.get().target;
                 let is_target = is_on_route(self, target.kind, &target.name);
-                policy_applies(store, &self.ns, is_target, policy.get())
+                policy_applies(store, &self.ns, is_target, policy.get(), steps)
             }
-            _ => Ok(false),
+            _ => false,
         }
     }
 }
 
 /// The policy and its target are in the namespace, the target is what is asked for, and the policy is complete.
-fn policy_applies(
+fn policy_applies<L>(
     store: &Store,
     ns: &Text,
     is_target: bool,
     policy: &AuthzPolicy,
-) -> Result<bool, Memory>
-    ensures { IfOk result (λ applies. applies ≡ policy_applies store.now.objects ns.now (λ kind name. is_target) policy.now) }
+    steps: &mut Steps<L>,
+) -> bool
+    ensures { result ≡ policy_applies store.now.objects ns.now (λ kind name. is_target) policy.now }
 {
     let own = &policy.meta.ns;
-    if *own == *ns && *ns_of(own, &policy.target) == *ns && is_target {
-        return is_complete(store, policy);
-    }
-    Ok(false)
+    *own == *ns
+        && *ns_of(own, &policy.target) == *ns
+        && is_target
+        && is_complete(store, policy, steps)
 }
 
 fn is_on_server(server: &ServerSpec, kind: RefKind, name: &Text) -> bool

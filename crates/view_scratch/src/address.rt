@@ -3,7 +3,7 @@ ghost use Rattle.std.specs.Option.{option_copied};
 ghost use Rattle.mesh_text.specs.Mesh.{is_some_text};
 ghost use Rattle.view_rules.specs.Profiles.{has_ended, has_ip, is_pod_with, is_service_with, pod_at, service_at};
 
-use crate::row::pod_found;
+use crate::pod::pod_found;
 use crate::service::service_found;
 use mesh_base::text::Text;
 use net_cidr::ip::{Ip, compare_ips};

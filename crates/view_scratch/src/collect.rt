@@ -1,55 +1,58 @@
-ghost use Rattle.std.specs.Prelude.{◌≡◌, ◌++◌, ◌&&◌, IfOk, OnOk, flat_map, option_to_list};
+ghost use Rattle.std.specs.Prelude.{◌≡◌, ◌++◌, ◌&&◌, IfOk, OnOk, filter_map, flat_map, if◌then◌else◌, map, None, option_to_list, Some};
 ghost use Rattle.std.specs.Option.{option_copied};
 ghost use Rattle.std.specs.Str.{bytes_eq};
-ghost use Rattle.view_rules.specs.Endpoints.{address_rows, has_addresses, is_text, point_rows, port_rows, service_of, slice_in, slice_rows, slices_held};
-ghost use Rattle.view_rules.specs.PodRows.{row_for, row_of};
+ghost use Rattle.view_rules.specs.Endpoints.{has_addresses, is_text, point_rows, service_of, slice_in, slice_rows, slices_held};
+ghost use Rattle.view_rules.specs.PodRows.{row_for};
+ghost use Rattle.view_scratch.specs.Parts.{number_at, row_at, rows_of_point};
 
-use crate::row::{pod_held, row_of};
+use crate::endpoint::Endpoint;
+use crate::pod::pod_held;
 use mesh_base::list::List;
 use mesh_base::memory::Memory;
+use mesh_base::steps::Steps;
 use mesh_base::text::Text;
 use net_cidr::ip::Ip;
-use object_store::store::Store;
+use policy_rows::snapshot::Snapshot;
 use std::alloc::Global;
-use view_types::config::Config;
 use view_types::endpoint::EndpointRow;
 use view_types::object::Object;
-use view_types::pod::Pod;
 use view_types::service::NamedPort;
 use view_types::slice::{Family, Point, Slice};
 
 /// A row for each place in the Service's slices that gives one at ports of this name. A pair of address and port
 /// stands as often as places give it.
-pub(crate) fn rows_of_places(
-    alloc: Global,
-    config: &Config,
-    store: &Store,
+pub(crate) fn rows_of_places<L>(
+    from: &Snapshot,
     ns: &Text,
     name: &Text,
     port_name: &Text,
+    steps: &mut Steps<L>,
 ) -> Result<List<EndpointRow>, Memory>
-    ensures { IfOk result (λ rows. rows ≡ flat_map (slice_rows (row_for config.now store.now.objects) port_name.now) (slices_held store.now.objects ns.now name.now)) }
+    ensures { IfOk result (λ rows.
+        rows ≡ flat_map (slice_rows (row_for from.now.config.now from.now.store.now.objects)
+        port_name.now) (slices_held from.now.store.now.objects ns.now name.now)) }
 {
-    let mut rows = List::new(alloc);
-    for object in store.all() {
+    let mut rows = List::new(from.alloc);
+    for object in from.store.all() {
         let slice = slice_in(object, ns, name);
-        add_found(alloc, config, store, &mut rows, slice, port_name)?;
+        add_found(from, &mut rows, slice, port_name, steps)?;
     }
     Ok(rows)
 }
 
-fn add_found(
-    alloc: Global,
-    config: &Config,
-    store: &Store,
+fn add_found<L>(
+    from: &Snapshot,
     rows: &mut List<EndpointRow>,
     slice: Option<&Slice>,
     port_name: &Text,
+    steps: &mut Steps<L>,
 ) -> Result<(), Memory>
-    ensures { OnOk result (rows.new ≡ rows.old ++ flat_map (slice_rows (row_for config.now store.now.objects) port_name.now) (option_to_list (option_copied slice.entry))) }
+    ensures { OnOk result (rows.new
+        ≡ rows.old ++ flat_map (slice_rows (row_for from.now.config.now from.now.store.now.objects)
+        port_name.now) (option_to_list (option_copied slice.entry))) }
 {
     match slice {
-        Some(slice) => add_slice(alloc, config, store, rows, slice, port_name),
+        Some(slice) => add_slice(from, rows, slice, port_name, steps),
         None => Ok(()),
     }
 }
@@ -79,107 +82,148 @@ fn is_of(slice: &Slice, name: &Text) -> bool
     }
 }
 
-fn add_slice(
-    alloc: Global,
-    config: &Config,
-    store: &Store,
+fn add_slice<L>(
+    from: &Snapshot,
     rows: &mut List<EndpointRow>,
     slice: &Slice,
     port_name: &Text,
+    steps: &mut Steps<L>,
 ) -> Result<(), Memory>
-    ensures { OnOk result (rows.new ≡ rows.old ++ slice_rows (row_for config.now store.now.objects) port_name.now slice.now) }
+    ensures { OnOk result (rows.new
+        ≡ rows.old ++ slice_rows (row_for from.now.config.now from.now.store.now.objects)
+        port_name.now slice.now) }
 {
-    let points = slice.points.as_slice();
-    let ports = slice.ports.as_slice();
     match slice.family {
-        Family::V4 | Family::V6 => add_points(alloc, config, store, rows, points, ports, port_name),
+        Family::V4 | Family::V6 => add_places(from, rows, slice, port_name, steps),
         Family::Fqdn => Ok(()),
     }
 }
 
-fn add_points(
-    alloc: Global,
-    config: &Config,
-    store: &Store,
+fn add_places<L>(
+    from: &Snapshot,
+    rows: &mut List<EndpointRow>,
+    slice: &Slice,
+    port_name: &Text,
+    steps: &mut Steps<L>,
+) -> Result<(), Memory>
+    ensures { OnOk result (rows.new
+        ≡ rows.old ++ flat_map (point_rows (row_for from.now.config.now from.now.store.now.objects)
+        port_name.now slice.now.ports) slice.now.points) }
+{
+    let numbers = numbers_named(from.alloc, slice.ports.as_slice(), port_name)?;
+    let points = slice.points.as_slice();
+    add_points(from, rows, points, numbers.as_slice(), steps)
+}
+
+/// The numbers of the TCP ports of the name.
+fn numbers_named(alloc: Global, ports: &[NamedPort], name: &Text) -> Result<List<u16>, Memory>
+    ensures { IfOk result (λ numbers. numbers ≡ filter_map (number_at name.now) ports.now) }
+{
+    let mut numbers = List::new(alloc);
+    for port in ports {
+        add_number(&mut numbers, number_at(port, name))?;
+    }
+    Ok(numbers)
+}
+
+fn add_number(numbers: &mut List<u16>, number: Option<u16>) -> Result<(), Memory>
+    ensures { OnOk result (numbers.new ≡ numbers.old ++ option_to_list number) }
+{
+    match number {
+        Some(number) => numbers.add(number),
+        None => Ok(()),
+    }
+}
+
+fn number_at(port: &NamedPort, name: &Text) -> Option<u16>
+    ensures { result ≡ number_at name.now port.now }
+{
+    if port.tcp && port.name == *name {
+        return Some(port.port);
+    }
+    None
+}
+
+fn add_points<L>(
+    from: &Snapshot,
     rows: &mut List<EndpointRow>,
     points: &[Point],
-    ports: &[NamedPort],
-    port_name: &Text,
+    numbers: &[u16],
+    steps: &mut Steps<L>,
 ) -> Result<(), Memory>
-    ensures { OnOk result (rows.new ≡ rows.old ++ flat_map (point_rows (row_for config.now store.now.objects) port_name.now ports.now) points.now) }
+    ensures { OnOk result (rows.new
+        ≡ rows.old ++ flat_map
+        (rows_of_point (row_for from.now.config.now from.now.store.now.objects) numbers.now)
+        points.now) }
 {
     for point in points {
-        add_point(alloc, config, store, rows, point, ports, port_name)?;
+        add_point(from, rows, point, numbers, steps)?;
     }
     Ok(())
 }
 
-fn add_point(
-    alloc: Global,
-    config: &Config,
-    store: &Store,
+fn add_point<L>(
+    from: &Snapshot,
     rows: &mut List<EndpointRow>,
     point: &Point,
-    ports: &[NamedPort],
-    port_name: &Text,
+    numbers: &[u16],
+    steps: &mut Steps<L>,
 ) -> Result<(), Memory>
-    ensures { OnOk result (rows.new ≡ rows.old ++ point_rows (row_for config.now store.now.objects) port_name.now ports.now point.now) }
+    ensures { OnOk result (rows.new
+        ≡ rows.old ++ rows_of_point (row_for from.now.config.now from.now.store.now.objects)
+        numbers.now point.now) }
 {
     if point.ready {
-        let pod = pod_held(store, &point.pod)?;
-        let addrs = point.addrs.as_slice();
-        return add_addresses(alloc, config, rows, pod, addrs, ports, port_name);
+        return add_ready(from, rows, point, numbers, steps);
     }
     Ok(())
+}
+
+fn add_ready<L>(
+    from: &Snapshot,
+    rows: &mut List<EndpointRow>,
+    point: &Point,
+    numbers: &[u16],
+    steps: &mut Steps<L>,
+) -> Result<(), Memory>
+    ensures { OnOk result (rows.new
+        ≡ rows.old ++ flat_map
+        (λ ip. map (row_for from.now.config.now from.now.store.now.objects point.now.pod ip)
+        numbers.now) point.now.addrs) }
+{
+    let pod = pod_held(from.store, &point.pod, steps);
+    let endpoint = Endpoint::of(from.alloc, from.config, pod)?;
+    let addrs = point.addrs.as_slice();
+    add_addresses(from.alloc, rows, &endpoint, addrs, numbers)
 }
 
 fn add_addresses(
     alloc: Global,
-    config: &Config,
     rows: &mut List<EndpointRow>,
-    pod: Option<&Pod>,
+    endpoint: &Endpoint,
     addrs: &[Ip],
-    ports: &[NamedPort],
-    port_name: &Text,
+    numbers: &[u16],
 ) -> Result<(), Memory>
-    ensures { OnOk result (rows.new ≡ rows.old ++ flat_map (address_rows (row_of config.now (option_copied pod.entry)) port_name.now ports.now) addrs.now) }
+    ensures { OnOk result (rows.new
+        ≡ rows.old ++ flat_map (λ ip. map (row_at endpoint.now ip) numbers.now) addrs.now) }
 {
     for ip in addrs {
-        add_address(alloc, config, rows, pod, *ip, ports, port_name)?;
+        add_address(alloc, rows, endpoint, *ip, numbers)?;
     }
     Ok(())
 }
 
 fn add_address(
     alloc: Global,
-    config: &Config,
     rows: &mut List<EndpointRow>,
-    pod: Option<&Pod>,
+    endpoint: &Endpoint,
     ip: Ip,
-    ports: &[NamedPort],
-    port_name: &Text,
+    numbers: &[u16],
 ) -> Result<(), Memory>
-    ensures { OnOk result (rows.new ≡ rows.old ++ address_rows (row_of config.now (option_copied pod.entry)) port_name.now ports.now ip) }
+    ensures { OnOk result (rows.new ≡ rows.old ++ map (row_at endpoint.now ip) numbers.now) }
 {
-    for port in ports {
-        add_port(alloc, config, rows, pod, ip, port, port_name)?;
-    }
-    Ok(())
-}
-
-fn add_port(
-    alloc: Global,
-    config: &Config,
-    rows: &mut List<EndpointRow>,
-    pod: Option<&Pod>,
-    ip: Ip,
-    port: &NamedPort,
-    port_name: &Text,
-) -> Result<(), Memory>
-    ensures { OnOk result (rows.new ≡ rows.old ++ port_rows (row_of config.now (option_copied pod.entry)) port_name.now ip port.now) }
-{
-    if port.tcp && port.name == *port_name {
-        return rows.add(row_of(alloc, config, pod, ip, port.port)?);
+    for number in numbers {
+        rows.add(endpoint.row_at(alloc, ip, *number)?)?;
     }
     Ok(())
 }

@@ -5,19 +5,20 @@ ghost use Rattle.view_rules.specs.Inbound.{default_policy, default_protocol, def
 ghost use Rattle.mesh_text.specs.PolicyWords.{policy_of};
 
 use crate::opaque::is_opaque;
-use crate::row::pod_named;
+use crate::pod::pod_named;
 use k8s_meta::choice::Word;
 use mesh_base::copied::Copied;
 use mesh_base::list::List;
 use mesh_base::memory::Memory;
+use mesh_base::steps::Steps;
 use mesh_base::text::Text;
 use mesh_text::policy_word::PolicyWord;
-use object_store::store::Store;
 use policy_rows::parent::ServerNamed;
 use policy_rows::route_row::{route_key, route_row};
 use policy_rows::routes::attached_routes;
 use policy_rows::rows::authz_rows;
 use policy_rows::server::chosen_server;
+use policy_rows::snapshot::Snapshot;
 use std::alloc::Global;
 use view_types::config::Config;
 use view_types::pod::Pod;
@@ -27,39 +28,40 @@ use view_types::server::ServerSpec;
 use view_types::server_view::{RouteRow, RuleRow, ServerRow, ServerView};
 
 /// What holds for a port of the Pod of the namespace and name, by what is held.
-pub fn inbound(
-    alloc: Global,
-    config: &Config,
-    store: &Store,
+pub fn inbound<L>(
+    from: &Snapshot,
     ns: &Text,
     name: &Text,
     port: u16,
+    steps: &mut Steps<L>,
 ) -> Result<ServerView, Memory>
-    ensures { IfOk result (λ view. view ≡ inbound config.now store.now.objects ns.now name.now port) }
+    ensures { IfOk result (λ view.
+        view ≡ inbound from.now.config.now from.now.store.now.objects ns.now name.now port) }
 {
-    match pod_named(store, ns, name)? {
+    match pod_named(from.store, ns, name, steps) {
         Some(pod) => {
-            let server = chosen_server(store, ns, pod, port);
-            let row = port_row(alloc, config, store, pod, port, server)?;
+            let server = chosen_server(from.store, ns, pod, port);
+            let row = port_row(from, pod, port, server, steps)?;
             Ok(ServerView::Present(row))
         }
         None => Ok(ServerView::Absent),
     }
 }
 
-fn port_row(
-    alloc: Global,
-    config: &Config,
-    store: &Store,
+fn port_row<L>(
+    from: &Snapshot,
     pod: &Pod,
     port: u16,
     server: Option<&ServerSpec>,
+    steps: &mut Steps<L>,
 ) -> Result<ServerRow, Memory>
-    ensures { IfOk result (λ row. row ≡ port_row config.now store.now.objects pod.now port (option_copied server.entry)) }
+    ensures { IfOk result (λ row. row
+        ≡ port_row from.now.config.now from.now.store.now.objects pod.now port
+        (option_copied server.entry)) }
 {
     match server {
-        Some(server) => server_row(alloc, config, store, server),
-        None => default_row(alloc, config, pod, port),
+        Some(server) => server_row(from, server, steps),
+        None => default_row(from.alloc, from.config, pod, port),
     }
 }
 
@@ -94,7 +96,8 @@ fn default_policy(config: &Config, pod: &Pod) -> Policy
 }
 
 fn annotated_policy(pod: &Pod) -> Option<Policy>
-    ensures { result ≡ option_and_then policy_of (get pod.now.meta.notes (codes "config.linkerd.io/default-inbound-policy")) }
+    ensures { result ≡ option_and_then policy_of
+        (get pod.now.meta.notes (codes "config.linkerd.io/default-inbound-policy")) }
 {
     match pod
         .meta
@@ -106,64 +109,65 @@ fn annotated_policy(pod: &Pod) -> Option<Policy>
     }
 }
 
-fn server_row(
-    alloc: Global,
-    config: &Config,
-    store: &Store,
+fn server_row<L>(
+    from: &Snapshot,
     server: &ServerSpec,
+    steps: &mut Steps<L>,
 ) -> Result<ServerRow, Memory>
-    ensures { IfOk result (λ row. row ≡ server_row config.now store.now.objects server.now) }
+    ensures { IfOk result (λ row. row
+        ≡ server_row from.now.config.now from.now.store.now.objects server.now) }
 {
     Ok(ServerRow {
         protocol: server.protocol,
         policy: server.policy,
         server: Some(server.meta.name.copy()?),
-        authz: authz_rows(alloc, config, store, server)?,
-        routes: inbound_routes(alloc, config, store, server)?,
+        authz: authz_rows(from, server, steps)?,
+        routes: inbound_routes(from, server, steps)?,
     })
 }
 
-fn inbound_routes(
-    alloc: Global,
-    config: &Config,
-    store: &Store,
+fn inbound_routes<L>(
+    from: &Snapshot,
     server: &ServerSpec,
+    steps: &mut Steps<L>,
 ) -> Result<List<RouteRow>, Memory>
-    ensures { IfOk result (λ rows. rows ≡ inbound_routes config.now store.now.objects server.now) }
+    ensures { IfOk result (λ rows.
+        rows ≡ inbound_routes from.now.config.now from.now.store.now.objects server.now) }
 {
     let attachment = ServerNamed {
         name: &server.meta.name,
     };
-    let routes = attached_routes(alloc, store, &server.meta.ns, &attachment)?;
-    route_rows(alloc, config, store, routes.as_slice())
+    let routes = attached_routes(from.alloc, from.store, &server.meta.ns, &attachment)?;
+    route_rows(from, routes.as_slice(), steps)
 }
 
-fn route_rows(
-    alloc: Global,
-    config: &Config,
-    store: &Store,
+fn route_rows<L>(
+    from: &Snapshot,
     routes: &[&Route],
+    steps: &mut Steps<L>,
 ) -> Result<List<RouteRow>, Memory>
-    ensures { IfOk result (λ rows. rows ≡ map (λ route. inbound_route config.now store.now.objects route.now) routes.now) }
+    ensures { IfOk result (λ rows.
+        rows ≡ map (λ route. inbound_route from.now.config.now from.now.store.now.objects route.now)
+        routes.now) }
 {
-    let mut rows = List::new(alloc);
+    let mut rows = List::new(from.alloc);
     for route in routes {
-        rows.add(inbound_route(alloc, config, store, route)?)?;
+        rows.add(inbound_route(from, route, steps)?)?;
     }
     Ok(rows)
 }
 
-fn inbound_route(
-    alloc: Global,
-    config: &Config,
-    store: &Store,
+fn inbound_route<L>(
+    from: &Snapshot,
     route: &Route,
+    steps: &mut Steps<L>,
 ) -> Result<RouteRow, Memory>
-    ensures { IfOk result (λ row. row ≡ inbound_route config.now store.now.objects route.now) }
+    ensures { IfOk result (λ row. row
+        ≡ inbound_route from.now.config.now from.now.store.now.objects route.now) }
 {
-    let rules = inbound_rules(alloc, route.rules.as_slice())?;
-    let authz = authz_rows(alloc, config, store, &route_key(route)?)?;
-    route_row(alloc, route, rules, authz)
+    let rules = inbound_rules(from.alloc, route.rules.as_slice())?;
+    let authz = authz_rows(from, &route_key(route)?, steps)?;
+    route_row(from.alloc, route, rules, authz)
 }
 
 fn inbound_rules(alloc: Global, rules: &[Rule]) -> Result<List<RuleRow>, Memory>

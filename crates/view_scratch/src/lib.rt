@@ -7,12 +7,13 @@
 
 mod address;
 mod collect;
+mod endpoint;
 pub mod endpoints;
 pub mod inbound;
 mod opaque;
 pub mod outbound;
 mod pairs;
+mod pod;
 pub mod profile;
-mod row;
 pub mod scratch;
 mod service;

@@ -31,7 +31,8 @@ pub(crate) fn is_opaque_for(
     service: Option<&Service>,
     port: u16,
 ) -> Result<bool, Memory>
-    ensures { IfOk result (λ opaque. opaque ≡ is_within (service_ranges (option_copied service.entry)) port) }
+    ensures { IfOk result (λ opaque.
+        opaque ≡ is_within (service_ranges (option_copied service.entry)) port) }
 {
     match service {
         Some(service) if !service.external => is_opaque(alloc, &service.meta, port),

@@ -3,18 +3,19 @@ ghost use Rattle.std.specs.Option.{option_copied};
 ghost use Rattle.view_rules.specs.Profiles.{address_profile, as_profile, overrides_in, pod_profile, profile, profile_for, profile_found, profile_held, routes_in, service_at, service_profile};
 
 use crate::address::{pod_at, service_at};
+use crate::endpoint::row_of;
 use crate::opaque::{is_opaque, is_opaque_by_default, is_opaque_for};
-use crate::row::row_of;
 use crate::service::service_held;
 use mesh_base::copied::Copied;
 use mesh_base::key::Kind;
 use mesh_base::list::List;
 use mesh_base::memory::Memory;
+use mesh_base::steps::Steps;
 use mesh_base::text::Text;
 use mesh_text::mesh::full_name;
 use net_cidr::ip::Ip;
 use object_store::store::Store;
-use policy_rows::held::object_held;
+use policy_rows::snapshot::Snapshot;
 use std::alloc::Global;
 use view_types::config::Config;
 use view_types::object::Object;
@@ -23,59 +24,70 @@ use view_types::pod::Pod;
 use view_types::profile::{Override, Profile, ProfileRoute};
 use view_types::query::Target;
 
+/// A port of the Service of a namespace and name.
+#[derive(Clone, Copy)]
+struct ServicePort<'a> {
+    ns: &'a Text,
+    name: &'a Text,
+    port: u16,
+}
+
 /// The profile of a target, for a client in this namespace if it says one, by what is held.
-pub fn profile(
-    alloc: Global,
-    config: &Config,
-    store: &Store,
+pub fn profile<L>(
+    from: &Snapshot,
     target: &Target,
     client: &Option<Text>,
+    steps: &mut Steps<L>,
 ) -> Result<ProfileView, Memory>
-    ensures { IfOk result (λ view. view ≡ profile config.now store.now.objects target.now client.now) }
+    ensures { IfOk result (λ view.
+        view ≡ profile from.now.config.now from.now.store.now.objects target.now client.now) }
 {
     match target {
         Target::Service { ns, name, port } => {
-            service_profile(alloc, config, store, client, ns, name, *port)
+            let port = *port;
+            service_profile(from, client, &ServicePort { ns, name, port }, steps)
         }
-        Target::Address { ip, port } => address_profile(alloc, config, store, client, *ip, *port),
+        Target::Address { ip, port } => address_profile(from, client, *ip, *port, steps),
     }
 }
 
-fn address_profile(
-    alloc: Global,
-    config: &Config,
-    store: &Store,
+fn address_profile<L>(
+    from: &Snapshot,
     client: &Option<Text>,
     ip: Ip,
     port: u16,
+    steps: &mut Steps<L>,
 ) -> Result<ProfileView, Memory>
-    ensures { IfOk result (λ view. view ≡ address_profile config.now store.now.objects client.now ip port (service_at store.now.objects ip)) }
+    ensures { IfOk result (λ view.
+        view ≡ address_profile from.now.config.now from.now.store.now.objects client.now ip port
+        (service_at from.now.store.now.objects ip)) }
 {
-    match service_at(store, ip) {
+    match service_at(from.store, ip) {
         Some(service) => {
-            let meta = &service.meta;
-            service_profile(alloc, config, store, client, &meta.ns, &meta.name, port)
+            let ns = &service.meta.ns;
+            let name = &service.meta.name;
+            service_profile(from, client, &ServicePort { ns, name, port }, steps)
         }
-        None => pod_profile(alloc, config, pod_at(store, ip), ip, port),
+        None => pod_profile(from.alloc, from.config, pod_at(from.store, ip), ip, port),
     }
 }
 
-fn service_profile(
-    alloc: Global,
-    config: &Config,
-    store: &Store,
+fn service_profile<L>(
+    from: &Snapshot,
     client: &Option<Text>,
-    ns: &Text,
-    name: &Text,
-    port: u16,
+    asked: &ServicePort,
+    steps: &mut Steps<L>,
 ) -> Result<ProfileView, Memory>
-    ensures { IfOk result (λ view. view ≡ service_profile config.now store.now.objects client.now ns.now name.now port) }
+    ensures { IfOk result (λ view.
+        view ≡ service_profile from.now.config.now from.now.store.now.objects client.now
+        asked.now.ns.now asked.now.name.now asked.now.port) }
 {
-    let fqn = full_name(alloc, config, ns, name)?;
-    let opaque = is_opaque_for(alloc, service_held(store, ns, name)?, port)?;
-    let found = profile_for(store, client, ns, &fqn)?;
-    let routes = routes_in(alloc, found)?;
-    let overrides = overrides_in(alloc, found)?;
+    let fqn = full_name(from.alloc, from.config, asked.ns, asked.name)?;
+    let service = service_held(from.store, asked.ns, asked.name, steps);
+    let opaque = is_opaque_for(from.alloc, service, asked.port)?;
+    let found = profile_for(from.store, client, asked.ns, &fqn, steps);
+    let routes = routes_in(from.alloc, found)?;
+    let overrides = overrides_in(from.alloc, found)?;
     Ok(ProfileView {
         fqn,
         opaque,
@@ -86,28 +98,33 @@ fn service_profile(
 }
 
 /// The profile of the full name in the client's namespace, if it says one and one is held there, else in the Service's.
-fn profile_for<'a>(
+fn profile_for<'a, L>(
     store: &'a Store,
     client: &Option<Text>,
     ns: &Text,
     full: &Text,
-) -> Result<Option<&'a Profile>, Memory>
-    ensures { IfOk result (λ found. option_copied found ≡ profile_for store.now.objects client.now ns.now full.now) }
+    steps: &mut Steps<L>,
+) -> Option<&'a Profile>
+    ensures { option_copied result ≡ profile_for store.now.objects client.now ns.now full.now }
 {
     match client {
-        Some(client) => match profile_held(store, client, full)? {
-            Some(profile) => Ok(Some(profile)),
-            None => profile_held(store, ns, full),
+        Some(client) => match profile_held(store, client, full, steps) {
+            Some(profile) => Some(profile),
+            None => profile_held(store, ns, full, steps),
         },
-        None => profile_held(store, ns, full),
+        None => profile_held(store, ns, full, steps),
     }
 }
 
-fn profile_held<'a>(store: &'a Store, ns: &Text, name: &Text) -> Result<Option<&'a Profile>, Memory>
-    ensures { IfOk result (λ found. option_copied found ≡ profile_held store.now.objects ns.now name.now) }
+fn profile_held<'a, L>(
+    store: &'a Store,
+    ns: &Text,
+    name: &Text,
+    steps: &mut Steps<L>,
+) -> Option<&'a Profile>
+    ensures { option_copied result ≡ profile_held store.now.objects ns.now name.now }
 {
-    let found = object_held(store, Kind::ServiceProfile, ns, name)?;
-    Ok(profile_found(found))
+    profile_found(store.find(Kind::ServiceProfile, ns, name, steps))
 }
 
 fn profile_found(found: Option<&Object>) -> Option<&Profile>

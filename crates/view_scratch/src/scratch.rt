@@ -7,32 +7,45 @@ use crate::inbound::inbound;
 use crate::outbound::outbound;
 use crate::profile::profile;
 use mesh_base::memory::Memory;
+use mesh_base::steps::Steps;
 use object_store::store::Store;
+use policy_rows::snapshot::Snapshot;
 use std::alloc::Global;
 use view_types::config::Config;
 use view_types::query::Query;
 use view_types::view::View;
 
 /// The view of a query, by what is held.
-pub fn scratch(alloc: Global, store: &Store, config: &Config, query: &Query) -> Result<View, Memory>
+pub fn scratch<L>(
+    alloc: Global,
+    store: &Store,
+    config: &Config,
+    query: &Query,
+    steps: &mut Steps<L>,
+) -> Result<View, Memory>
     ensures value { IfOk result (λ view. view ≡ view_of config.now store.now.objects query.now) }
     ensures orderly { IfOk result (λ view. IsOrderlyIfShown (Some view)) }
 {
+    let from = Snapshot {
+        alloc,
+        config,
+        store,
+    };
     match query {
         Query::Get { ns, name, port, .. } => {
-            let view = endpoints(alloc, config, store, ns, name, *port)?;
+            let view = endpoints(&from, ns, name, *port, steps)?;
             Ok(View::Endpoints(view))
         }
         Query::Profile { target, ctx } => {
-            let view = profile(alloc, config, store, target, &ctx.ns)?;
+            let view = profile(&from, target, &ctx.ns, steps)?;
             Ok(View::Profile(view))
         }
         Query::Port { ns, pod, port } => {
-            let view = inbound(alloc, config, store, ns, pod, *port)?;
+            let view = inbound(&from, ns, pod, *port, steps)?;
             Ok(View::Server(view))
         }
         Query::Traffic { target } => {
-            let view = outbound(alloc, config, store, target)?;
+            let view = outbound(&from, target, steps)?;
             Ok(View::Outbound(view))
         }
     }

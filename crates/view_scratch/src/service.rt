@@ -1,25 +1,24 @@
-ghost use Rattle.std.specs.Prelude.{◌≡◌, ◌&&◌, ◌==◌, IfOk, find, option_map};
+ghost use Rattle.std.specs.Prelude.{◌≡◌, ◌&&◌, ◌==◌, find, option_map};
 ghost use Rattle.std.specs.Option.{option_copied};
 ghost use Rattle.view_rules.specs.Endpoints.{as_service, port_name, service_found, service_held};
 
 use mesh_base::key::Kind;
-use mesh_base::memory::Memory;
+use mesh_base::steps::Steps;
 use mesh_base::text::Text;
 use object_store::store::Store;
-use policy_rows::held::object_held;
 use view_types::object::Object;
 use view_types::service::{NamedPort, Service};
 
 /// The Service of the namespace and name, if it is held.
-pub(crate) fn service_held<'a>(
+pub(crate) fn service_held<'a, L>(
     store: &'a Store,
     ns: &Text,
     name: &Text,
-) -> Result<Option<&'a Service>, Memory>
-    ensures { IfOk result (λ service. option_copied service ≡ service_held store.now.objects ns.now name.now) }
+    steps: &mut Steps<L>,
+) -> Option<&'a Service>
+    ensures { option_copied result ≡ service_held store.now.objects ns.now name.now }
 {
-    let found = object_held(store, Kind::Service, ns, name)?;
-    Ok(service_found(found))
+    service_found(store.find(Kind::Service, ns, name, steps))
 }
 
 pub(crate) fn service_found(found: Option<&Object>) -> Option<&Service>

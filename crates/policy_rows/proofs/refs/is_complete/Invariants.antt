@@ -5,4 +5,4 @@ use Rattle.policy_rows.proofs.refs.is_complete.Given as goal
 
 -- the references so far are there
 abbrev pub invariant-loop-need : goal.invariant-loop-need
-invariant-loop-need l = list_all (λ need. is_there l.store.objects (ns_of l.policy.meta.ns need) need.name need.kind) (take l.need-index l.need-items) ≡ true
+invariant-loop-need g l = list_all (λ need. is_there l.store.objects (ns_of l.policy.meta.ns need) need.name need.kind) (take l.need-index l.need-items) ≡ true

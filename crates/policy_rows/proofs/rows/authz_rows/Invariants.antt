@@ -5,4 +5,4 @@ use Rattle.policy_rows.proofs.rows.authz_rows.Given as goal
 
 -- the rows of those so far that apply
 abbrev pub invariant-loop-object : goal.invariant-loop-object
-invariant-loop-object g l = l.rows ≡ filter_map (authz_row l.config l.store.objects) (filter (g.S.Subject.applies l.store.objects l.subject) (take l.object-index l.object-items))
+invariant-loop-object g l = l.rows ≡ filter_map (authz_row l.from.config.now l.from.store.now.objects) (filter (g.S.Subject.applies l.from.store.now.objects l.subject) (take l.object-index l.object-items))

@@ -6,4 +6,4 @@ use Rattle.view_scratch.proofs.collect.rows_of_places.Given as goal
 
 -- the rows of the objects so far are there
 abbrev pub invariant-loop-object : goal.invariant-loop-object
-invariant-loop-object l = l.rows ≡ flat_map (λ o. flat_map (slice_rows (row_for l.config l.store.objects) l.port_name) (option_to_list (slice_in l.ns l.name o))) (take l.object-index l.object-items)
+invariant-loop-object g l = l.rows ≡ flat_map (λ o. flat_map (slice_rows (row_for l.from.config.now l.from.store.now.objects) l.port_name) (option_to_list (slice_in l.ns l.name o))) (take l.object-index l.object-items)

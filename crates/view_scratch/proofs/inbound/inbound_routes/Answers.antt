@@ -6,8 +6,8 @@ use Rattle.view_scratch.proofs.Found.{map_through}
 use Rattle.view_scratch.proofs.inbound.inbound_routes.Goals as goal
 
 pub returns : goal.returns
-returns c =
-    let row = inbound_route c.args.config.now c.args.store.now.objects in
+returns g c =
+    let row = inbound_route c.args.from.now.config.now c.args.from.now.store.now.objects in
     let rows =
     ap (map (λ (route : Bor Route). row route.now)) c.as_slice.ensures.value
     ∙ map_through row (λ (route : Bor Route). route.now) c.in_ok-routes.routes.items ∙ ap (map row) c.in_ok-routes.ensures in

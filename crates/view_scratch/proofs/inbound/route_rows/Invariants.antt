@@ -4,4 +4,4 @@ use Rattle.view_scratch.proofs.inbound.route_rows.Given as goal
 
 -- the rows of the routes so far
 abbrev pub invariant-loop-route : goal.invariant-loop-route
-invariant-loop-route l = l.rows ≡ map (λ route. inbound_route l.config l.store.objects route.now) (take l.route-index l.routes)
+invariant-loop-route g l = l.rows ≡ map (λ route. inbound_route l.from.config.now l.from.store.now.objects route.now) (take l.route-index l.routes)

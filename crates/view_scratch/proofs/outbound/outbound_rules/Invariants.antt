@@ -4,4 +4,4 @@ use Rattle.view_scratch.proofs.outbound.outbound_rules.Given as goal
 
 -- the rows of the rules so far
 abbrev pub invariant-loop-rule : goal.invariant-loop-rule
-invariant-loop-rule l = l.rows ≡ map (outbound_rule l.store.objects) (take l.rule-index l.rules)
+invariant-loop-rule g l = l.rows ≡ map (outbound_rule l.from.store.now.objects) (take l.rule-index l.rules)

@@ -6,20 +6,20 @@ use Rattle.view_rules.specs.Views.{view_of}
 use Rattle.view_scratch.proofs.scratch.scratch.Goals as goal
 
 pub returns-in_ok-view-in-Get-clause-value : goal.returns-in_ok-view-in-Get-clause-value
-returns-in_ok-view-in-Get-clause-value c =
+returns-in_ok-view-in-Get-clause-value g c =
     ap Endpoints c.in_ok-view-in-Get.ensures ∙ ap (view_of c.args.config.now c.args.store.now.objects) (sym c.in-Get.is)
 
 pub returns-in_ok-view-in-Get-clause-orderly : goal.returns-in_ok-view-in-Get-clause-orderly
-returns-in_ok-view-in-Get-clause-orderly c = subst IsOrderly (sym c.in_ok-view-in-Get.ensures) (endpoints_are_orderly c.args.config.now _ _ _ _)
+returns-in_ok-view-in-Get-clause-orderly g c = subst IsOrderly (sym c.in_ok-view-in-Get.ensures) (endpoints_are_orderly c.args.config.now _ _ _ _)
 
 pub returns-in_ok-view-in-Profile-clause-value : goal.returns-in_ok-view-in-Profile-clause-value
-returns-in_ok-view-in-Profile-clause-value c =
+returns-in_ok-view-in-Profile-clause-value g c =
     ap Profile c.in_ok-view-in-Profile.ensures ∙ ap (view_of c.args.config.now c.args.store.now.objects) (sym c.in-Profile.is)
 
 pub returns-in_ok-view-in-Port-clause-value : goal.returns-in_ok-view-in-Port-clause-value
-returns-in_ok-view-in-Port-clause-value c =
+returns-in_ok-view-in-Port-clause-value g c =
     ap Server c.in_ok-view-in-Port.ensures ∙ ap (view_of c.args.config.now c.args.store.now.objects) (sym c.in-Port.is)
 
 pub returns-in_ok-view-in-Traffic-clause-value : goal.returns-in_ok-view-in-Traffic-clause-value
-returns-in_ok-view-in-Traffic-clause-value c =
+returns-in_ok-view-in-Traffic-clause-value g c =
     ap Outbound c.in_ok-view-in-Traffic.ensures ∙ ap (view_of c.args.config.now c.args.store.now.objects) (sym c.in-Traffic.is)
