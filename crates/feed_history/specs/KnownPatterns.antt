@@ -35,6 +35,10 @@ pub record GoOn (tells tells_now : Option Pat) (refuses refuses_now : Option (Li
   pub same_refuses : refuses_now ≡ refuses
   pub later : before ≤ now
 
+-- the same of patterns earlier and now
+abbrev pub GoOver : {S : Type 0} → Ghosts S → S → S → Type 0
+GoOver P earlier now = GoOn (P.tells earlier) (P.tells now) (P.refuses earlier) (P.refuses now) (P.refusals earlier) (P.refusals now)
+
 pub goes_on_here : (tells : Option Pat) (refuses : Option (List ℕ → Bool)) (count : ℕ) → GoOn tells tells refuses refuses count count
 goes_on_here tells refuses count = record { same_tells = refl; same_refuses = refl; later = omega arith }
 

@@ -27,7 +27,8 @@ pub fn push_refused<F: Display>(
     number: u64,
     fault: &F,
 ) -> Result<(), AllocError>
-    ensures { OnOk result (IfSome (F.output fault.now) (λ text. out.new.items ≡ out.old.items ++ fault_line number text)) }
+    ensures { OnOk result (IfSome (F.output fault.now) (λ text.
+        out.new.items ≡ out.old.items ++ fault_line number text)) }
 {
     let text = format!(in alloc; "refused {number} {fault}\n")?;
     out.extend_from_slice(text.as_bytes())

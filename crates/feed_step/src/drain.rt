@@ -48,8 +48,12 @@ pub fn drain<H: Machine>(
     id: SubId,
     out: &mut Vec<u8>,
 ) -> Result<Drained, Memory>
-    ensures state { IfOk result (λ outcome. Becomes (H.state hub.old) (H.state hub.new) (Drains id outcome out.old.items out.new.items)) }
-    ensures replies { IfOk result (λ outcome. Becomes (H.replies hub.old) (H.replies hub.new) (Replied reply_text (drain_refusal outcome) out.old.items out.new.items)) }
+    ensures state { IfOk result (λ outcome.
+        Becomes (H.state hub.old) (H.state hub.new)
+        (Drains id outcome out.old.items out.new.items)) }
+    ensures replies { IfOk result (λ outcome.
+        Becomes (H.replies hub.old) (H.replies hub.new)
+        (Replied reply_text (drain_refusal outcome) out.old.items out.new.items)) }
     ensures grows { Becomes (H.replies hub.old) (H.replies hub.new) Extends }
 {
     match hub.drain(id) {

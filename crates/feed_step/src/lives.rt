@@ -14,7 +14,8 @@ fn first_of(ids: &[u32], id: u32) -> Option<usize>
 
 // Where an id stands.
 fn place_of(ids: &[u32], id: u32) -> Option<usize>
-    ensures { MatchOption result (in_place (λ other. other) id ended ids.now ≡ ids.now) (StandsAt (λ other. other) id ids.now) }
+    ensures { MatchOption result (in_place (λ other. other) id ended ids.now ≡ ids.now)
+        (StandsAt (λ other. other) id ids.now) }
 {
     first_of(ids, id)
 }

@@ -1,4 +1,4 @@
-ghost use Rattle.std.specs.Prelude.{◌≡◌, ◌≤◌, ◌∷◌, [], ◌++◌, IfOk, Ok};
+ghost use Rattle.std.specs.Prelude.{◌≡◌, ◌∷◌, [], ◌++◌, IfOk, Ok};
 ghost use Rattle.std.specs.Option.{option_copied};
 ghost use Rattle.mesh_base.specs.declared.limits.Limits.{Limits};
 ghost use Rattle.view_types.specs.declared.config.Config.{Config as TheConfig};
@@ -10,7 +10,7 @@ ghost use Rattle.feed_history.specs.Ids.{ended, in_place, unknown_refusal};
 ghost use Rattle.feed_history.specs.Optional.{Becomes, Extends};
 ghost use Rattle.feed_history.specs.Program.{replay_of};
 ghost use Rattle.feed_step.specs.Transcript.{reply_text, sim_text};
-ghost use Rattle.feed_history.specs.KnownPatterns.{known_over};
+ghost use Rattle.feed_history.specs.KnownPatterns.{GoOver, known_over};
 ghost use Rattle.feed_step.specs.LineStep.{IsRefusalBy, IsRefusalFor, IsSimulated, IsUnread, Makes, Replied, TakesByReplies, TakesFrom, Unreplied, drain_refusal, live_drained, live_unless};
 
 use crate::drain::{Drained, drain};
@@ -51,8 +51,10 @@ fn apply<H: Machine, L>(
     steps: &mut Steps<L>,
 ) -> Result<Option<Refusal>, Memory>
     requires { IsLawfulEvent event }
-    ensures state { IfOk result (λ refusal. Becomes (H.state hub.old) (H.state hub.new) (λ old new. Makes (apply_refusal old event) (applied old event) refusal new)) }
-    ensures replies { IfOk result (λ refusal. Becomes (H.replies hub.old) (H.replies hub.new) (Replied reply_text refusal [] [])) }
+    ensures state { IfOk result (λ refusal. Becomes (H.state hub.old) (H.state hub.new) (λ old new.
+        Makes (apply_refusal old event) (applied old event) refusal new)) }
+    ensures replies { IfOk result (λ refusal.
+        Becomes (H.replies hub.old) (H.replies hub.new) (Replied reply_text refusal [] [])) }
     ensures grows { Becomes (H.replies hub.old) (H.replies hub.new) Extends }
 {
     match hub.apply(event, steps) {
@@ -69,10 +71,13 @@ fn subscribe<H: Machine, L>(
     query: Query,
     steps: &mut Steps<L>,
 ) -> Result<Option<Refusal>, Memory>
-    ensures state { IfOk result (λ refusal. Becomes (H.state hub.old) (H.state hub.new) (λ old new. Makes (new_refusal old id.0) (subscribed old id query) refusal new)) }
-    ensures replies { IfOk result (λ refusal. Becomes (H.replies hub.old) (H.replies hub.new) (Replied reply_text refusal [] [])) }
+    ensures state { IfOk result (λ refusal. Becomes (H.state hub.old) (H.state hub.new) (λ old new.
+        Makes (new_refusal old id.0) (subscribed old id query) refusal new)) }
+    ensures replies { IfOk result (λ refusal.
+        Becomes (H.replies hub.old) (H.replies hub.new) (Replied reply_text refusal [] [])) }
     ensures grows { Becomes (H.replies hub.old) (H.replies hub.new) Extends }
-    ensures live { IfOk result (λ refusal. live.new ≡ live_unless refusal live.old (live.old ++ id.0 ∷ [])) }
+    ensures live { IfOk result (λ refusal.
+        live.new ≡ live_unless refusal live.old (live.old ++ id.0 ∷ [])) }
 {
     match hub.subscribe(id, query, steps) {
         Ok(()) => {
@@ -89,10 +94,12 @@ fn cancel<H: Machine>(
     live: &mut List<u32>,
     id: SubId,
 ) -> Option<Refusal>
-    ensures state { Becomes (H.state hub.old) (H.state hub.new) (λ old new. Makes (unknown_refusal id.0 (sub_at id.0 old.subs)) (cancelled old id.0) result new) }
+    ensures state { Becomes (H.state hub.old) (H.state hub.new) (λ old new.
+        Makes (unknown_refusal id.0 (sub_at id.0 old.subs)) (cancelled old id.0) result new) }
     ensures replies { Becomes (H.replies hub.old) (H.replies hub.new) (Unreplied result) }
     ensures grows { Becomes (H.replies hub.old) (H.replies hub.new) Extends }
-    ensures live { live.new ≡ live_unless result live.old (in_place (λ other. other) id.0 ended live.old) }
+    ensures live { live.new ≡ live_unless result live.old
+        (in_place (λ other. other) id.0 ended live.old) }
 {
     match hub.cancel(id) {
         Ok(()) => {
@@ -140,12 +147,13 @@ fn simulate<H: Machine, P: Patterns, L>(
     steps: &mut Steps<L>,
 ) -> Result<Option<Refusal>, Memory>
     ensures state { IfOk result (λ refusal. Becomes (H.state hub.old) (H.state hub.new)
-        (IsSimulated (known_over P.Patterns patterns.old patterns.new) number request.now refusal out.old.items out.new.items)) }
-    ensures replies { IfOk result (λ refusal. Becomes (H.replies hub.old) (H.replies hub.new) (Replied (sim_text number request.now.ns) refusal out.old.items out.new.items)) }
+        (IsSimulated (known_over P.Patterns patterns.old patterns.new) number request.now refusal
+        out.old.items out.new.items)) }
+    ensures replies { IfOk result (λ refusal.
+        Becomes (H.replies hub.old) (H.replies hub.new)
+        (Replied (sim_text number request.now.ns) refusal out.old.items out.new.items)) }
     ensures grows { Becomes (H.replies hub.old) (H.replies hub.new) Extends }
-    ensures later { P.refusals patterns.old ≤ P.refusals patterns.new }
-    ensures tells_same { P.tells patterns.new ≡ P.tells patterns.old }
-    ensures refuses_same { P.refuses patterns.new ≡ P.refuses patterns.old }
+    ensures goes_on { GoOver P.Patterns patterns.old patterns.new }
 {
     match hub.simulate(request, patterns, steps) {
         Ok(verdict) => {
@@ -168,13 +176,16 @@ fn take_line<H: Machine, P: Patterns, L>(
     steps: &mut Steps<L>,
 ) -> Result<Option<Refusal>, Memory>
     requires { IsLawfulLine line }
-    ensures state { IfOk result (λ refusal. (config : TheConfig) (limits : Limits) (pat : Pat) → Becomes (H.state hub.old) (H.state hub.new)
-        (TakesFrom (replay_of config limits pat) (known_over P.Patterns patterns.old patterns.new) number (Ok line) refusal live.old live.new out.old.items out.new.items)) }
-    ensures replies { IfOk result (λ refusal. Becomes (H.replies hub.old) (H.replies hub.new) (TakesByReplies number (Ok line) refusal out.old.items out.new.items)) }
+    ensures state { IfOk result (λ refusal.
+        (config : TheConfig) (limits : Limits) (pat : Pat)
+        → Becomes (H.state hub.old) (H.state hub.new)
+        (TakesFrom (replay_of config limits pat) (known_over P.Patterns patterns.old patterns.new)
+        number (Ok line) refusal live.old live.new out.old.items out.new.items)) }
+    ensures replies { IfOk result (λ refusal.
+        Becomes (H.replies hub.old) (H.replies hub.new)
+        (TakesByReplies number (Ok line) refusal out.old.items out.new.items)) }
     ensures grows { Becomes (H.replies hub.old) (H.replies hub.new) Extends }
-    ensures later { P.refusals patterns.old ≤ P.refusals patterns.new }
-    ensures tells_same { P.tells patterns.new ≡ P.tells patterns.old }
-    ensures refuses_same { P.refuses patterns.new ≡ P.refuses patterns.old }
+    ensures goes_on { GoOver P.Patterns patterns.old patterns.new }
 {
     match line {
         Line::Blank => Ok(None),
@@ -213,14 +224,16 @@ pub fn take_row<H: Machine, P: Patterns, L>(
     out: &mut Vec<u8>,
     steps: &mut Steps<L>,
 ) -> Result<Option<Refusal>, Memory>
-    ensures state { IfOk result (λ refusal. (limits : Limits) (pat : Pat) → Becomes (H.state hub.old) (H.state hub.new)
-        (TakesFrom (replay_of config.now limits pat) (known_over P.Patterns patterns.old patterns.new) number (row_says (text_line config.now) (option_copied row.entry)) refusal live.old live.new out.old.items out.new.items)) }
+    ensures state { IfOk result (λ refusal.
+        (limits : Limits) (pat : Pat) → Becomes (H.state hub.old) (H.state hub.new)
+        (TakesFrom (replay_of config.now limits pat)
+        (known_over P.Patterns patterns.old patterns.new) number (row_says (text_line config.now)
+        (option_copied row.entry)) refusal live.old live.new out.old.items out.new.items)) }
     ensures replies { IfOk result (λ refusal. Becomes (H.replies hub.old) (H.replies hub.new)
-        (TakesByReplies number (row_says (text_line config.now) (option_copied row.entry)) refusal out.old.items out.new.items)) }
+        (TakesByReplies number (row_says (text_line config.now) (option_copied row.entry)) refusal
+        out.old.items out.new.items)) }
     ensures grows { Becomes (H.replies hub.old) (H.replies hub.new) Extends }
-    ensures later { P.refusals patterns.old ≤ P.refusals patterns.new }
-    ensures tells_same { P.tells patterns.new ≡ P.tells patterns.old }
-    ensures refuses_same { P.refuses patterns.new ≡ P.refuses patterns.old }
+    ensures goes_on { GoOver P.Patterns patterns.old patterns.new }
 {
     match read_row(alloc, row, config) {
         Ok(line) => take_line(alloc, hub, patterns, live, number, line, out, steps),

@@ -35,45 +35,61 @@ impl<H: Machine, P: Patterns, L> LineMachine for Replaying<'_, '_, '_, '_, '_, H
     ghost use Rattle.feed_history.specs.Optional.{Becomes, Extends};
     ghost use Rattle.feed_history.proofs.Optional.{extends_same, extends_then};
     ghost use Rattle.replay_core.specs.Stand.{Ended, Ending, IsOfRun, Stands, ending_none};
-    ghost use Rattle.feed_history.specs.KnownPatterns.{GoOn, goes_on_further, goes_on_here, known_of};
+    ghost use Rattle.feed_history.specs.KnownPatterns.{GoOver, goes_on_further, goes_on_here, known_over};
 
-    ghost stands = { λ start now past text refused. (now.hub.ghost_name ≡ start.hub.ghost_name) × (now.patterns.ghost_name ≡ start.patterns.ghost_name)
+    ghost stands = { λ start now past text refused. (now.hub.ghost_name ≡ start.hub.ghost_name)
+        × (now.patterns.ghost_name ≡ start.patterns.ghost_name)
         × IsOfRun start.config.now start.limits now.config.now now.limits
-        × GoOn (P.tells start.patterns.now) (P.tells now.patterns.now) (P.refuses start.patterns.now) (P.refuses now.patterns.now) (P.refusals start.patterns.now) (P.refusals now.patterns.now)
-        × Stands start.config.now start.limits (known_of (P.tells start.patterns.now) (P.refuses start.patterns.now) (P.refusals start.patterns.now) (P.refusals now.patterns.now))
-        (H.state start.hub.now) (H.state now.hub.now) (H.replies start.hub.now) (H.replies now.hub.now) now.live.now now.sent past text refused };
+        × GoOver P.Patterns start.patterns.now now.patterns.now
+        × Stands start.config.now start.limits (known_over P.Patterns start.patterns.now now.patterns.now)
+        (H.state start.hub.now) (H.state now.hub.now) (H.replies start.hub.now)
+        (H.replies now.hub.now) now.live.now now.sent past text refused };
 
-    ghost ending = { λ start now past text refused. (now.hub.ghost_name ≡ start.hub.ghost_name) × (now.patterns.ghost_name ≡ start.patterns.ghost_name)
+    ghost ending = { λ start now past text refused. (now.hub.ghost_name ≡ start.hub.ghost_name)
+        × (now.patterns.ghost_name ≡ start.patterns.ghost_name)
         × IsOfRun start.config.now start.limits now.config.now now.limits
-        × GoOn (P.tells start.patterns.now) (P.tells now.patterns.now) (P.refuses start.patterns.now) (P.refuses now.patterns.now) (P.refusals start.patterns.now) (P.refusals now.patterns.now)
-        × Ending start.config.now start.limits (known_of (P.tells start.patterns.now) (P.refuses start.patterns.now) (P.refusals start.patterns.now) (P.refusals now.patterns.now))
-        (H.state start.hub.now) (H.state now.hub.now) (H.replies start.hub.now) (H.replies now.hub.now) now.live.now now.sent past text refused };
+        × GoOver P.Patterns start.patterns.now now.patterns.now
+        × Ending start.config.now start.limits (known_over P.Patterns start.patterns.now now.patterns.now)
+        (H.state start.hub.now) (H.state now.hub.now) (H.replies start.hub.now)
+        (H.replies now.hub.now) now.live.now now.sent past text refused };
 
-    ghost ended = { λ start now past text refused. (now.hub.ghost_name ≡ start.hub.ghost_name) × (now.patterns.ghost_name ≡ start.patterns.ghost_name)
-        × GoOn (P.tells start.patterns.now) (P.tells now.patterns.now) (P.refuses start.patterns.now) (P.refuses now.patterns.now) (P.refusals start.patterns.now) (P.refusals now.patterns.now)
-        × Ended start.config.now start.limits (known_of (P.tells start.patterns.now) (P.refuses start.patterns.now) (P.refusals start.patterns.now) (P.refusals now.patterns.now))
-        (H.state start.hub.now) (H.state now.hub.now) (H.replies start.hub.now) (H.replies now.hub.now) past text refused };
+    ghost ended = { λ start now past text refused. (now.hub.ghost_name ≡ start.hub.ghost_name)
+        × (now.patterns.ghost_name ≡ start.patterns.ghost_name)
+        × GoOver P.Patterns start.patterns.now now.patterns.now
+        × Ended start.config.now start.limits (known_over P.Patterns start.patterns.now now.patterns.now)
+        (H.state start.hub.now) (H.state now.hub.now) (H.replies start.hub.now)
+        (H.replies now.hub.now) past text refused };
 
     ghost begins = { λ start now past text refused stood. (
       stood.0,
       stood.1,
       stood.2,
       stood.3,
-      ending_none start.config.now start.limits (known_of (P.tells start.patterns.now) (P.refuses start.patterns.now) (P.refusals start.patterns.now) (P.refusals now.patterns.now))
-          (H.state start.hub.now) (H.state now.hub.now) (H.replies start.hub.now) (H.replies now.hub.now) now.live.now now.sent past text refused stood.4,
+      ending_none start.config.now start.limits (known_over P.Patterns start.patterns.now now.patterns.now)
+          (H.state start.hub.now) (H.state now.hub.now) (H.replies start.hub.now)
+          (H.replies now.hub.now) now.live.now now.sent past text refused stood.4,
     ) };
 
-    ghost keeps = { λ earlier now. (now.hub.ghost_name ≡ earlier.hub.ghost_name) × (now.patterns.ghost_name ≡ earlier.patterns.ghost_name)
-        × GoOn (P.tells earlier.patterns.now) (P.tells now.patterns.now) (P.refuses earlier.patterns.now) (P.refuses now.patterns.now) (P.refusals earlier.patterns.now) (P.refusals now.patterns.now)
+    ghost keeps = { λ earlier now. (now.hub.ghost_name ≡ earlier.hub.ghost_name)
+        × (now.patterns.ghost_name ≡ earlier.patterns.ghost_name)
+        × GoOver P.Patterns earlier.patterns.now now.patterns.now
         × Becomes (H.replies earlier.hub.now) (H.replies now.hub.now) Extends };
 
-    ghost keeps_itself = { λ machine. (refl, refl, goes_on_here (P.tells machine.patterns.now) (P.refuses machine.patterns.now) (P.refusals machine.patterns.now), extends_same (H.replies machine.hub.now)) };
+    ghost keeps_itself = { λ machine. (
+      refl,
+      refl,
+      goes_on_here (P.tells machine.patterns.now)
+          (P.refuses machine.patterns.now) (P.refusals machine.patterns.now),
+      extends_same
+          (H.replies machine.hub.now),
+    ) };
 
     ghost keeps_on = { λ first second third on further. (
       further.0 ∙ on.0,
       further.1 ∙ on.1,
       goes_on_further on.2 further.2,
-      extends_then (H.replies first.hub.now) (H.replies second.hub.now) (H.replies third.hub.now) on.3 further.3,
+      extends_then (H.replies first.hub.now) (H.replies second.hub.now) (H.replies third.hub.now)
+          on.3 further.3,
     ) };
 
     ghost pieces_left = { λ now. length now.live.now - now.sent };

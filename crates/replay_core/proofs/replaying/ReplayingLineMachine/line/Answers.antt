@@ -18,7 +18,7 @@ returns-in-None-clause-stands g c = λ start past sent earlier counts stood.
       stood.1,
       stood.2,
       goes_on (tells first) (tells old.patterns.now) (tells new.patterns) (refuses first) (refuses old.patterns.now) (refuses new.patterns) (refusals first) (refusals old.patterns.now) (refusals new.patterns)
-          stood.3 c.take_row.ensures.tells_same c.take_row.ensures.refuses_same c.take_row.ensures.later,
+          stood.3 c.take_row.ensures.goes_on.same_tells c.take_row.ensures.goes_on.same_refuses c.take_row.ensures.goes_on.later,
       stands_row start.config.now start.limits (tells first) (refuses first) (refusals first) (refusals old.patterns.now) (refusals new.patterns)
           (state start.hub.now) (state old.hub.now) (state new.hub) (replies start.hub.now) (replies old.hub.now) (replies new.hub) old.live.now new.live old.sent c.args.number
           row past sent c.args.out.now.items new.out.items new.out.items earlier false None counts
@@ -43,7 +43,7 @@ returns-in_ok-push_refused-in-Some-clause-stands g c = λ start past sent earlie
       stood.1,
       stood.2,
       goes_on (tells first) (tells old.patterns.now) (tells new.patterns) (refuses first) (refuses old.patterns.now) (refuses new.patterns) (refusals first) (refusals old.patterns.now) (refusals new.patterns)
-          stood.3 c.take_row.ensures.tells_same c.take_row.ensures.refuses_same c.take_row.ensures.later,
+          stood.3 c.take_row.ensures.goes_on.same_tells c.take_row.ensures.goes_on.same_refuses c.take_row.ensures.goes_on.later,
       stands_row start.config.now start.limits (tells first) (refuses first) (refusals first) (refusals old.patterns.now) (refusals new.patterns)
           (state start.hub.now) (state old.hub.now) (state new.hub) (replies start.hub.now) (replies old.hub.now) (replies new.hub) old.live.now new.live old.sent c.args.number
           row past sent c.args.out.now.items new.out.items c.push_refused.new.out.items earlier true (Some c.in-Some.refusal) counts
