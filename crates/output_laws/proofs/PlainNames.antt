@@ -29,6 +29,7 @@ use Rattle.view_types.specs.declared.verdict.Verdict.{Verdict}
 use Rattle.view_types.specs.declared.verdict.Verdict.TheVariants.{Allowed, Denied, NotFound, NoWorkload}
 use Rattle.view_rules.proofs.Among.{Among, from_found, from_kept}
 use Rattle.view_rules.proofs.Attached.{places_exact, route_order_is_total}
+use Rattle.view_rules.proofs.Firsts.{stands_at}
 use Rattle.view_rules.proofs.Entries.{held_somewhere}
 use Rattle.view_rules.proofs.KeptOnce.{order_has}
 use Rattle.view_rules.specs.Inbound.{default_policy}
@@ -167,11 +168,6 @@ attached_plain held lawful ns is_parent route at =
     let found = from_found as_route (values held) route kept.0 in
     let place = held_somewhere keys_total held found.0 found.1 in
     route_in found.0 (lawful place.0 found.0 place.1) route found.2
-
-stands_at : {X : Type 0} (xs : List X) (n : ℕ) (x : X) → slice_get xs n ≡ Some x → Among x xs
-stands_at [] n x found = absurd (cc found)
-stands_at (y ∷ ys) zero x found = inl (cc found)
-stands_at (y ∷ ys) (suc n) x found = inr (stands_at ys n x found)
 
 text_plain : (meta : Meta) → IsPlainMeta meta → NoBreak (route_text meta.ns meta.name)
 text_plain meta plain =

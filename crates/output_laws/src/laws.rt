@@ -18,7 +18,8 @@ use history_laws::laws::{
 
 /// What a fold of a replay's output writes are the lines of the view over the objects held at the end.
 pub fn frames_and_objects_agree()
-    ensures { (config : Config) (limits : Limits) (pat : Pat) → FoldAgrees (replay_of config limits pat) }
+    ensures { (config : Config) (limits : Limits) (pat : Pat)
+        → FoldAgrees (replay_of config limits pat) }
 {
     at_the_end_it_folds_to_the_view();
     messages_read_back();
@@ -35,7 +36,8 @@ pub fn same_events_same_objects()
 
 /// So a fold of a replay's output agrees with what a program shows that takes the events of the same input.
 pub fn a_fold_agrees_with_what_is_shown()
-    ensures { (config : Config) (limits : Limits) (pat : Pat) (other : Program) → FoldAgreesWith (replay_of config limits pat) other }
+    ensures { (config : Config) (limits : Limits) (pat : Pat) (other : Program)
+        → FoldAgreesWith (replay_of config limits pat) other }
 {
     frames_and_objects_agree();
 }
@@ -43,19 +45,22 @@ pub fn a_fold_agrees_with_what_is_shown()
 /// The configuration that words give is lawful, as `messages_are_sendable` asks for.
 #[tactic(auto, using(crate::proofs::Configurations::words_are_lawful))]
 pub fn words_give_lawful_configurations()
-    ensures { (words : List (List ℕ)) (command : Command) → command_in words ≡ Some command → ConfigIs IsLawfulConfig command }
+    ensures { (words : List (List ℕ)) (command : Command) → command_in words ≡ Some command
+        → ConfigIs IsLawfulConfig command }
 {}
 
 /// A fold of a replay's output writes what a diagnosis of its input writes behind its refused lines.
 pub fn frames_and_a_diagnosis_agree()
-    ensures { (config : Config) (limits : Limits) (pat : Pat) → FoldAgreesWithDiagnosis config limits pat }
+    ensures { (config : Config) (limits : Limits) (pat : Pat)
+        → FoldAgreesWithDiagnosis config limits pat }
 {
     frames_and_objects_agree();
 }
 
 /// So it is of what a replay wrote.
 pub fn a_replay_and_a_diagnosis_agree()
-    ensures { (config : Config) (limits : Limits) (pat : Pat) → ReplayAgreesWithDiagnosis config limits pat }
+    ensures { (config : Config) (limits : Limits) (pat : Pat)
+        → ReplayAgreesWithDiagnosis config limits pat }
 {
     frames_and_a_diagnosis_agree();
     marks_change_nothing();

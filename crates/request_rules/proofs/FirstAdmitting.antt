@@ -14,7 +14,7 @@ use Rattle.view_rules.specs.Policies.{authz_row}
 use Rattle.request_rules.specs.Admits.{admits, row_admits}
 use Rattle.request_rules.specs.Laws.{FirstRowsShowTheLeast, IsAdmitting, IsLeastObject}
 use Rattle.request_rules.proofs.Admitted.{not_shown, rows_admit_as_their_objects}
-use Rattle.request_rules.proofs.FirstPassing.{first_passing, none_passing}
+use Rattle.view_rules.proofs.FirstHeld.{first_passing, none_passing}
 
 module _ (config : Config) (held : ObjectMap) (at_keys : AtKeys held) (applies : Object → Bool) (ip : Ip) (tls : ClientTls) where
   abbrev pub counts : Object → Bool

@@ -3,6 +3,5 @@ pub mod Blocks
 pub mod Clients
 pub mod Deciders
 pub mod FirstAdmitting
-pub mod FirstPassing
 pub mod Shapes
 pub mod Undecided

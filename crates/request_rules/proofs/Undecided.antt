@@ -1,5 +1,5 @@
 -- When a verdict neither allows nor denies.
-use Rattle.std.proofs.Common.{◌≡◌, ◌↔◌, ℕ, Bool, true, false, ◌&&◌, find, if◌then◌else◌, List, [], ◌∷◌, map, Option, Some, None, refl, sym, ap, subst, ◌∙◌}
+use Rattle.std.proofs.Common.{◌≡◌, ℕ, Bool, true, false, ◌&&◌, find, if◌then◌else◌, List, [], ◌∷◌, map, Option, Some, None, refl, sym, ap, subst, ◌∙◌}
 use Rattle.std.specs.Prelude.{MatchOption}
 use Rattle.std.specs.FinMap.{values}
 use Rattle.std.specs.List.{fold, slice_get}
@@ -25,7 +25,7 @@ use Rattle.view_rules.specs.Servers.{chosen_server}
 use Rattle.route_match.specs.Matching.{AreCandidates, BestIsFirst, CandidatesAreThoseThatHold, IsCandidate, IsFirstOfTheBest, Pat, Shape, best, better, candidates}
 use Rattle.route_match.specs.declared.best.Candidate.{Candidate}
 use Rattle.request_rules.specs.Admits.{admits}
-use Rattle.request_rules.specs.Laws.{IsUndecided, NoMatchHolds, NoWorkloadWhereNoPod, NotFoundWhereNoMatchHolds}
+use Rattle.request_rules.specs.Laws.{IsUndecided, NoWorkloadWhereNoPod, NotFoundWhereNoMatchHolds}
 use Rattle.request_rules.specs.Meeting.{RoutesCount, routes_of}
 use Rattle.request_rules.specs.Verdicts.{applies_to_either, asks_routes, by_found, by_pod, by_policy, by_routes, by_server, decided, is_more_than_none, on_route, policy_admits, route_at, shape_of, verdict}
 

@@ -1,5 +1,5 @@
 -- Servers, their routes and those who apply to them stand in one namespace.
-use Rattle.std.proofs.Common.{◌≡◌, ℕ, zero, suc, Bool, true, false, cond, List, [], ◌∷◌, Some, None, inl, inr, refl, sym, ap, ◌∙◌}
+use Rattle.std.proofs.Common.{◌≡◌, ℕ, Bool, true, List, Some, None, refl, sym, ap, ◌∙◌}
 use Rattle.std.specs.Cmp.Lexicographic.{bytes_decides}
 use Rattle.std.specs.FinMap.{values}
 use Rattle.std.specs.List.{filter, filter_map, find, slice_get}
@@ -15,8 +15,10 @@ use Rattle.view_types.specs.declared.server.ServerSpec.{ServerSpec}
 use Rattle.view_rules.specs.Policies.{applies_to_route, applies_to_server, is_on_route, is_on_server, policy_applies}
 use Rattle.view_rules.specs.Routes.{as_route, has_parent, is_server_parent, place_of}
 use Rattle.view_rules.specs.Servers.{as_server, chosen_server, is_server_for, server_found}
-use Rattle.view_rules.proofs.Among.{Among, from_kept}
+use Rattle.view_rules.proofs.Among.{from_kept}
 use Rattle.view_rules.proofs.Attached.{places_exact, route_order_is_total}
+use Rattle.view_rules.proofs.FirstHeld.{first_passes}
+use Rattle.view_rules.proofs.Firsts.{stands_at}
 use Rattle.view_rules.proofs.Given.{both_hold}
 use Rattle.view_rules.proofs.KeptOnce.{order_has}
 use Rattle.request_rules.specs.Meeting.{routes_of}
@@ -41,11 +43,6 @@ here_of_route held route _ e = absurd (cc e)
 
 -- ---- routes
 
-stands_at : {X : Type 0} (xs : List X) (k : ℕ) (x : X) → slice_get xs k ≡ Some x → Among x xs
-stands_at [] k x e = absurd (cc e)
-stands_at (y ∷ ys) zero x e = inl (cc e)
-stands_at (y ∷ ys) (suc k) x e = inr (stands_at ys k x e)
-
 pub route_is_here : (held : ObjectMap) (server : ServerSpec) (k : ℕ) (route : Route) → slice_get (routes_of held server) k ≡ Some route → route.meta.ns ≡ server.meta.ns
 route_is_here held server k route at =
     let is_parent = is_server_parent server.meta.name in
@@ -55,14 +52,6 @@ route_is_here held server k route at =
     (bytes_decides route.meta.ns server.meta.ns).0 (both_hold _ _ kept.1).0
 
 -- ---- the Server
-
-found_passes : {X : Type 0} (p : X → Bool) (xs : List X) (x : X) → find p xs ≡ Some x → p x ≡ true
-found_passes p [] x e = absurd (cc e)
-found_passes p (y ∷ ys) x e =
-    elim (p y) as (λ b. p y ≡ b → cond b (Some y) (find p ys) ≡ Some x → p x ≡ true) [
-      | true ↦ λ t e. let is : y ≡ x = cc e in ap p (sym is) ∙ t
-      | false ↦ λ t e. found_passes p ys x e
-    ] refl e
 
 server_of : (ns : List ℕ) (pod : Pod) (number : ℕ) (server : ServerSpec) (o : Object) → is_server_for ns pod number o ≡ true → as_server o ≡ Some server → server.meta.ns ≡ ns
 server_of ns pod number server (object.Server s) is e =
@@ -74,5 +63,5 @@ pub server_is_here : (held : ObjectMap) (ns : List ℕ) (pod : Pod) (number : �
 server_is_here held ns pod number server e =
     elim (find (is_server_for ns pod number) (values held)) as (λ found. find (is_server_for ns pod number) (values held) ≡ found → server_found found ≡ Some server → server.meta.ns ≡ ns) [
       | None ↦ λ is e. absurd (cc e)
-      | Some o ↦ λ is e. server_of ns pod number server o (found_passes (is_server_for ns pod number) (values held) o is) e
+      | Some o ↦ λ is e. server_of ns pod number server o (first_passes (is_server_for ns pod number) (values held) o is).0 e
     ] refl e

@@ -36,7 +36,8 @@ pub fn decide<P: Patterns>(
     patterns: &mut P,
 ) -> Result<Verdict, SimFault>
     // Over any objects that have this view, it is the written policy's verdict.
-    ensures simulated { (held : ObjectMap) → AtKeys held → inbound config.now held request.now.ns request.now.pod request.now.port ≡ view.now
+    ensures simulated { (held : ObjectMap) → AtKeys held
+        → inbound config.now held request.now.ns request.now.pod request.now.port ≡ view.now
         → Simulated config.now held (facts_of P.Patterns patterns.old) request.now result }
     ensures asks { AsksPatterns P.Patterns patterns.old patterns.new (MetPattern result) }
 {
@@ -64,7 +65,8 @@ fn decide_by_rows<P: Patterns>(
     config: &Config,
     patterns: &mut P,
 ) -> Result<Verdict, SimFault>
-    ensures decided { (pat : Pat) → P.tells patterns.old ≡ Some pat → IfOk result (λ verdict. verdict ≡ decision config.now pat request.now view.now) }
+    ensures decided { (pat : Pat) → P.tells patterns.old ≡ Some pat → IfOk result (λ verdict.
+        verdict ≡ decision config.now pat request.now view.now) }
     ensures named { IfErr result (IsOfView (facts_of P.Patterns patterns.old) request.now view.now) }
     ensures asks { AsksPatterns P.Patterns patterns.old patterns.new (MetPattern result) }
 {
@@ -81,8 +83,10 @@ fn by_http<P: Patterns>(
     config: &Config,
     patterns: &mut P,
 ) -> Result<Verdict, SimFault>
-    ensures decided { (pat : Pat) → P.tells patterns.old ≡ Some pat → IfOk result (λ verdict. verdict ≡ by_http config.now pat request.now server.now request.now.http) }
-    ensures named { IfErr result (IsOfServer (facts_of P.Patterns patterns.old) request.now.ns server.now request.now.http) }
+    ensures decided { (pat : Pat) → P.tells patterns.old ≡ Some pat → IfOk result (λ verdict.
+        verdict ≡ by_http config.now pat request.now server.now request.now.http) }
+    ensures named { IfErr result (IsOfServer (facts_of P.Patterns patterns.old) request.now.ns
+        server.now request.now.http) }
     ensures asks { AsksPatterns P.Patterns patterns.old patterns.new (MetPattern result) }
 {
     match &request.http {
@@ -102,8 +106,10 @@ fn by_routes<P: Patterns>(
     config: &Config,
     patterns: &mut P,
 ) -> Result<Verdict, SimFault>
-    ensures decided { (pat : Pat) → P.tells patterns.old ≡ Some pat → IfOk result (λ verdict. verdict ≡ by_http config.now pat request.now server.now (Some http.now)) }
-    ensures named { IfErr result (IsOfServer (facts_of P.Patterns patterns.old) request.now.ns server.now (Some http.now)) }
+    ensures decided { (pat : Pat) → P.tells patterns.old ≡ Some pat → IfOk result (λ verdict.
+        verdict ≡ by_http config.now pat request.now server.now (Some http.now)) }
+    ensures named { IfErr result (IsOfServer (facts_of P.Patterns patterns.old) request.now.ns
+        server.now (Some http.now)) }
     ensures asks { AsksPatterns P.Patterns patterns.old patterns.new (MetPattern result) }
 {
     if !routes_count(server) {
@@ -152,7 +158,8 @@ fn by_route(
     server: &ServerRow,
     route: Option<&RouteRow>,
 ) -> Result<Verdict, Memory>
-    ensures { IfOk result (λ verdict. verdict ≡ by_route config.now request.now server.now (option_copied route.entry)) }
+    ensures { IfOk result (λ verdict.
+        verdict ≡ by_route config.now request.now server.now (option_copied route.entry)) }
 {
     match route {
         Some(route) => {
@@ -169,7 +176,8 @@ fn by_row(
     policy: Policy,
     row: Option<&AuthzRow>,
 ) -> Result<Verdict, Memory>
-    ensures { IfOk result (λ verdict. verdict ≡ by_row config.now request.now policy (option_copied row.entry)) }
+    ensures { IfOk result (λ verdict.
+        verdict ≡ by_row config.now request.now policy (option_copied row.entry)) }
 {
     match row {
         Some(row) => Ok(Verdict::Allowed(Decider::Authz {

@@ -17,7 +17,8 @@ pub(crate) fn first_of_either<'a>(
     more: &'a [AuthzRow],
     request: &Request,
 ) -> Option<&'a AuthzRow>
-    ensures { option_copied result ≡ lesser (first_admitting request.now rows.now) (first_admitting request.now more.now) }
+    ensures { option_copied result
+        ≡ lesser (first_admitting request.now rows.now) (first_admitting request.now more.now) }
 {
     match (
         first_admitting(rows, request),
@@ -30,7 +31,8 @@ pub(crate) fn first_of_either<'a>(
 }
 
 fn lesser_row<'a>(row: &'a AuthzRow, other: &'a AuthzRow) -> &'a AuthzRow
-    ensures { result.now ≡ (if is_gt (row_cmp (row.now.kind, row.now.name) (other.now.kind, other.now.name)) then other.now else row.now) }
+    ensures { result.now ≡ (if is_gt (row_cmp (row.now.kind, row.now.name)
+        (other.now.kind, other.now.name)) then other.now else row.now) }
 {
     if compare(row, other).is_gt() {
         other

@@ -27,8 +27,11 @@ pub(crate) fn matched_route<'a, P: Patterns>(
     patterns: &mut P,
 ) -> Result<Option<&'a RouteRow>, SimFault>
     ensures found { (pat : Pat) → P.tells patterns.old ≡ Some pat
-        → IfOk result (λ route. option_copied route ≡ route_found routes.now (best pat http.now (map row_shape routes.now))) }
-    ensures named { IfErr result (IsOfRows (facts_of P.Patterns patterns.old) ns.now routes.now http.now) }
+        → IfOk result (λ route.
+        option_copied route ≡ route_found routes.now
+        (best pat http.now (map row_shape routes.now))) }
+    ensures named { IfErr result (IsOfRows (facts_of P.Patterns patterns.old) ns.now routes.now
+        http.now) }
     ensures asks { AsksPatterns P.Patterns patterns.old patterns.new (MetPattern result) }
 {
     let Ok(room) = room_for_text(alloc, ns, routes) else {

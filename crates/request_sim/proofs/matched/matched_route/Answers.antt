@@ -1,4 +1,4 @@
-use Rattle.std.proofs.Common.{◌≡◌, Err, Option, map, refl, sym, subst}
+use Rattle.std.proofs.Common.{Err, Option, map, refl, sym, subst}
 use Rattle.std.specs.String.{string_bytes}
 use Rattle.std.proofs.lemmas.Option.{slice_get_read}
 use Rattle.view_types.specs.declared.server_view.RouteRow.{RouteRow}
