@@ -1,4 +1,4 @@
--- Traces of whole turns, of which want of memory may cut the last, and what they lead to.
+-- Traces of whole turns, of which the last may be cut where memory ran out, and what they lead to.
 use Rattle.std.specs.Prelude.{◌≡◌, ℕ, Bool, false, not, List, [], ◌∷◌, ◌++◌, Option}
 use Rattle.std.specs.List.{filter, flat_map, list_any}
 use Rattle.mesh_links.specs.declared.call.LinkCall.{LinkCall}

@@ -61,7 +61,7 @@ answer_to config limits given piece = asks_beyond (asks_so_far config limits giv
 
 -- ---- over any cutting
 
--- the answers to pieces one after another, without want of memory
+-- the answers to pieces one after another, where memory never runs out
 abbrev pub answers : Config → Limits → Given → List (List ℕ) → List (Result (List Ask) SessionFault)
 answers config limits given [] = []
 answers config limits given (piece ∷ pieces) = answer_to config limits given piece ∷ answers config limits (given_next given piece) pieces

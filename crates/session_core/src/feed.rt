@@ -68,7 +68,8 @@ impl Feed {
         requires { self.old.lines + 1 < 2 ^ 64 }
         ensures lines { OnOk result (self.new.lines ≡ self.old.lines + 1) }
         ensures part { OnOk result (self.new.part ≡ []) }
-        ensures asks { OnOk result (asks.new ≡ asks.old ++ line_ask (self.old.lines + 1) (row_of limit self.old.part) ∷ []) }
+        ensures asks { OnOk result (asks.new
+            ≡ asks.old ++ line_ask (self.old.lines + 1) (row_of limit self.old.part) ∷ []) }
     {
         self.lines += 1;
         let made = ask(alloc, self.lines, self.cutter.row(limit))?;
@@ -89,7 +90,8 @@ impl Feed {
     ) -> Result<(), Memory>
         requires room { self.old.lines + length piece.now < 2 ^ 64 }
         ensures part { OnOk result (NoBreak self.new.part) }
-        ensures takes { OnOk result (Takes limit self.old.part self.old.lines asks.old piece.now self.new.part self.new.lines asks.new) }
+        ensures takes { OnOk result (Takes limit self.old.part self.old.lines asks.old piece.now
+            self.new.part self.new.lines asks.new) }
     {
         let mut rest = piece;
         loop {
@@ -107,7 +109,10 @@ impl Feed {
     /// Asks the last line, if bytes without an LF are left.
     pub fn end(&mut self, alloc: Global, limit: u64, asks: &mut List<Ask>) -> Result<(), Memory>
         requires room { self.old.lines + 1 < 2 ^ 64 }
-        ensures { OnOk result (asks.new ≡ asks.old ++ line_asks self.old.lines (rows_of limit self.old.part)) }
+        ensures asks { OnOk result (asks.new
+            ≡ asks.old ++ line_asks self.old.lines (rows_of limit self.old.part)) }
+        ensures lines { OnOk result (self.new.lines
+            ≡ self.old.lines + length (rows_of limit self.old.part)) }
     {
         if self.cutter.has_last() {
             return self.give(alloc, limit, asks);

@@ -37,7 +37,13 @@ impl Model for Session {
 
     ghost Value = { SessionState };
 
-    ghost view = { λ s. record { config = s.config; limits = s.limits; state = s.state; outbox = s.outbox } };
+    ghost view = { λ s. record {
+      config = s.config;
+      limits = s.limits;
+      state = s.state;
+      outbox =
+          s.outbox;
+    } };
 }
 
 impl Session {
@@ -58,9 +64,11 @@ impl Session {
     /// Takes the next piece of the link's bytes and answers what it asks for. The empty piece is the end of the input. After a
     /// fault each further piece is answered with that fault.
     pub fn feed(&mut self, piece: &[u8]) -> Result<List<Ask>, SessionFault>
-        ensures answers { (config : Config) (limits : Limits) (given : Given) → Stands config limits given self.old
+        ensures answers { (config : Config) (limits : Limits) (given : Given)
+            → Stands config limits given self.old
             → Answers result (answer_to config limits given piece.now) }
-        ensures stands { (config : Config) (limits : Limits) (given : Given) → Stands config limits given self.old
+        ensures stands { (config : Config) (limits : Limits) (given : Given)
+            → Stands config limits given self.old
             → Stands config limits (given_next given piece.now) self.new }
         ensures memory { result ≡ Err faults.Memory → IsSpent self.new }
         ensures spent { IsSpent self.old → result ≡ Err faults.Memory }

@@ -45,8 +45,11 @@ pub fn read_piece(
     frames: &mut Unframer,
     piece: &[u8],
 ) -> Result<Option<Query>, SessionFault>
-    ensures gives { (rest : List ℕ) → frames.old.part ≡ Ok rest → GivesPhase result (asked_in config.now method (head_of frames.old.limit (rest ++ piece.now))) }
-    ensures part { (rest : List ℕ) → frames.old.part ≡ Ok rest → result ≡ Ok None → frames.new.part ≡ Ok (rest ++ piece.now) }
+    ensures gives { (rest : List ℕ) → frames.old.part ≡ Ok rest
+        → GivesPhase result (asked_in config.now method
+        (head_of frames.old.limit (rest ++ piece.now))) }
+    ensures part { (rest : List ℕ) → frames.old.part ≡ Ok rest → result ≡ Ok None
+        → frames.new.part ≡ Ok (rest ++ piece.now) }
     ensures limit { frames.new.limit ≡ frames.old.limit }
 {
     match frames.take(piece) {

@@ -49,8 +49,10 @@ fn ask_on(
     mut frames: Unframer,
     piece: &[u8],
 ) -> Result<Step, SessionFault>
-    ensures { (limits : Limits) (given next : Given) (rest : List ℕ) → frames.part ≡ Ok rest → frames.limit ≡ limits.request
-        → ToRequest config.now limits given next method (rest ++ piece.now) → Steps config.now limits given next result }
+    ensures { (limits : Limits) (given next : Given) (rest : List ℕ) → frames.part ≡ Ok rest
+        → frames.limit ≡ limits.request
+        → ToRequest config.now limits given next method (rest ++ piece.now)
+        → Steps config.now limits given next result }
 {
     match read_piece(alloc, config, method, &mut frames, piece) {
         Ok(Some(query)) => {
@@ -80,7 +82,8 @@ fn feed_on(
     piece: &[u8],
 ) -> Result<Step, SessionFault>
     ensures { (config : Config) (given next : Given) (text : List ℕ) → Cuts limits.now.line text feed
-        → ToFeed config limits.now given next text piece.now asks → Steps config limits.now given next result }
+        → ToFeed config limits.now given next text piece.now asks
+        → Steps config limits.now given next result }
 {
     if !feed.has_room(piece.len() as u64) {
         return Err(SessionFault::Memory);
@@ -95,7 +98,9 @@ fn feed_on(
 }
 
 fn begin_feed(alloc: Global, limits: &Limits, rest: &[u8]) -> Result<Step, SessionFault>
-    ensures { (config : Config) (given next : Given) → Begins config limits.now given next (Some paths.Feed) rest.now → Steps config limits.now given next result }
+    ensures { (config : Config) (given next : Given)
+        → Begins config limits.now given next (Some paths.Feed) rest.now
+        → Steps config limits.now given next result }
 {
     let Ok(asks) = one(alloc, Ask::FeedBegins) else {
         return Err(SessionFault::Memory);
@@ -113,7 +118,8 @@ fn begin(
     path: Path,
     rest: &[u8],
 ) -> Result<Step, SessionFault>
-    ensures { (given next : Given) → Begins config.now limits.now given next (Some path) rest.now → Steps config.now limits.now given next result }
+    ensures { (given next : Given) → Begins config.now limits.now given next (Some path) rest.now
+        → Steps config.now limits.now given next result }
 {
     match path {
         Path::Feed => begin_feed(alloc, limits, rest),
@@ -136,7 +142,9 @@ fn first_break(bytes: &[u8]) -> Option<usize>
 
 // Adds bytes up to the first LF to the path line, and answers those behind it; or adds them all where there is no LF.
 fn fill_path<'a>(part: &mut List<u8>, piece: &'a [u8]) -> Result<Option<&'a [u8]>, Memory>
-    ensures path { IfOk result (λ found. IfSome found (λ rest. NoBreak part.old → first_line (part.old ++ piece.now) ≡ Some (part.new, rest.now))) }
+    ensures path { IfOk result (λ found.
+        IfSome found (λ rest. NoBreak part.old
+        → first_line (part.old ++ piece.now) ≡ Some (part.new, rest.now))) }
     ensures part { IfOk result (λ found. IfNone found (part.new ≡ part.old ++ piece.now)) }
     ensures none { IfOk result (λ found. IfNone found (NoBreak part.old → NoBreak part.new)) }
 {
@@ -159,7 +167,8 @@ fn open_on(
     mut part: List<u8>,
     piece: &[u8],
 ) -> Result<Step, SessionFault>
-    ensures { (given next : Given) → Opens part given → next.ended ≡ false → next.bytes ≡ part ++ piece.now
+    ensures { (given next : Given) → Opens part given → next.ended ≡ false
+        → next.bytes ≡ part ++ piece.now
         → Steps config.now limits.now given next result }
 {
     let Ok(found) = fill_path(&mut part, piece) else {
@@ -210,7 +219,8 @@ fn more(
 
 // Nothing more comes of what asks nothing at its end.
 fn end_one(alloc: Global) -> Result<Step, SessionFault>
-    ensures { (config : Config) (limits : Limits) (given : Given) (phase : Phase) → given.ended ≡ false → phase_of config limits given.bytes ≡ Ok phase
+    ensures { (config : Config) (limits : Limits) (given : Given) (phase : Phase)
+        → given.ended ≡ false → phase_of config limits given.bytes ≡ Ok phase
         → asks_in limits.line true phase ≡ asks_in limits.line false phase ++ asks.Ended ∷ []
         → Steps config limits given (record given { ended = true }) result }
 {
@@ -224,7 +234,8 @@ fn end_one(alloc: Global) -> Result<Step, SessionFault>
 }
 
 fn last_asks(alloc: Global, limit: u64, mut feed: Feed) -> Result<List<Ask>, Memory>
-    ensures { IfOk result (λ made. made ≡ line_asks feed.lines (rows_of limit feed.part) ++ asks.Ended ∷ []) }
+    ensures { IfOk result (λ made.
+        made ≡ line_asks feed.lines (rows_of limit feed.part) ++ asks.Ended ∷ []) }
 {
     if !feed.has_room(1) {
         return Err(Memory);
