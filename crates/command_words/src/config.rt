@@ -72,7 +72,8 @@ fn nets_at<'a>(
     matches: &ArgMatches<'a>,
     usual: List<Net>,
 ) -> Result<List<Net>, WordsFault>
-    ensures { Gives result (defaulted usual nets_of (text_at arguments.ClusterNetworks (rows_in matches.now))) }
+    ensures { Gives result (defaulted usual nets_of (text_at arguments.ClusterNetworks
+        (rows_in matches.now))) }
 {
     match given(matches, Argument::ClusterNetworks) {
         Some(text) => read_nets(alloc, text.as_bytes()),
@@ -90,7 +91,8 @@ fn read_policy(text: &str) -> Result<Policy, WordsFault>
 }
 
 fn policy_at<'a>(matches: &ArgMatches<'a>, usual: Policy) -> Result<Policy, WordsFault>
-    ensures { Gives result (defaulted usual policy_of (text_at arguments.DefaultPolicy (rows_in matches.now))) }
+    ensures { Gives result (defaulted usual policy_of (text_at arguments.DefaultPolicy
+        (rows_in matches.now))) }
 {
     match given(matches, Argument::DefaultPolicy) {
         Some(text) => read_policy(text),

@@ -33,7 +33,8 @@ fn with_option<'a>(
     command: Command<'a>,
     argument: Argument,
 ) -> Result<Command<'a>, AllocError>
-    ensures { IfOk result (λ c. app_of c ≡ with_rule (app_of command.entry) (option_rule (argument_text argument))) }
+    ensures { IfOk result (λ c. app_of c
+        ≡ with_rule (app_of command.entry) (option_rule (argument_text argument))) }
 {
     let name = argument.text();
     let option = Arg::new(alloc, name).long(name).action(ArgAction::Set);
@@ -65,7 +66,8 @@ fn plain<'a>(alloc: Global, name: &'a str) -> Command<'a>
 }
 
 fn with_number<'a>(alloc: Global, command: Command<'a>) -> Result<Command<'a>, AllocError>
-    ensures { IfOk result (λ c. app_of c ≡ with_rule (app_of command.entry) (word_rule (argument_text arguments.Number))) }
+    ensures { IfOk result (λ c. app_of c
+        ≡ with_rule (app_of command.entry) (word_rule (argument_text arguments.Number))) }
 {
     let number = Arg::new(alloc, Argument::Number.text()).action(ArgAction::Set);
     command.arg(number)
@@ -96,8 +98,10 @@ pub(crate) fn parse<'a>(
     name: Name,
     words: &'a [&'a str],
 ) -> Result<ArgMatches<'a>, WordsFault>
-    ensures found { IfOk result (λ m. matched name (map (λ w. w.now) words.entry.now) ≡ Some (rows_in m)) }
-    ensures refused { result ≡ Err WordsFault.Usage → matched name (map (λ w. w.now) words.entry.now) ≡ None }
+    ensures found { IfOk result (λ m. matched name (map (λ w. w.now) words.entry.now)
+        ≡ Some (rows_in m)) }
+    ensures refused { result ≡ Err WordsFault.Usage
+        → matched name (map (λ w. w.now) words.entry.now) ≡ None }
 {
     let command = command_for(alloc, name)?;
     Ok(command.try_get_matches_from(words)?)

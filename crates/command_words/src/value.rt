@@ -32,7 +32,8 @@ pub(crate) fn read_number_at<'a>(
     low: u64,
     high: u64,
 ) -> Result<u64, WordsFault>
-    ensures value { Gives result (needed (number_within low high) (text_at argument (rows_in matches.now))) }
+    ensures value { Gives result (needed (number_within low high)
+        (text_at argument (rows_in matches.now))) }
     ensures within { IfOk result (λ n. n ≤ high) }
 {
     let Some(text) = given(matches, argument) else {

@@ -16,7 +16,8 @@ use watch_events::laws::lines_are_lawful;
 
 /// What the lines of a replay say is lawful.
 pub fn replays_read_lawfully()
-    ensures { (config : Config) (limits : Limits) (pat : Pat) → ReadsLawfully (replay_of config limits pat) }
+    ensures { (config : Config) (limits : Limits) (pat : Pat)
+        → ReadsLawfully (replay_of config limits pat) }
 {
     lines_are_lawful();
 }

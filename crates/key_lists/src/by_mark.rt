@@ -28,7 +28,9 @@ pub fn put_one<M: Ord + Copied>(
     mark: &M,
     key: &ObjKey,
 ) -> Result<(), Memory>
-    ensures { OnOk result ((m : M) (k : ObjKey) → key_at M.cmp by.new m k ≡ ((eq_by_cmp M.cmp mark.now m && is_key k key.now) || key_at M.cmp by.old m k)) }
+    ensures { OnOk result ((m : M) (k : ObjKey)
+        → key_at M.cmp by.new m k
+        ≡ ((eq_by_cmp M.cmp mark.now m && is_key k key.now) || key_at M.cmp by.old m k)) }
 {
     let key = key.copy(alloc)?;
     match by.get_mut(mark) {
@@ -46,7 +48,9 @@ pub fn put_one<M: Ord + Copied>(
 
 /// Takes a key from a mark.
 pub fn take_one<M: Ord + Copied>(by: &mut BTreeMap<M, KeyList>, mark: &M, key: &ObjKey)
-    ensures { (m : M) (k : ObjKey) → key_at M.cmp by.new m k ≡ (not (eq_by_cmp M.cmp mark.now m && is_key k key.now) && key_at M.cmp by.old m k) }
+    ensures { (m : M) (k : ObjKey)
+        → key_at M.cmp by.new m k
+        ≡ (not (eq_by_cmp M.cmp mark.now m && is_key k key.now) && key_at M.cmp by.old m k) }
 {
     if take_from(by, mark, key) {
         let_go(by, mark);
@@ -55,7 +59,9 @@ pub fn take_one<M: Ord + Copied>(by: &mut BTreeMap<M, KeyList>, mark: &M, key: &
 
 /// Takes a key from the list of a mark. Answers whether no key is left in it.
 fn take_from<M: Ord + Copied>(by: &mut BTreeMap<M, KeyList>, mark: &M, key: &ObjKey) -> bool
-    ensures taken { (m : M) (k : ObjKey) → key_at M.cmp by.new m k ≡ (not (eq_by_cmp M.cmp mark.now m && is_key k key.now) && key_at M.cmp by.old m k) }
+    ensures taken { (m : M) (k : ObjKey)
+        → key_at M.cmp by.new m k
+        ≡ (not (eq_by_cmp M.cmp mark.now m && is_key k key.now) && key_at M.cmp by.old m k) }
     ensures emptied { result ≡ true → keys_at M.cmp by.new mark.now ≡ [] }
 {
     match by.get_mut(mark) {
@@ -82,7 +88,9 @@ pub fn put_all<M: Ord + Copied>(
     marks: &[M],
     key: &ObjKey,
 ) -> Result<(), Memory>
-    ensures { OnOk result ((m : M) (k : ObjKey) → key_at M.cmp by.new m k ≡ ((has_mark M.cmp marks.now m && is_key k key.now) || key_at M.cmp by.old m k)) }
+    ensures { OnOk result ((m : M) (k : ObjKey)
+        → key_at M.cmp by.new m k
+        ≡ ((has_mark M.cmp marks.now m && is_key k key.now) || key_at M.cmp by.old m k)) }
 {
     for mark in marks {
         put_one(alloc, by, mark, key)?;
@@ -92,7 +100,9 @@ pub fn put_all<M: Ord + Copied>(
 
 /// Takes a key from each mark.
 pub fn take_all<M: Ord + Copied>(by: &mut BTreeMap<M, KeyList>, marks: &[M], key: &ObjKey)
-    ensures { (m : M) (k : ObjKey) → key_at M.cmp by.new m k ≡ (not (has_mark M.cmp marks.now m && is_key k key.now) && key_at M.cmp by.old m k) }
+    ensures { (m : M) (k : ObjKey)
+        → key_at M.cmp by.new m k
+        ≡ (not (has_mark M.cmp marks.now m && is_key k key.now) && key_at M.cmp by.old m k) }
 {
     for mark in marks {
         take_one(by, mark, key);

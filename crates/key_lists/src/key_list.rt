@@ -56,7 +56,8 @@ impl KeyList {
 
     /// Puts the key into the list, if it isn't there.
     pub fn put(&mut self, key: ObjKey) -> Result<(), Memory>
-        ensures { OnOk result ((k : ObjKey) → has_key k self.new ≡ (is_key k key || has_key k self.old)) }
+        ensures { OnOk result ((k : ObjKey)
+            → has_key k self.new ≡ (is_key k key || has_key k self.old)) }
     {
         match place(self.keys.as_slice(), &key) {
             Ok(_) => {}

@@ -78,7 +78,8 @@ pub fn gather_all<M: Ord + Copied>(
     marks: &[M],
     set: &mut BTreeSet<u64>,
 ) -> Result<(), Memory>
-    ensures { OnOk result (Gathers (λ r. list_any (λ m. row_at M.cmp by.now m r) marks.now) set.old set.new) }
+    ensures { OnOk result (Gathers (λ r. list_any (λ m. row_at M.cmp by.now m r) marks.now) set.old
+        set.new) }
 {
     for mark in marks {
         gather_one(by, mark, set)?;

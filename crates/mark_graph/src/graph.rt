@@ -37,7 +37,8 @@ impl<M: Ord + Copied> Graph<M> {
 
     /// Lets the row watch these marks, and no others. After Memory the graph is spent.
     pub fn watch(&mut self, row: u64, marks: List<M>) -> Result<(), Memory>
-        ensures watched { OnOk result (Rewatches M.cmp (has_mark M.cmp marks) row self.old.rows self.new.rows) }
+        ensures watched { OnOk result (Rewatches M.cmp (has_mark M.cmp marks) row self.old.rows
+            self.new.rows) }
         ensures going { OnOk result (self.new.spent ≡ false) }
         ensures spent { IsErr result → self.new.spent ≡ true }
         ensures was_spent { self.old.spent ≡ true → IsErr result }
@@ -63,7 +64,8 @@ impl<M: Ord + Copied> Graph<M> {
 
     /// The rows that watch one of the marks, ascending and each once.
     pub fn due(&self, marks: &[M]) -> Result<List<u64>, Memory>
-        ensures due { IfOk result (λ rows. (r : ℕ) → has_row r rows ≡ list_any (λ m. watches M.cmp self.now.rows r m) marks.now) }
+        ensures due { IfOk result (λ rows.
+            (r : ℕ) → has_row r rows ≡ list_any (λ m. watches M.cmp self.now.rows r m) marks.now) }
         ensures in_order { IfOk result (λ rows. IsStrictlySortedBy nat_cmp rows) }
         ensures was_spent { self.now.spent ≡ true → IsErr result }
     {

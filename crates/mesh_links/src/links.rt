@@ -42,7 +42,8 @@ pub trait Links {
     /// from 1.
     fn poll(&mut self, wait: bool) -> Result<List<LinkEvent>, PollFault>
         ensures few { IfOk result (λ events. length events ≤ 1024) }
-        ensures fresh { (t : List LinkCall) → trace self.old ≡ Some t → IfOk result (λ events. AreNew t events) }
+        ensures fresh { (t : List LinkCall) → trace self.old ≡ Some t → IfOk result (λ events.
+            AreNew t events) }
         ensures traced { Continues (trace self.old) (trace self.new) (λ t. poll_made wait result) }
         ensures cause { KeptInPoll (counts self.old) (counts self.new) result };
 
@@ -50,14 +51,16 @@ pub trait Links {
     /// empty is the end of the input.
     fn read(&mut self, link: u32, buf: &mut [u8]) -> Result<usize, LinkFault>
         ensures bound { ReadsAtMost result buf.new }
-        ensures traced { Continues (trace self.old) (trace self.new) (λ t. read_made link (length buf.old) result buf.new) }
+        ensures traced { Continues (trace self.old) (trace self.new) (λ t.
+            read_made link (length buf.old) result buf.new) }
         ensures cause { KeptInCall link (counts self.old) (counts self.new) result };
 
     /// Sends bytes from the front of the piece to the peer, and answers how many: 0 only for the empty piece.
     fn write(&mut self, link: u32, piece: &[u8]) -> Result<usize, LinkFault>
         ensures bound { WritesAtMost result piece.now }
         ensures some { 0 < length piece.now → result ≢ Ok 0 }
-        ensures traced { Continues (trace self.old) (trace self.new) (λ t. write_made link piece.now result) }
+        ensures traced { Continues (trace self.old) (trace self.new) (λ t.
+            write_made link piece.now result) }
         ensures cause { KeptInCall link (counts self.old) (counts self.new) result };
 
     /// Closes a link. It does nothing to one that no poll has shown as New, or that is closed.

@@ -32,7 +32,8 @@ impl Change {
     ) -> Result<Change, memory::Memory>
         ensures old { IfOk result (λ change. change.old ≡ option_to_list before) }
         ensures new { IfOk result (λ change. change.new ≡ key ∷ []) }
-        ensures marks { IfOk result (λ change. change.marks ≡ each_once (marks ++ flat_map marks_of (option_to_list before))) }
+        ensures marks { IfOk result (λ change.
+            change.marks ≡ each_once (marks ++ flat_map marks_of (option_to_list before))) }
     {
         let old = listed(alloc, before)?;
         let mut new = List::new(alloc);
@@ -59,7 +60,8 @@ impl Change {
     ) -> Result<Change, memory::Memory>
         ensures old { IfOk result (λ change. change.old ≡ old) }
         ensures new { IfOk result (λ change. change.new ≡ new) }
-        ensures marks { IfOk result (λ change. change.marks ≡ each_once (marks ++ flat_map marks_of old)) }
+        ensures marks { IfOk result (λ change.
+            change.marks ≡ each_once (marks ++ flat_map marks_of old)) }
     {
         let mut marks = marks;
         add_all_marks(alloc, &mut marks, old.as_slice())?;

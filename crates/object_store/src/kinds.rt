@@ -24,7 +24,8 @@ pub struct Parts {
 pub fn part(mut objects: Vec<Object>, kind: Kind) -> Result<Parts, Memory>
     requires { IsKeyed key_cmp key_of (λ o. o) objects.items }
     ensures below { IfOk result (λ parts. parts.below.items ≡ below kind objects.items) }
-    ensures own { IfOk result (λ parts. parts.own.items ≡ filter (λ o. is_of kind (key_of o)) objects.items) }
+    ensures own { IfOk result (λ parts.
+        parts.own.items ≡ filter (λ o. is_of kind (key_of o)) objects.items) }
     ensures above { IfOk result (λ parts. parts.above.items ≡ above kind objects.items) }
 {
     let end = end_of(objects.as_slice(), kind);

@@ -38,14 +38,18 @@ impl MarkKeys {
 
     /// Puts the key to each mark.
     pub fn put(&mut self, alloc: Global, marks: &[Mark], key: &ObjKey) -> Result<(), Memory>
-        ensures { OnOk result ((m : Mark) (k : ObjKey) → is_kept self.new m k ≡ ((has_mark marks.now m && is_key k key.now) || is_kept self.old m k)) }
+        ensures { OnOk result ((m : Mark) (k : ObjKey)
+            → is_kept self.new m k
+            ≡ ((has_mark marks.now m && is_key k key.now) || is_kept self.old m k)) }
     {
         put_all(alloc, &mut self.by, marks, key)
     }
 
     /// Takes the key from each mark.
     pub fn take(&mut self, marks: &[Mark], key: &ObjKey)
-        ensures { (m : Mark) (k : ObjKey) → is_kept self.new m k ≡ (not (has_mark marks.now m && is_key k key.now) && is_kept self.old m k) }
+        ensures { (m : Mark) (k : ObjKey)
+            → is_kept self.new m k
+            ≡ (not (has_mark marks.now m && is_key k key.now) && is_kept self.old m k) }
     {
         take_all(&mut self.by, marks, key);
     }

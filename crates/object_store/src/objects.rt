@@ -178,8 +178,10 @@ fn join(
 /// Where the key of this kind, namespace and name stands, or where it would go.
 fn place(objects: &[Object], kind: Kind, ns: &Text, name: &Text) -> Result<usize, usize>
     requires { IsKeyed key_cmp key_of (λ o. o) objects.now }
-    ensures hit { IfOk result (IsHit (λ o. key_cmp (key_of o) (key_with kind ns.now name.now)) objects.now) }
-    ensures gap { IfErr result (IsGap (λ o. key_cmp (key_of o) (key_with kind ns.now name.now)) objects.now) }
+    ensures hit { IfOk result (IsHit (λ o. key_cmp (key_of o) (key_with kind ns.now name.now))
+        objects.now) }
+    ensures gap { IfErr result (IsGap (λ o. key_cmp (key_of o) (key_with kind ns.now name.now))
+        objects.now) }
 {
     objects.binary_search_by(|object| compare_key(object, kind, ns, name))
 }

@@ -61,7 +61,8 @@ impl Model for Store {
 
     ghost view = { λ s. record { objects = s.objects; limit = s.limit; spent = s.spent } };
 
-    ghost invariant = { λ s. (len s.objects ≤ s.limit) × (s.spent ≡ false → AreKeysOf s.objects s.keys) };
+    ghost invariant = { λ s. (len s.objects ≤ s.limit)
+        × (s.spent ≡ false → AreKeysOf s.objects s.keys) };
 }
 
 impl Store {
@@ -103,7 +104,8 @@ impl Store {
     pub fn get<L>(&self, key: &ObjKey, steps: &mut Steps<L>) -> Option<&Object>
         ensures value { option_copied result ≡ map.get self.now.objects key.now }
         ensures at_key { IfSome result (λ o. key_of o.now ≡ key.now) }
-        ensures steps { steps.new ≡ (if is_some result then min (steps.old + 1) (2 ^ 64 - 1) else steps.old) }
+        ensures steps { steps.new ≡ (if is_some result then min (steps.old + 1)
+            (2 ^ 64 - 1) else steps.old) }
     {
         let found = self.objects.get(key);
         tick_if(found.is_some(), steps);
@@ -120,7 +122,8 @@ impl Store {
     ) -> Option<&Object>
         ensures value { option_copied result ≡ map.get self.now.objects (key_with kind ns.now name.now) }
         ensures at_key { IfSome result (λ o. key_of o.now ≡ key_with kind ns.now name.now) }
-        ensures steps { steps.new ≡ (if is_some result then min (steps.old + 1) (2 ^ 64 - 1) else steps.old) }
+        ensures steps { steps.new ≡ (if is_some result then min (steps.old + 1)
+            (2 ^ 64 - 1) else steps.old) }
     {
         let found = self.objects.find(kind, ns, name);
         tick_if(found.is_some(), steps);
@@ -196,7 +199,8 @@ impl Store {
     pub fn set(&mut self, object: Object) -> Result<Change, StoreFault>
         ensures ok { IfOk result (Puts self.old.objects self.new.objects object) }
         ensures room { OnOk result (lacks_room self.old.objects self.old.limit (key_of object) ≡ false) }
-        ensures refused { IfErr result (Refuses self.old self.new (lacks_room self.old.objects self.old.limit (key_of object))) }
+        ensures refused { IfErr result (Refuses self.old self.new
+            (lacks_room self.old.objects self.old.limit (key_of object))) }
         ensures was_spent { self.old.spent ≡ true → IsErrOf result StoreFault.Memory }
         ensures going { OnOk result (self.new.spent ≡ false) }
         ensures limit { self.new.limit ≡ self.old.limit }
@@ -237,7 +241,8 @@ impl Store {
         requires { IsListOf kind items }
         ensures ok { IfOk result (Relists self.old.objects self.new.objects kind items) }
         ensures room { OnOk result (exceeds self.old.objects self.old.limit kind items ≡ false) }
-        ensures refused { IfErr result (Refuses self.old self.new (exceeds self.old.objects self.old.limit kind items)) }
+        ensures refused { IfErr result (Refuses self.old self.new
+            (exceeds self.old.objects self.old.limit kind items)) }
         ensures was_spent { self.old.spent ≡ true → IsErrOf result StoreFault.Memory }
         ensures going { OnOk result (self.new.spent ≡ false) }
         ensures limit { self.new.limit ≡ self.old.limit }
@@ -268,7 +273,8 @@ fn put(
     requires { map.len objects.old ≤ limit }
     ensures ok { IfOk result (Puts objects.old objects.new object) }
     ensures room { OnOk result (lacks_room objects.old limit (key_of object) ≡ false) }
-    ensures full { IfErr result (IsFull objects.old objects.new (lacks_room objects.old limit (key_of object))) }
+    ensures full { IfErr result (IsFull objects.old objects.new
+        (lacks_room objects.old limit (key_of object))) }
     ensures within { map.len objects.new ≤ limit }
     ensures keys { OnOk result (AreKeysOf objects.old keys.old → AreKeysOf objects.new keys.new) }
     ensures keys_stay { IfErr result (StayUnlessSpent keys.old keys.new) }

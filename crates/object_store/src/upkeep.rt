@@ -31,7 +31,8 @@ pub fn follow(
 
 /// The last first, since a key is taken fastest from the end of a list.
 fn take_objects(alloc: Global, keys: &mut MarkKeys, old: &[Object]) -> Result<(), Memory>
-    ensures { OnOk result ((m : Mark) (k : ObjKey) → is_kept keys.new m k ≡ (not (list_any (is_old m k) old.now) && is_kept keys.old m k)) }
+    ensures { OnOk result ((m : Mark) (k : ObjKey)
+        → is_kept keys.new m k ≡ (not (list_any (is_old m k) old.now) && is_kept keys.old m k)) }
 {
     for at in (0..old.len()).rev() {
         take_object(alloc, keys, &old[at])?;
@@ -45,7 +46,9 @@ fn put_objects(
     keys: &mut MarkKeys,
     new: &[ObjKey],
 ) -> Result<(), Memory>
-    ensures { OnOk result ((m : Mark) (k : ObjKey) → is_kept keys.new m k ≡ (list_any (is_new objects.now m k) new.now || is_kept keys.old m k)) }
+    ensures { OnOk result ((m : Mark) (k : ObjKey)
+        → is_kept keys.new m k
+        ≡ (list_any (is_new objects.now m k) new.now || is_kept keys.old m k)) }
 {
     for key in new {
         put_object(alloc, objects, keys, key)?;
@@ -54,7 +57,8 @@ fn put_objects(
 }
 
 fn take_object(alloc: Global, keys: &mut MarkKeys, object: &Object) -> Result<(), Memory>
-    ensures { OnOk result ((m : Mark) (k : ObjKey) → is_kept keys.new m k ≡ (not (is_old m k object.now) && is_kept keys.old m k)) }
+    ensures { OnOk result ((m : Mark) (k : ObjKey)
+        → is_kept keys.new m k ≡ (not (is_old m k object.now) && is_kept keys.old m k)) }
 {
     let mut marks = List::new(alloc);
     add_others(&mut marks, object)?;
@@ -69,7 +73,8 @@ fn put_object(
     keys: &mut MarkKeys,
     key: &ObjKey,
 ) -> Result<(), Memory>
-    ensures { OnOk result ((m : Mark) (k : ObjKey) → is_kept keys.new m k ≡ (is_new objects.now m k key.now || is_kept keys.old m k)) }
+    ensures { OnOk result ((m : Mark) (k : ObjKey)
+        → is_kept keys.new m k ≡ (is_new objects.now m k key.now || is_kept keys.old m k)) }
 {
     match objects.get(key) {
         Some(object) => {

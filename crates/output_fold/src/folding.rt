@@ -18,7 +18,8 @@ use view_types::query::Method;
 // Writes why a line doesn't read, unless memory ran out.
 fn refuse(alloc: Global, number: u64, fault: FoldFault, out: &mut Vec<u8>) -> Result<(), AllocError>
     ensures fault { OnOk result (fault ≢ FoldFault.Memory) }
-    ensures writes { OnOk result (out.new.items ≡ out.old.items ++ fault_line number (fold_fault_text fault)) }
+    ensures writes { OnOk result (out.new.items
+        ≡ out.old.items ++ fault_line number (fold_fault_text fault)) }
 {
     match fault {
         FoldFault::Memory => Err(AllocError),
@@ -43,13 +44,16 @@ pub(crate) struct Folding {
 impl LineMachine for Folding {
     ghost use Rattle.output_fold.specs.Stand.{Ended, IsOfFold, Stands};
 
-    ghost stands = { λ start now past text refused. IsOfFold start.method start.id start.limits now.method now.id now.limits
+    ghost stands = { λ start now past text refused. IsOfFold start.method start.id start.limits
+        now.method now.id now.limits
         × Stands start.method start.id.0 now.failed now.fold.view past text refused };
 
-    ghost ending = { λ start now past text refused. IsOfFold start.method start.id start.limits now.method now.id now.limits
+    ghost ending = { λ start now past text refused. IsOfFold start.method start.id start.limits
+        now.method now.id now.limits
         × Stands start.method start.id.0 now.failed now.fold.view past text refused };
 
-    ghost ended = { λ start now past text refused. Ended start.method start.id.0 start.limits past text refused };
+    ghost ended = { λ start now past text refused. Ended start.method start.id.0 start.limits past
+        text refused };
 
     ghost begins = { λ start now past text refused stood. stood };
 

@@ -26,7 +26,9 @@ fn push_messages(
     messages: &List<Message>,
     out: &mut Vec<u8>,
 ) -> Result<(), Memory>
-    ensures { OnOk result (out.new.items ≡ out.old.items ++ lines_by (view_line id.0) id.0 messages.now (too_long limit messages.now)) }
+    ensures { OnOk result (out.new.items
+        ≡ out.old.items ++ lines_by (view_line id.0) id.0 messages.now
+        (too_long limit messages.now)) }
 {
     match frames_within(alloc, limit, messages.as_slice()) {
         Ok(frames) => Ok(push_frames(alloc, out, "view", id.0, &frames)?),

@@ -11,13 +11,16 @@ ghost use Rattle.request_writing.specs.Sendable.{IsSendableAsk};
 
 /// What is written of an ask that may be sent is read, by the method that answers it, as what it means.
 pub fn asks_read_back()
-    ensures { (config : Config) (ask : Ask) → IsSendableAsk ask → request_of config (method_of_ask ask) (canonical_ask ask) ≡ meaning config ask }
+    ensures { (config : Config) (ask : Ask) → IsSendableAsk ask
+        → request_of config (method_of_ask ask) (canonical_ask ask) ≡ meaning config ask }
 {}
 
 /// A query whose names, address and port can be asked has an ask, which is read as the query. Its token may be any that
 /// says what the client says of itself.
 pub fn queries_read_back()
-    ensures { (config : Config) (token : List ℕ) (query : Query) → IsTrue (is_name config.cluster_domain) → IsAskable token query
+    ensures { (config : Config) (token : List ℕ) (query : Query)
+        → IsTrue (is_name config.cluster_domain) → IsAskable token query
         → let ask = ask_for config token query in
-        length (canonical_ask ask) < 2 ^ 64 → request_of config (method_of_ask ask) (canonical_ask ask) ≡ Ok query }
+        length (canonical_ask ask) < 2 ^ 64
+        → request_of config (method_of_ask ask) (canonical_ask ask) ≡ Ok query }
 {}

@@ -40,8 +40,10 @@ pub fn best_match<P: Patterns>(
     request: &HttpRequest,
     routes: &[RouteRow],
 ) -> Result<Option<Candidate>, MatchFault>
-    ensures best { (pat : Pat) → P.tells patterns.old ≡ Some pat → IfOk result (λ found. found ≡ best pat request.now (map row_shape routes.now)) }
-    ensures named { IfErr result (IsNamed (facts_of P.Patterns patterns.old) request.now (map row_shape routes.now)) }
+    ensures best { (pat : Pat) → P.tells patterns.old ≡ Some pat → IfOk result (λ found.
+        found ≡ best pat request.now (map row_shape routes.now)) }
+    ensures named { IfErr result (IsNamed (facts_of P.Patterns patterns.old) request.now
+        (map row_shape routes.now)) }
     ensures asks { AsksPatterns P.Patterns patterns.old patterns.new (MetRefused result) }
 {
     let mut found = None;
@@ -62,8 +64,10 @@ fn over_route<P: Patterns>(
     found: Option<Candidate>,
     route: &RouteRow,
 ) -> Result<Option<Candidate>, MatchFault>
-    ensures best { (pat : Pat) → P.tells patterns.old ≡ Some pat → IfOk result (λ next. next ≡ fold better found (in_route pat request.now place (row_shape route.now))) }
-    ensures named { NamesIn (facts_of P.Patterns patterns.old) request.now (λ shapes. slice_get shapes place ≡ Some (row_shape route.now)) result }
+    ensures best { (pat : Pat) → P.tells patterns.old ≡ Some pat → IfOk result (λ next.
+        next ≡ fold better found (in_route pat request.now place (row_shape route.now))) }
+    ensures named { NamesIn (facts_of P.Patterns patterns.old) request.now
+        (λ shapes. slice_get shapes place ≡ Some (row_shape route.now)) result }
     ensures asks { AsksPatterns P.Patterns patterns.old patterns.new (MetRefused result) }
 {
     let mut next = found;
@@ -89,8 +93,11 @@ fn over_rule<P: Patterns>(
     found: Option<Candidate>,
     rule: &RuleRow,
 ) -> Result<Option<Candidate>, MatchFault>
-    ensures best { (pat : Pat) → P.tells patterns.old ≡ Some pat → IfOk result (λ next. next ≡ fold better found (flat_from (in_match pat request.now hosts.now at.route at.rule) 0 rule.now.matches)) }
-    ensures named { NamesIn (facts_of P.Patterns patterns.old) request.now (HasRule hosts.now at.route at.rule rule.now.matches) result }
+    ensures best { (pat : Pat) → P.tells patterns.old ≡ Some pat → IfOk result (λ next.
+        next ≡ fold better found (flat_from (in_match pat request.now hosts.now at.route at.rule) 0
+        rule.now.matches)) }
+    ensures named { NamesIn (facts_of P.Patterns patterns.old) request.now
+        (HasRule hosts.now at.route at.rule rule.now.matches) result }
     ensures asks { AsksPatterns P.Patterns patterns.old patterns.new (MetRefused result) }
 {
     let mut next = found;
@@ -113,8 +120,10 @@ fn candidate_at<P: Patterns>(
     place: usize,
     item: &HttpMatch,
 ) -> Result<Option<Candidate>, MatchFault>
-    ensures best { (pat : Pat) → P.tells patterns.old ≡ Some pat → IfOk result (λ found. option_to_list found ≡ in_match pat request.now hosts.now at.route at.rule place item.now) }
-    ensures named { NamesIn (facts_of P.Patterns patterns.old) request.now (HasMatch hosts.now at.route at.rule place item.now) result }
+    ensures best { (pat : Pat) → P.tells patterns.old ≡ Some pat → IfOk result (λ found.
+        option_to_list found ≡ in_match pat request.now hosts.now at.route at.rule place item.now) }
+    ensures named { NamesIn (facts_of P.Patterns patterns.old) request.now
+        (HasMatch hosts.now at.route at.rule place item.now) result }
     ensures asks { AsksPatterns P.Patterns patterns.old patterns.new (MetRefused result) }
 {
     match holds(alloc, patterns, request, hosts, item) {

@@ -17,9 +17,13 @@ pub(crate) fn headers_hold<P: Patterns>(
     headers: &[(Text, Text)],
     wanted: &[NameMatch],
 ) -> Result<bool, PatternFault>
-    ensures told { (pat : Pat) → P.tells patterns.old ≡ Some pat → IfOk result (λ all. all ≡ list_all (header_holds pat headers.now) wanted.now) }
-    ensures asks { AsksPatterns P.Patterns patterns.old patterns.new (IsErrOf result PatternFault.Refused) }
-    ensures named { IsErrOf result PatternFault.Refused → RefusesAt (facts_of P.Patterns patterns.old) value_pattern (λ pat. header_holds pat headers.now) wanted.now }
+    ensures told { (pat : Pat) → P.tells patterns.old ≡ Some pat → IfOk result (λ all.
+        all ≡ list_all (header_holds pat headers.now) wanted.now) }
+    ensures asks { AsksPatterns P.Patterns patterns.old patterns.new
+        (IsErrOf result PatternFault.Refused) }
+    ensures named { IsErrOf result PatternFault.Refused
+        → RefusesAt (facts_of P.Patterns patterns.old) value_pattern
+        (λ pat. header_holds pat headers.now) wanted.now }
 {
     for part in wanted {
         match header_holds(alloc, patterns, headers, part) {
@@ -37,9 +41,12 @@ fn header_holds<P: Patterns>(
     headers: &[(Text, Text)],
     part: &NameMatch,
 ) -> Result<bool, PatternFault>
-    ensures told { (pat : Pat) → P.tells patterns.old ≡ Some pat → IfOk result (λ some. some ≡ header_holds pat headers.now part.now) }
-    ensures asks { AsksPatterns P.Patterns patterns.old patterns.new (IsErrOf result PatternFault.Refused) }
-    ensures named { IsErrOf result PatternFault.Refused → HasRefused (P.refuses patterns.old) (value_pattern part.now) }
+    ensures told { (pat : Pat) → P.tells patterns.old ≡ Some pat → IfOk result (λ some.
+        some ≡ header_holds pat headers.now part.now) }
+    ensures asks { AsksPatterns P.Patterns patterns.old patterns.new
+        (IsErrOf result PatternFault.Refused) }
+    ensures named { IsErrOf result PatternFault.Refused
+        → HasRefused (P.refuses patterns.old) (value_pattern part.now) }
 {
     for header in headers {
         match is_wanted(alloc, patterns, header, part) {
@@ -57,9 +64,12 @@ fn is_wanted<P: Patterns>(
     header: &(Text, Text),
     part: &NameMatch,
 ) -> Result<bool, PatternFault>
-    ensures told { (pat : Pat) → P.tells patterns.old ≡ Some pat → IfOk result (λ wanted. wanted ≡ is_wanted pat part.now header.now) }
-    ensures asks { AsksPatterns P.Patterns patterns.old patterns.new (IsErrOf result PatternFault.Refused) }
-    ensures named { IsErrOf result PatternFault.Refused → HasRefused (P.refuses patterns.old) (value_pattern part.now) }
+    ensures told { (pat : Pat) → P.tells patterns.old ≡ Some pat → IfOk result (λ wanted.
+        wanted ≡ is_wanted pat part.now header.now) }
+    ensures asks { AsksPatterns P.Patterns patterns.old patterns.new
+        (IsErrOf result PatternFault.Refused) }
+    ensures named { IsErrOf result PatternFault.Refused
+        → HasRefused (P.refuses patterns.old) (value_pattern part.now) }
 {
     if is_same_name(&header.0, &part.name) {
         value_holds(alloc, patterns, part, header.1.as_str())

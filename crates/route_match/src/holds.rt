@@ -21,9 +21,12 @@ pub(crate) fn holds<P: Patterns>(
     hosts: &List<Text>,
     item: &HttpMatch,
 ) -> Result<bool, PatternFault>
-    ensures told { (pat : Pat) → P.tells patterns.old ≡ Some pat → IfOk result (λ all. all ≡ holds pat request.now hosts.now item.now) }
-    ensures asks { AsksPatterns P.Patterns patterns.old patterns.new (IsErrOf result PatternFault.Refused) }
-    ensures named { IsErrOf result PatternFault.Refused → AsksRefused (facts_of P.Patterns patterns.old) request.now hosts.now item.now }
+    ensures told { (pat : Pat) → P.tells patterns.old ≡ Some pat → IfOk result (λ all.
+        all ≡ holds pat request.now hosts.now item.now) }
+    ensures asks { AsksPatterns P.Patterns patterns.old patterns.new
+        (IsErrOf result PatternFault.Refused) }
+    ensures named { IsErrOf result PatternFault.Refused
+        → AsksRefused (facts_of P.Patterns patterns.old) request.now hosts.now item.now }
 {
     if !hosts_hold(&request.host, hosts.as_slice()) {
         return Ok(false);

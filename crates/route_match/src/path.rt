@@ -16,9 +16,12 @@ pub(crate) fn path_holds<P: Patterns>(
     path: &Text,
     wanted: &PathMatch,
 ) -> Result<bool, PatternFault>
-    ensures told { (pat : Pat) → P.tells patterns.old ≡ Some pat → IfOk result (λ holds. holds ≡ path_holds pat path.now wanted.now) }
-    ensures asks { AsksPatterns P.Patterns patterns.old patterns.new (IsErrOf result PatternFault.Refused) }
-    ensures named { IsErrOf result PatternFault.Refused → HasRefused (P.refuses patterns.old) (path_pattern wanted.now) }
+    ensures told { (pat : Pat) → P.tells patterns.old ≡ Some pat → IfOk result (λ holds.
+        holds ≡ path_holds pat path.now wanted.now) }
+    ensures asks { AsksPatterns P.Patterns patterns.old patterns.new
+        (IsErrOf result PatternFault.Refused) }
+    ensures named { IsErrOf result PatternFault.Refused
+        → HasRefused (P.refuses patterns.old) (path_pattern wanted.now) }
 {
     match wanted {
         PathMatch::Exact(string) => Ok(*string == *path),

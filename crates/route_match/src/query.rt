@@ -16,9 +16,13 @@ pub(crate) fn query_holds<P: Patterns>(
     query: &str,
     wanted: &[NameMatch],
 ) -> Result<bool, PatternFault>
-    ensures told { (pat : Pat) → P.tells patterns.old ≡ Some pat → IfOk result (λ all. all ≡ list_all (query_holds pat (parts_of query.now)) wanted.now) }
-    ensures asks { AsksPatterns P.Patterns patterns.old patterns.new (IsErrOf result PatternFault.Refused) }
-    ensures named { IsErrOf result PatternFault.Refused → RefusesAt (facts_of P.Patterns patterns.old) value_pattern (λ pat. query_holds pat (parts_of query.now)) wanted.now }
+    ensures told { (pat : Pat) → P.tells patterns.old ≡ Some pat → IfOk result (λ all.
+        all ≡ list_all (query_holds pat (parts_of query.now)) wanted.now) }
+    ensures asks { AsksPatterns P.Patterns patterns.old patterns.new
+        (IsErrOf result PatternFault.Refused) }
+    ensures named { IsErrOf result PatternFault.Refused
+        → RefusesAt (facts_of P.Patterns patterns.old) value_pattern
+        (λ pat. query_holds pat (parts_of query.now)) wanted.now }
 {
     for part in wanted {
         match part_holds(alloc, patterns, query, part) {
@@ -36,9 +40,12 @@ fn part_holds<P: Patterns>(
     query: &str,
     part: &NameMatch,
 ) -> Result<bool, PatternFault>
-    ensures told { (pat : Pat) → P.tells patterns.old ≡ Some pat → IfOk result (λ holds. holds ≡ query_holds pat (parts_of query.now) part.now) }
-    ensures asks { AsksPatterns P.Patterns patterns.old patterns.new (IsErrOf result PatternFault.Refused) }
-    ensures named { IsErrOf result PatternFault.Refused → HasRefused (P.refuses patterns.old) (value_pattern part.now) }
+    ensures told { (pat : Pat) → P.tells patterns.old ≡ Some pat → IfOk result (λ holds.
+        holds ≡ query_holds pat (parts_of query.now) part.now) }
+    ensures asks { AsksPatterns P.Patterns patterns.old patterns.new
+        (IsErrOf result PatternFault.Refused) }
+    ensures named { IsErrOf result PatternFault.Refused
+        → HasRefused (P.refuses patterns.old) (value_pattern part.now) }
 {
     match value_in(query, part.name.as_str()) {
         Some(value) => value_holds(alloc, patterns, part, value),
@@ -73,7 +80,8 @@ fn cut(query: &str) -> Option<(&str, &str)>
 /// What a piece of a query has behind its `=`, if it is of the name.
 #[tactic(auto, using(crate::proofs::Queries::no_part, crate::proofs::Queries::own_part, crate::proofs::Queries::other_part))]
 fn value_at<'a>(piece: &'a str, name: &str) -> Option<&'a str>
-    ensures { option_copied result ≡ value_in name.now (map part_of (filter is_filled (piece.now ∷ []))) }
+    ensures { option_copied result
+        ≡ value_in name.now (map part_of (filter is_filled (piece.now ∷ []))) }
 {
     if piece.is_empty() {
         return None;

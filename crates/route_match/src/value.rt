@@ -14,9 +14,12 @@ pub(crate) fn is_whole<P: Patterns>(
     pattern: &Text,
     string: &str,
 ) -> Result<bool, PatternFault>
-    ensures told { (pat : Pat) → P.tells patterns.old ≡ Some pat → IfOk result (λ yes. yes ≡ pat pattern.now string.now) }
-    ensures asks { AsksPatterns P.Patterns patterns.old patterns.new (IsErrOf result PatternFault.Refused) }
-    ensures named { IsErrOf result PatternFault.Refused → HasRefused (P.refuses patterns.old) (pattern.now ∷ []) }
+    ensures told { (pat : Pat) → P.tells patterns.old ≡ Some pat → IfOk result (λ yes.
+        yes ≡ pat pattern.now string.now) }
+    ensures asks { AsksPatterns P.Patterns patterns.old patterns.new
+        (IsErrOf result PatternFault.Refused) }
+    ensures named { IsErrOf result PatternFault.Refused
+        → HasRefused (P.refuses patterns.old) (pattern.now ∷ []) }
 {
     patterns.whole(alloc, pattern.as_str(), string)
 }
@@ -28,9 +31,12 @@ pub(crate) fn value_holds<P: Patterns>(
     part: &NameMatch,
     value: &str,
 ) -> Result<bool, PatternFault>
-    ensures told { (pat : Pat) → P.tells patterns.old ≡ Some pat → IfOk result (λ holds. holds ≡ value_holds pat part.now value.now) }
-    ensures asks { AsksPatterns P.Patterns patterns.old patterns.new (IsErrOf result PatternFault.Refused) }
-    ensures named { IsErrOf result PatternFault.Refused → HasRefused (P.refuses patterns.old) (value_pattern part.now) }
+    ensures told { (pat : Pat) → P.tells patterns.old ≡ Some pat → IfOk result (λ holds.
+        holds ≡ value_holds pat part.now value.now) }
+    ensures asks { AsksPatterns P.Patterns patterns.old patterns.new
+        (IsErrOf result PatternFault.Refused) }
+    ensures named { IsErrOf result PatternFault.Refused
+        → HasRefused (P.refuses patterns.old) (value_pattern part.now) }
 {
     if part.regex {
         is_whole(alloc, patterns, &part.value, value)

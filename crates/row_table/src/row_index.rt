@@ -50,8 +50,13 @@ pub trait RowIndex {
         steps: &mut Steps<L>,
     ) -> Result<List<Self::Key>, Memory>
         ensures keys { IfOk result (λ keys. keys ≡ keys_met change.now.marks (index_rows self.old)) }
-        ensures users { OnOk result (map users_of (index_rows self.new) ≡ map users_of (index_rows self.old)) }
-        ensures stands { OnOk result ((held : ObjectMap) → StandsFor (row_of self.old) (reads self.old) held (index_rows self.old)
-            → Leads change.now.marks held store.now.objects → StandsFor (row_of self.old) (reads self.old) store.now.objects (index_rows self.new)) }
-        ensures steps { steps.new ≤ steps.old + sum_by (spend self.old store.now.objects) (keys_met change.now.marks (index_rows self.old)) };
+        ensures users { OnOk result (map users_of (index_rows self.new)
+            ≡ map users_of (index_rows self.old)) }
+        ensures stands { OnOk result ((held : ObjectMap)
+            → StandsFor (row_of self.old) (reads self.old) held (index_rows self.old)
+            → Leads change.now.marks held store.now.objects
+            → StandsFor (row_of self.old) (reads self.old) store.now.objects
+            (index_rows self.new)) }
+        ensures steps { steps.new ≤ steps.old + sum_by (spend self.old store.now.objects)
+            (keys_met change.now.marks (index_rows self.old)) };
 }

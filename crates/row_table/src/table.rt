@@ -61,9 +61,12 @@ fn refresh_all<F: RowRule, L>(
     rows: &mut [IndexRow<F::Key, F::Row>],
     steps: &mut Steps<L>,
 ) -> Result<List<F::Key>, Memory>
-    ensures rows { OnOk result (rows.new ≡ map (refresh (F.row_of rule.now) (F.reads rule.now) store.now.objects changed.now) rows.old) }
+    ensures rows { OnOk result (rows.new
+        ≡ map (refresh (F.row_of rule.now) (F.reads rule.now) store.now.objects changed.now)
+        rows.old) }
     ensures keys { IfOk result (λ keys. keys ≡ keys_met changed.now rows.old) }
-    ensures steps { steps.new ≤ steps.old + sum_by (F.spend rule.now store.now.objects) (keys_met changed.now rows.old) }
+    ensures steps { steps.new ≤ steps.old + sum_by (F.spend rule.now store.now.objects)
+        (keys_met changed.now rows.old) }
 {
     let mut keys = List::new(alloc);
     for index_row in rows.iter_mut() {
@@ -81,9 +84,14 @@ fn refresh_one<F: RowRule, L>(
     keys: &mut List<F::Key>,
     steps: &mut Steps<L>,
 ) -> Result<(), Memory>
-    ensures row { OnOk result (index_row.new ≡ refresh (F.row_of rule.now) (F.reads rule.now) store.now.objects changed.now index_row.old) }
-    ensures keys { OnOk result (keys.new ≡ keys.old ++ (if is_met changed.now index_row.old then index_row.old.key ∷ [] else [])) }
-    ensures steps { steps.new ≤ steps.old + (if is_met changed.now index_row.old then F.spend rule.now store.now.objects index_row.old.key else 0) }
+    ensures row { OnOk result (index_row.new
+        ≡ refresh (F.row_of rule.now) (F.reads rule.now) store.now.objects changed.now
+        index_row.old) }
+    ensures keys { OnOk result (keys.new
+        ≡ keys.old ++ (if is_met changed.now index_row.old then index_row.old.key ∷ [] else [])) }
+    ensures steps { steps.new ≤ steps.old +
+        (if is_met changed.now index_row.old then F.spend rule.now store.now.objects
+        index_row.old.key else 0) }
 {
     if meets(index_row.marks.as_slice(), changed) {
         keys.add(index_row.key.copy(alloc)?)?;
@@ -106,7 +114,9 @@ pub fn refresh_due<F: RowRule, L>(
     steps: &mut Steps<L>,
 ) -> Result<(), Memory>
     requires { IsDue changed.now rows.old due.now }
-    ensures { OnOk result (rows.new ≡ map (refresh (F.row_of rule.now) (F.reads rule.now) store.now.objects changed.now) rows.old) }
+    ensures { OnOk result (rows.new
+        ≡ map (refresh (F.row_of rule.now) (F.reads rule.now) store.now.objects changed.now)
+        rows.old) }
 {
     for number in due {
         refresh_one(

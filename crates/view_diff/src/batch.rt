@@ -27,7 +27,8 @@ pub fn endpoint_batch(
     requires limit { 1 ≤ limits.now.frame_addrs }
     requires old { IsOrderlyBefore (option_copied old) }
     requires new { IsOrderly new.now }
-    ensures { IfOk result (λ messages. messages ≡ endpoint_batch (option_copied old.entry) new.now limits.now) }
+    ensures { IfOk result (λ messages.
+        messages ≡ endpoint_batch (option_copied old.entry) new.now limits.now) }
 {
     let rows = new.rows.as_slice();
     if rows.is_empty() {

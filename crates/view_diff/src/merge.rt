@@ -93,7 +93,8 @@ fn add_if_changed(
     was: &EndpointRow,
     row: &EndpointRow,
 ) -> Result<(), Memory>
-    ensures { OnOk result (changed.new ≡ changed.old ++ (if same_row row.now was.now then [] else row.now ∷ [])) }
+    ensures { OnOk result (changed.new
+        ≡ changed.old ++ (if same_row row.now was.now then [] else row.now ∷ [])) }
 {
     if row.is_same(was) {
         return Ok(());

@@ -76,7 +76,8 @@ pub fn whole_batch<T: Whole>(
     old: Option<&T>,
     new: &T,
 ) -> Result<List<Message>, Memory>
-    ensures { IfOk result (λ messages. messages ≡ whole_batch T.same T.whole (option_copied old.entry) new.now) }
+    ensures { IfOk result (λ messages.
+        messages ≡ whole_batch T.same T.whole (option_copied old.entry) new.now) }
 {
     let mut messages = List::new(alloc);
     if !is_shown(old, new) {

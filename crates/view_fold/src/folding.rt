@@ -47,7 +47,8 @@ impl Fold {
     }
 
     fn add(&mut self, alloc: Global, rows: List<EndpointRow>) -> Result<(), Memory>
-        ensures ok { OnOk result (self.new.view ≡ Some (Endpoints (with_rows rows (seen self.old.view)))) }
+        ensures ok { OnOk result (self.new.view
+            ≡ Some (Endpoints (with_rows rows (seen self.old.view)))) }
         ensures err { OnErr result (self.new ≡ self.old) }
     {
         if let Some(View::Endpoints(view)) = &mut self.view {
@@ -60,7 +61,8 @@ impl Fold {
     }
 
     fn remove(&mut self, alloc: Global, pairs: &[(Ip, u16)]) -> Result<(), Memory>
-        ensures ok { OnOk result (self.new.view ≡ Some (Endpoints (without_pairs pairs.now (seen self.old.view)))) }
+        ensures ok { OnOk result (self.new.view
+            ≡ Some (Endpoints (without_pairs pairs.now (seen self.old.view)))) }
         ensures err { OnErr result (self.new ≡ self.old) }
     {
         if let Some(View::Endpoints(view)) = &mut self.view {

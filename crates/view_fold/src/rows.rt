@@ -63,7 +63,9 @@ pub fn take_out(
 }
 
 fn drop_from(rows: &mut Vec<EndpointRow>, gone: &BTreeSet<(Ip, u16)>) -> Result<(), Memory>
-    ensures ok { OnOk result (rows.new.items ≡ filter (λ row. not (list_any (same_pair (pair_of row)) gone.now.keys)) (values (row_map rows.old.items))) }
+    ensures ok { OnOk result (rows.new.items
+        ≡ filter (λ row. not (list_any (same_pair (pair_of row)) gone.now.keys))
+        (values (row_map rows.old.items))) }
     ensures err { OnErr result (rows.new.items ≡ rows.old.items) }
 {
     put_in_order(rows)?;

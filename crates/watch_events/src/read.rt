@@ -34,7 +34,9 @@ fn is_blank(line: &[u8]) -> bool
 }
 
 fn read_if_list<'a>(line: &'a Place<'a>) -> Result<Line, LineFault>
-    ensures { Gives result (list_as (option_and_then item_kind (string_in ((seen line.now) · keys.Kind).value)) (seen line.now)) }
+    ensures { Gives result (list_as
+        (option_and_then item_kind (string_in ((seen line.now) · keys.Kind).value))
+        (seen line.now)) }
 {
     let Some(kind) = line.member(Key::Kind).as_text() else {
         return Err(LineFault::NoForm);
