@@ -9,7 +9,8 @@ PROGRAM is the built linkerd_cli. FOLDER has what a kube-apiserver printed: `kub
 subscription, and these must hold:
 
 - Its endpoints are those of the Endpoints object: addresses, port and the names of the Pods. An endpoint's account is its
-  Pod's, and it has an identity where its Pod is labelled for the control plane `linkerd`.
+  Pod's, and it has an identity where its Pod is labelled for the control plane `linkerd`. It is then reached by HTTP/2 unless
+  its port is among the Pod's opaque ports.
 - The events, in the order of the file and in the order in which they happened, and the lists give the same frames.
 - With a drain of each subscription after each hundredth event, the messages so far give what a new subscriber is sent after
   that event. No message adds what is there, or removes what is not, and what is written up to an event does not change
@@ -20,10 +21,12 @@ import argparse
 import ipaddress
 import json
 import pathlib
+import re
 import subprocess
 import sys
 
 EVERY = 100
+OPAQUE_PORTS = "25,587,3306,4444,5432,6379,9300,11211"
 
 
 class Wrong(Exception):
@@ -202,8 +205,15 @@ def ready_endpoints(endpoints, name_of_port):
     return found
 
 
-def wanted_row(namespace, pod):
-    """What must be told of an endpoint of this Pod. None of the recorded Pods has opaque ports of its own."""
+def is_opaque(pod, port):
+    """Whether a port is among the opaque ports of a Pod, which its annotation gives; without it they are the usual ones."""
+    listed = pod["metadata"].get("annotations", {}).get("config.linkerd.io/opaque-ports", OPAQUE_PORTS)
+    ranges = (re.fullmatch(r"([0-9]+)(?:-([0-9]+))?", entry.strip()) for entry in listed.split(","))
+    return any(int(it[1]) <= port <= int(it[2] or it[1]) for it in ranges if it)
+
+
+def wanted_row(namespace, pod, port):
+    """What must be told of an endpoint at a port of this Pod."""
     account = pod["spec"].get("serviceAccountName") or "default"
     is_meshed = pod["metadata"].get("labels", {}).get("linkerd.io/control-plane-ns") == "linkerd"
     identity = f"{account}.{namespace}.serviceaccount.identity.linkerd.cluster.local"
@@ -211,7 +221,7 @@ def wanted_row(namespace, pod):
         "weight": 10000,
         "labels": {"pod": pod["metadata"]["name"], "serviceaccount": account},
         "identity": identity if is_meshed else None,
-        "h2": is_meshed,
+        "h2": is_meshed and not is_opaque(pod, port),
         "tunnel": 4143 if is_meshed else None,
     }
 
@@ -226,7 +236,7 @@ def wanted_views(folder, lists):
         namespace, name, _ = port
         exists = services[namespace, name]["spec"].get("type") != "ExternalName"
         found = ready_endpoints(endpoints.get((namespace, name), {}), name_of_port) if exists else {}
-        wanted[port] = exists, {address: wanted_row(namespace, pods[namespace, pod]) for address, pod in found.items()}
+        wanted[port] = exists, {address: wanted_row(namespace, pods[namespace, pod], address[1]) for address, pod in found.items()}
     return wanted
 
 
