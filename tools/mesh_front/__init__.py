@@ -1,0 +1,1 @@
+"""The commands of `tools/mesh`: questions about a feed, answered by running linkerd_cli and decoding its messages."""

@@ -1,0 +1,36 @@
+"""Exit statuses, and what keeps a command from answering."""
+
+import enum
+
+
+class Status(enum.IntEnum):
+    """The exit statuses of `tools/mesh`."""
+
+    DONE = 0
+    NO = 1
+    USAGE = 2
+    UNKNOWN = 3
+    EMPTY = 4
+    NO_TOOL = 5
+    TOOL_FAILED = 6
+    REFUSED = 7
+
+
+MEANINGS = {
+    Status.DONE: "the question is answered; ask: the request is allowed; diff: nothing changes; check: no problem",
+    Status.NO: "ask: the request is denied or matches no route; diff: some view changes; check: there are problems",
+    Status.USAGE: "wrong words, or a file that they name cannot be read",
+    Status.UNKNOWN: "no Service, Pod or port of this name is in the feed",
+    Status.EMPTY: "the feed holds no object",
+    Status.NO_TOOL: "linkerd_cli, protoc or kubectl is not there",
+    Status.TOOL_FAILED: "linkerd_cli, protoc or kubectl failed",
+    Status.REFUSED: "a line of the feed, or the simulation itself, was refused: what is printed is without it",
+}
+
+
+class Fault(Exception):
+    """What keeps a command from answering: one sentence, and the exit status."""
+
+    def __init__(self, status: Status, sentence: str):
+        super().__init__(sentence)
+        self.status = status

@@ -1,0 +1,149 @@
+"""A feed, and the names of the objects that it holds.
+
+Objects are looked at for what people read (names, ports, addresses), and to know which questions there are to ask. What
+follows from them is the program's to say.
+"""
+
+import json
+import pathlib
+import sys
+from dataclasses import dataclass
+from typing import Iterable
+
+from mesh_front.faults import Fault, Status
+from mesh_front.kinds import SERVER, Kind, kind_of
+
+
+@dataclass(frozen=True)
+class Key:
+    """What names an object."""
+
+    kind: Kind
+    namespace: str
+    name: str
+
+    def __str__(self) -> str:
+        return f"{self.kind.title} {self.namespace}/{self.name}"
+
+
+def json_of(line: bytes):
+    """The JSON value of a line, or None where it is none."""
+    try:
+        return json.loads(line)
+    except (ValueError, RecursionError):
+        return None
+
+
+def is_control(value) -> bool:
+    """Whether the value of a line is that of a control line."""
+    return isinstance(value, dict) and value.get("control") is not None
+
+
+def members(value, *path: str) -> dict:
+    """The object at the end of a path of members, the empty one where something else is there."""
+    for name in path:
+        value = value.get(name) if isinstance(value, dict) else None
+    return value if isinstance(value, dict) else {}
+
+
+def items(value, *path: str) -> list[dict]:
+    """The objects in the list at the end of a path of members."""
+    found = members(value, *path[:-1]).get(path[-1])
+    return [it for it in found if isinstance(it, dict)] if isinstance(found, list) else []
+
+
+def key_of(value: dict) -> Key | None:
+    """The key of an object, or None where it has none."""
+    kind, metadata = kind_of(value.get("kind"), value.get("apiVersion")), members(value, "metadata")
+    name, namespace = metadata.get("name"), metadata.get("namespace") or "default"
+    return Key(kind, namespace, name) if kind and isinstance(name, str) and isinstance(namespace, str) else None
+
+
+def apply_list(held: dict[Key, dict], value: dict) -> None:
+    """Holds the items of a list in place of all objects of its kind."""
+    kind = kind_of(value["kind"].removesuffix("List"), value.get("apiVersion"))
+    if kind is None:
+        return
+    for key in [key for key in held if key.kind == kind]:
+        del held[key]
+    for item in items(value, "items"):
+        named = {**item, "kind": kind.name, "apiVersion": value.get("apiVersion") or kind.api_version}
+        key = key_of(named)
+        if key:
+            held[key] = named
+
+
+def apply(held: dict[Key, dict], value) -> None:
+    """Does to the held objects what the line with this value does."""
+    if not isinstance(value, dict):
+        return
+    if value.get("type") is not None:
+        key = key_of(members(value, "object"))
+        if key and value["type"] in ("ADDED", "MODIFIED"):
+            held[key] = value["object"]
+        elif key and value["type"] == "DELETED":
+            held.pop(key, None)
+    elif isinstance(value.get("kind"), str) and value["kind"].endswith("List"):
+        apply_list(held, value)
+
+
+class Held:
+    """The objects that a feed holds at its end."""
+
+    def __init__(self, objects: dict[Key, dict]):
+        self.objects = objects
+
+    def of(self, kind: Kind, namespace: str | None = None) -> list[Key]:
+        """The keys of a kind, in order, of one namespace or of all."""
+        found = [key for key in self.objects if key.kind == kind and namespace in (None, key.namespace)]
+        return sorted(found, key=lambda key: (key.namespace, key.name))
+
+    def get(self, kind: Kind, namespace: str, name: str) -> dict | None:
+        """An object, or None where it is not held."""
+        return self.objects.get(Key(kind, namespace, name))
+
+    def spec(self, key: Key) -> dict:
+        """The `spec` of an object."""
+        return members(self.objects[key], "spec")
+
+    def free_name(self, namespace: str) -> str:
+        """A name that no object of the namespace has."""
+        taken = {key.name for key in self.objects if key.namespace == namespace}
+        return next(name for name in (f"mesh-question-{number}" for number in range(len(taken) + 1)) if name not in taken)
+
+    def service_ports(self, key: Key) -> list[int]:
+        """The port numbers of a Service, in its order, each once."""
+        return list(dict.fromkeys(it["port"] for it in items(self.spec(key), "ports") if isinstance(it.get("port"), int)))
+
+    def pod_ports(self, key: Key) -> list[int]:
+        """The ports of a Pod that its containers name or that a Server of its namespace has as a number."""
+        named = [port.get("containerPort") for it in items(self.spec(key), "containers") for port in items(it, "ports")]
+        numbers = [self.spec(server).get("port") for server in self.of(SERVER, key.namespace)]
+        return sorted({port for port in named + numbers if isinstance(port, int) and 0 < port < 65536})
+
+
+class Feed:
+    """The lines of a feed. Lines of control are empty lines here, so that the others keep their numbers."""
+
+    def __init__(self, data: bytes):
+        self.lines = data.removesuffix(b"\n").split(b"\n") if data else []
+        self.values = [json_of(line) for line in self.lines]
+        for place, value in enumerate(self.values):
+            if is_control(value):
+                self.lines[place], self.values[place] = b"", None
+
+    def held(self, refused: Iterable[int] = ()) -> Held:
+        """What is held at the end if the lines with these numbers, counted from 1, are refused."""
+        held: dict[Key, dict] = {}
+        for number, value in enumerate(self.values, 1):
+            if number not in refused:
+                apply(held, value)
+        return Held(held)
+
+
+def read_bytes(path: pathlib.Path) -> bytes:
+    """The bytes of a file that the words name; `-` is standard input."""
+    try:
+        return sys.stdin.buffer.read() if str(path) == "-" else path.read_bytes()
+    except OSError as error:
+        raise Fault(Status.USAGE, f"cannot read {path}: {error.strerror}") from error
