@@ -1,0 +1,280 @@
+"""`mesh ask`: what comes of a request, and why.
+
+The reasons are found by asking again. Of each authorization in the view all others are removed, and the request is simulated as
+it is, from an address that the authorization shows, as a client that it shows, and as both. A policy that names the Server and is
+not in the view is asked for once more with the references that it lacks.
+"""
+
+import ipaddress
+from dataclasses import dataclass, replace
+
+from mesh_front import policy, probes, views
+from mesh_front.faults import Fault, Status
+from mesh_front.feed import Held, Key, members
+from mesh_front.kinds import AUTHORIZATION_POLICY, POD, SERVER_AUTHORIZATION
+from mesh_front.names import PodName, PodPort, require_pod
+from mesh_front.program import Answers, Script, Session
+from mesh_front.tables import show, table
+
+KINDS = {kind.name: kind for kind in (SERVER_AUTHORIZATION, AUTHORIZATION_POLICY)}
+
+
+@dataclass(frozen=True)
+class Client:
+    """Who sends the request."""
+
+    address: str
+    identity: str | None = None
+    tls: bool = False
+
+    def __str__(self) -> str:
+        return f"{self.address}, {self.identity or ('TLS without an identity' if self.tls else 'no identity')}"
+
+    def members(self) -> dict:
+        """The members of a `simulate` line."""
+        return {"client": self.address, "tls": self.tls} | ({"identity": self.identity} if self.identity else {})
+
+
+@dataclass(frozen=True)
+class Words:
+    """What the words of the command ask."""
+
+    target: PodPort
+    pod: PodName | None
+    client: Client | None
+    http: dict | None
+
+    def request(self, client: Client) -> dict:
+        """The members of a `simulate` line."""
+        workload = f"{self.target.pod.namespace}:{self.target.pod.name}"
+        http = {} if self.http is None else {"http": self.http}
+        return {"workload": workload, "port": self.target.port, **client.members(), **http}
+
+    def request_text(self) -> str:
+        """The request as people read it."""
+        if self.http is None:
+            return f"a connection to {self.target}, not HTTP"
+        query = f"?{self.http['query']}" if "query" in self.http else ""
+        host = f" of the host {self.http['host']}" if "host" in self.http else ""
+        return f"{self.http['method']} {self.http['path']}{query}{host} to {self.target}"
+
+
+@dataclass
+class Reason:
+    """An authorization of the view, and which part of it admits the client. Without `counts` none of it is asked here."""
+
+    authorization: views.Authorization
+    admits: bool
+    counts: bool
+    network_admits: bool
+    client_admits: bool
+
+
+@dataclass
+class NotShown:
+    """A policy that names the Server or a route of it and is not in the view, and why."""
+
+    policy: str
+    why: str
+
+
+@dataclass
+class Answer:
+    """What comes of the request, and why."""
+
+    verdict: str
+    request: str
+    client: Client
+    meshed: bool
+    view: views.Inbound
+    reasons: list[Reason]
+    not_shown: list[NotShown]
+
+
+@dataclass
+class First:
+    """What the first run tells: the view, the identity of the Pod, and the client."""
+
+    view: views.Inbound
+    meshed: bool
+    client: Client
+
+
+@dataclass
+class Trial:
+    """The simulations for one authorization: the request as it is, and with the address, the client or both replaced."""
+
+    as_it_is: int
+    with_address: int
+    with_client: int
+    with_both: int
+
+
+def address_of(held: Held, pod: PodName) -> str:
+    """The address of a held Pod."""
+    found = members(held.objects[require_pod(held, pod)], "status").get("podIP")
+    if not isinstance(found, str):
+        raise Fault(Status.UNKNOWN, f"the Pod {pod} has no address in the feed; give --client and --identity")
+    return found
+
+
+def first_run(session: Session, words: Words) -> First:
+    """Asks for the view of the port, whether its Pod is meshed, and who the client is."""
+
+    def questions(held, script):
+        require_pod(held, words.target.pod)
+        address = address_of(held, words.pod) if words.pod else None
+        pods = [words.target.pod] + ([words.pod] if words.pod else [])
+        view = script.view(policy.inbound_query(words.target))
+        return view, [probes.ask_row(held, script, pod) for pod in pods], address
+
+    (view, rows, address), answers = session.ask(questions)
+    identities = [probes.identity(answers, number) for number in rows]
+    client = Client(address, identities[1]) if words.pod else words.client
+    return First(policy.require_view(views.inbound(answers.view(view)), words.target), identities[0] is not None, client)
+
+
+def address_in(network: views.Network) -> str | None:
+    """An address of a network that is in none of its exceptions, None where no try finds one."""
+    whole = ipaddress.ip_network(network.network, strict=False)
+    parsed = [ipaddress.ip_network(it, strict=False) for it in network.exceptions]
+    holes = [it for it in parsed if it.version == whole.version]
+    first, last, kind = int(whole.network_address), int(whole.broadcast_address), type(whole.network_address)
+    tries = [first, *(int(it.broadcast_address) + 1 for it in holes), *(int(it.network_address) - 1 for it in holes)]
+    free = [kind(it) for it in tries if first <= it <= last and not any(kind(it) in hole for hole in holes)]
+    return str(free[0]) if free else None
+
+
+def shown_address(authorization: views.Authorization, client: Client) -> Client:
+    """The client at an address that the authorization shows."""
+    found = [address for address in map(address_in, authorization.networks) if address]
+    return replace(client, address=found[0]) if found else client
+
+
+def shown_client(authorization: views.Authorization, client: Client) -> Client:
+    """The client as one that the authorization shows."""
+    who = authorization.clients
+    names = who.identities + [f"any{suffix}" for suffix in who.suffixes] + ["any"] * who.any_identity
+    if names and not who.anyone and not who.any_tls:
+        return replace(client, identity=names[0])
+    return replace(client, tls=True) if who.any_tls and not client.identity else client
+
+
+def object_of(held: Held, namespace: str, authorization: views.Authorization) -> dict:
+    """The object of an authorization of the view."""
+    return held.objects[Key(KINDS[authorization.kind], namespace, authorization.name)]
+
+
+def ask_trial(script: Script, words: Words, client: Client, one: views.Authorization) -> Trial:
+    """Asks which part of an authorization admits the client, where it is the only one."""
+    elsewhere, other = shown_address(one, client), shown_client(one, client)
+    clients = [client, elsewhere, other, shown_client(one, elsewhere)]
+    return Trial(*(script.simulate(words.request(it)) for it in clients))
+
+
+def not_shown(held: Held, first: First, namespace: str) -> list[Key]:
+    """The policies that name the Server or a route of it and are not in the view."""
+    named = [*probes.named_policies(held, namespace, "Server", first.view.server), *probes.named_policies(held, namespace, "Namespace", namespace)]
+    for it in first.view.routes:
+        named += probes.named_policies(held, namespace, "HTTPRoute", it.name, it.group)
+    shown = {(it.kind, it.name) for it in first.view.authorizations}
+    return [key for key in dict.fromkeys(named) if (key.kind.name, key.name) not in shown]
+
+
+def ask_reasons(held: Held, script: Script, words: Words, first: First) -> list[Trial]:
+    """Asks for each authorization of the view which part of it admits the client."""
+    trials = []
+    objects = [object_of(held, words.target.pod.namespace, it) for it in first.view.authorizations]
+    script.remove(*objects)
+    for authorization, value in zip(first.view.authorizations, objects):
+        script.hold(value)
+        trials.append(ask_trial(script, words, first.client, authorization))
+        script.remove(value)
+    script.hold(*objects)
+    return trials
+
+
+def reason(authorization: views.Authorization, namespace: str, trial: Trial, answers: Answers) -> Reason:
+    """What the simulations of an authorization say."""
+    wanted = f"allowed {authorization.kind} {namespace}/{authorization.name}"
+    as_it_is, address, client, both = (answers.verdicts.get(number) == wanted for number in vars(trial).values())
+    return Reason(authorization, as_it_is, both or as_it_is, client, address)
+
+
+def why_not_shown(held: Held, key: Key, after: views.Inbound) -> NotShown:
+    """Why a policy is not in the view, by the view in which what it refers to is held."""
+    missing = probes.missing_references(held, key)
+    if missing and key.name in {it.name for it in after.authorizations if it.kind == key.kind.name}:
+        return NotShown(str(key), f"{' and '.join(map(str, missing))} is not in the feed")
+    return NotShown(str(key), "the program does not count it: a reference or its target is of another group, kind or namespace")
+
+
+def second_run(session: Session, words: Words, first: First) -> Answer:
+    """Asks for the verdict, and why."""
+    namespace = words.target.pod.namespace
+
+    def questions(held, script):
+        verdict = script.simulate(words.request(first.client))
+        trials = ask_reasons(held, script, words, first) if first.view.server else []
+        lacking = not_shown(held, first, namespace) if first.view.server else []
+        script.hold(*probes.stand_ins([it for key in lacking for it in probes.missing_references(held, key)]))
+        return verdict, trials, lacking, script.view(policy.inbound_query(words.target))
+
+    (verdict, trials, lacking, number), answers = session.ask(questions)
+    if verdict in answers.refused:
+        raise Fault(Status.REFUSED, f"the simulation is refused: {answers.refused[verdict]}")
+    reasons = [reason(it, namespace, trial, answers) for it, trial in zip(first.view.authorizations, trials)]
+    after = views.inbound(answers.view(number))
+    absent = [why_not_shown(session.held, key, after) for key in lacking]
+    text = answers.verdicts[verdict]
+    counted = [] if text == "not-found" else reasons
+    return Answer(text, words.request_text(), first.client, first.meshed, first.view, counted, absent)
+
+
+def verdict_text(answer: Answer) -> str:
+    """The verdict as people read it."""
+    word, *rest = answer.verdict.split(" ")
+    if word == "not-found":
+        return f"not found: the Server {answer.view.server} has routes, and none matches the request"
+    if rest[0] != "default":
+        return f"{word} by {' '.join(rest)}"
+    if answer.view.server is None:
+        return f"{word} by the default policy {rest[1]}: no Server selects this port"
+    none = "no authorization admits the client" if answer.reasons else "no authorization applies"
+    return f"{word} by the policy {rest[1]} of the Server {answer.view.server}: {none}"
+
+
+def reason_cells(it: Reason, view: views.Inbound) -> list[str]:
+    """A reason in a row of a table."""
+    one = it.authorization
+    shown = [(one.where(), it.network_admits), (str(one.clients), it.client_admits)]
+    if it.counts:
+        cells = ["admits" if admits else f"needs {text}" for text, admits in shown]
+    else:
+        cells = [f"admits {text}" if text in ("nobody", "nowhere") else "-" for text, _ in shown]
+    other = ", not matched" if one.route and not it.counts and cells == ["-", "-"] else ""
+    return [one.title, policy.scope(one, view) + other, *cells]
+
+
+def lines(answer: Answer) -> list[str]:
+    """The answer as people read it."""
+    meshed = "yes" if answer.meshed else "no: the Pod has no proxy that would apply this"
+    view = answer.view
+    server = f"{view.server}, protocol {view.protocol}, policy {view.policy}" if view.server else f"none, default policy {view.policy}"
+    pairs = [("VERDICT", verdict_text(answer)), ("REQUEST", answer.request), ("CLIENT", str(answer.client)), ("SERVER", server), ("MESHED", meshed)]
+    shown = [f"{name:<9}{text}" for name, text in pairs]
+    if answer.reasons:
+        rows = [reason_cells(it, view) for it in answer.reasons]
+        shown += ["", *table(["AUTHORIZATION", "FOR", "NETWORK", "CLIENT"], rows)]
+    if answer.verdict == "not-found":
+        shown += ["", *policy.route_table(view.routes)]
+    if answer.not_shown:
+        shown += ["", *(f"not counted: {it.policy}: {it.why}" for it in answer.not_shown)]
+    return shown
+
+
+def run(session: Session, words: Words, as_json: bool) -> Status:
+    """Shows what comes of a request, and why."""
+    answer = second_run(session, words, first_run(session, words))
+    show(answer, lines(answer), as_json)
+    return Status.DONE if answer.verdict.startswith("allowed") else Status.NO

@@ -1,0 +1,162 @@
+"""`mesh diff`: which views a change of objects changes."""
+
+import difflib
+from dataclasses import dataclass
+
+from mesh_front import policy, views
+from mesh_front.faults import Fault, Status
+from mesh_front.feed import Held, apply
+from mesh_front.kinds import POD, SERVICE
+from mesh_front.manifests import Change
+from mesh_front.messages import Message, address
+from mesh_front.names import PodName, PodPort
+from mesh_front.program import Answers, Query, Script, Session
+from mesh_front.tables import show
+
+SERVICE_METHODS = ("Get", "GetProfile", "Watch")
+WHAT = {"Get": "endpoints", "GetProfile": "profile", "Watch": "outbound policy", "WatchPort": "inbound policy"}
+
+
+@dataclass(frozen=True)
+class Question:
+    """A view that may change."""
+
+    title: str
+    query: Query
+
+
+@dataclass
+class Difference:
+    """A view that changes, in rows before and after."""
+
+    view: str
+    before: list[str]
+    after: list[str]
+
+
+@dataclass
+class Asked:
+    """The questions with the ids of their answers before and after, and the lines of the changes."""
+
+    questions: list[Question]
+    before: list[int]
+    after: list[int]
+    changes: list[int]
+
+
+def flat(message: Message, prefix: str = "") -> list[str]:
+    """The fields of a message, each with its path."""
+    rows: list[str] = []
+    for name in dict.fromkeys(name for name, _ in message.fields):
+        found = message.all(name)
+        for place, value in enumerate(found):
+            path = f"{prefix}{name}[{place}]" if len(found) > 1 else f"{prefix}{name}"
+            if not isinstance(value, Message):
+                rows.append(f"{path} {value}")
+            elif value.names() & {"ipv4", "ipv6"}:
+                rows.append(f"{path} {address(value)}")
+            else:
+                rows += flat(value, f"{path}.") or [path]
+    return rows
+
+
+def endpoint_rows(found: views.Endpoints) -> list[str]:
+    """Endpoints in rows."""
+    if not found.endpoints:
+        return ["the Service exists and has no endpoints" if found.exists else "the Service does not exist"]
+    rows = []
+    for it in found.endpoints:
+        pod = f" Pod {it.pod} account {it.account}" if it.pod else ""
+        identity = f" identity {it.identity}" if it.identity else ""
+        rows.append(f"{it.address}:{it.port}{pod}{identity} hint {it.hint}")
+    return rows
+
+
+def inbound_rows(view: views.Inbound) -> list[str]:
+    """The view of a port of a Pod in rows."""
+    if view.policy is None:
+        return ["the Pod does not exist"]
+    rows = [f"server {view.server or 'none'}", f"protocol {view.protocol}", f"policy {view.policy}"]
+    for it in view.authorizations:
+        rows.append(f"{it.title} for {policy.scope(it, view)}: networks {it.where()}, clients {it.clients}")
+    for it in view.routes:
+        rows.append(f"{it.title} ({it.group}): hostnames {', '.join(it.hostnames) or '*'}, matches {', '.join(it.matches) or '-'}")
+    return rows
+
+
+def rows_of(method: str, messages: list[Message]) -> list[str]:
+    """A view in rows."""
+    if method == "Get":
+        return endpoint_rows(views.endpoints(messages))
+    if method == "WatchPort":
+        return inbound_rows(views.inbound(messages))
+    return [row for message in messages for row in flat(message)]
+
+
+def difference(question: Question, before: list[Message], after: list[Message]) -> Difference | None:
+    """How a view differs, or None where it does not."""
+    if before == after:
+        return None
+    rows = [rows_of(question.query.method, messages) for messages in (before, after)]
+    if rows[0] == rows[1]:
+        rows = [[row for message in messages for row in flat(message)] for messages in (before, after)]
+    return Difference(question.title, *rows)
+
+
+def after_changes(held: Held, changes: list[Change]) -> Held:
+    """What is held after the changes."""
+    objects = dict(held.objects)
+    for it in changes:
+        apply(objects, {"type": it.type, "object": it.object})
+    return Held(objects)
+
+
+def questions_of(states: list[Held]) -> list[Question]:
+    """Each port of each Pod and each port of each Service that some of these states have."""
+    ports = {(key, port) for held in states for key in held.of(POD) for port in held.pod_ports(key)}
+    services = {(key, port) for held in states for key in held.of(SERVICE) for port in held.service_ports(key) or [80]}
+    found = []
+    for key, port in sorted(ports, key=lambda it: (it[0].namespace, it[0].name, it[1])):
+        target = PodPort(PodName(key.namespace, key.name), port)
+        found.append(Question(f"{WHAT['WatchPort']} of Pod {target}", policy.inbound_query(target)))
+    for key, port in sorted(services, key=lambda it: (it[0].namespace, it[0].name, it[1])):
+        name = f"{key.name}.{key.namespace}"
+        found += [Question(f"{WHAT[method]} of Service {name}:{port}", Query(method, name, port)) for method in SERVICE_METHODS]
+    return found
+
+
+def ask(held: Held, script: Script, changes: list[Change]) -> Asked:
+    """Asks for each view before and after the changes."""
+    questions = questions_of([held, after_changes(held, changes)])
+    before = [script.view(it.query) for it in questions]
+    lines = [script.add({"type": it.type, "object": it.object}) for it in changes]
+    return Asked(questions, before, [script.view(it.query) for it in questions], lines)
+
+
+def require_changes(changes: list[Change], asked: Asked, answers: Answers) -> None:
+    """Raises a Fault where the program refuses a change."""
+    for change, line in zip(changes, asked.changes):
+        if line in answers.refused:
+            raise Fault(Status.REFUSED, f"the change of {change.key} is refused: {answers.refused[line]}")
+
+
+def lines(found: list[Difference], asked: Asked) -> list[str]:
+    """The differences as people read them."""
+    if not found:
+        return [f"none of {len(asked.questions)} views changes"]
+    shown = []
+    for it in found:
+        changed = list(difflib.unified_diff(it.before, it.after, lineterm="", n=0))[2:]
+        shown += [it.view, *(f"{row[0]} {row[1:]}" for row in changed if not row.startswith("@@")), ""]
+    return [*shown, f"{len(found)} of {len(asked.questions)} views change"]
+
+
+def run(session: Session, changes: list[Change], as_json: bool) -> Status:
+    """Shows each view that the changes change, before and after."""
+    asked, answers = session.ask(lambda held, script: ask(held, script, changes))
+    require_changes(changes, asked, answers)
+    pairs = zip(asked.questions, asked.before, asked.after)
+    compared = [difference(it, answers.view(before), answers.view(after)) for it, before, after in pairs]
+    found = [it for it in compared if it]
+    show(found, lines(found, asked), as_json)
+    return Status.NO if found else Status.DONE

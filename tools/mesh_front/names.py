@@ -1,0 +1,103 @@
+"""The names that words give: Services, Pods, ports, and what is said where none has the name."""
+
+import difflib
+import re
+from dataclasses import dataclass
+
+from mesh_front.faults import Fault, Status
+from mesh_front.feed import Held, Key
+from mesh_front.kinds import POD, SERVICE
+
+LABEL = r"[a-z0-9-]+"
+NAME = r"[a-z0-9.-]+"
+
+
+@dataclass(frozen=True)
+class ServiceName:
+    """`SERVICE[.NS][:PORT]`."""
+
+    name: str
+    namespace: str
+    port: int | None
+
+
+@dataclass(frozen=True)
+class PodName:
+    """`NS/POD`."""
+
+    namespace: str
+    name: str
+
+    def __str__(self) -> str:
+        return f"{self.namespace}/{self.name}"
+
+
+@dataclass(frozen=True)
+class PodPort:
+    """`NS/POD:PORT`."""
+
+    pod: PodName
+    port: int
+
+    def __str__(self) -> str:
+        return f"{self.pod}:{self.port}"
+
+
+def port_number(digits: str) -> int:
+    """A port; a ValueError where it is none."""
+    if not 1 <= int(digits) <= 65535:
+        raise ValueError
+    return int(digits)
+
+
+def service_name(word: str) -> ServiceName:
+    """The Service of a word `SERVICE[.NS][:PORT]`; a ValueError where it is none."""
+    found = re.fullmatch(rf"({LABEL})(?:\.({LABEL}))?(?::(\d+))?", word)
+    if not found:
+        raise ValueError
+    return ServiceName(found[1], found[2] or "default", port_number(found[3]) if found[3] else None)
+
+
+def pod_name(word: str) -> PodName:
+    """The Pod of a word `NS/POD`; a ValueError where it is none."""
+    found = re.fullmatch(rf"({LABEL})/({NAME})", word)
+    if not found:
+        raise ValueError
+    return PodName(found[1], found[2])
+
+
+def pod_port(word: str) -> PodPort:
+    """The port of a Pod of a word `NS/POD:PORT`; a ValueError where it is none."""
+    pod, colon, port = word.partition(":")
+    if not colon or not port.isdecimal():
+        raise ValueError
+    return PodPort(pod_name(pod), port_number(port))
+
+
+def nearest(name: str, names: list[str]) -> str:
+    """The nearest of the names, in a clause for a sentence."""
+    found = difflib.get_close_matches(name, names, n=3, cutoff=0.5)
+    return f"; the nearest: {', '.join(found)}" if found else ""
+
+
+def require_pod(held: Held, pod: PodName) -> Key:
+    """The key of a Pod; a Fault where it is not held."""
+    key = Key(POD, pod.namespace, pod.name)
+    if key not in held.objects:
+        names = [f"{it.namespace}/{it.name}" for it in held.of(POD)]
+        raise Fault(Status.UNKNOWN, f"there is no Pod {pod} in the feed{nearest(str(pod), names)}")
+    return key
+
+
+def require_service(held: Held, service: ServiceName) -> Key:
+    """The key of a Service; a Fault where it, or the port that the words give, is not held."""
+    key = Key(SERVICE, service.namespace, service.name)
+    if key not in held.objects:
+        names = [f"{it.name}.{it.namespace}" for it in held.of(SERVICE)]
+        word = f"{service.name}.{service.namespace}"
+        raise Fault(Status.UNKNOWN, f"there is no Service {word} in the feed{nearest(word, names)}")
+    ports = held.service_ports(key)
+    if service.port and ports and service.port not in ports:
+        listed = ", ".join(map(str, ports))
+        raise Fault(Status.UNKNOWN, f"the Service {service.name}.{service.namespace} has no port {service.port}, but {listed}")
+    return key

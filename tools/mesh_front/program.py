@@ -1,0 +1,185 @@
+"""Questions about a feed, as lines appended to it, and what one run of linkerd_cli answers."""
+
+import json
+import pathlib
+import subprocess
+import sys
+import tempfile
+from dataclasses import dataclass, field
+from typing import Callable, TypeVar
+
+from mesh_front.faults import Fault, Status
+from mesh_front.feed import Feed, Held
+from mesh_front.messages import Message, decode_each, message_in, tree
+
+Asked = TypeVar("Asked")
+
+
+@dataclass(frozen=True)
+class Query:
+    """What a proxy subscribes to."""
+
+    method: str
+    target: str
+    port: int
+
+    def members(self, domain: str) -> dict:
+        """The query of a `subscribe` line. The target of WatchPort is `namespace:pod`, of the others `name.namespace`."""
+        if self.method == "WatchPort":
+            return {"method": self.method, "workload": self.target, "port": self.port}
+        return {"method": self.method, "path": f"{self.target}.svc.{domain}:{self.port}"}
+
+
+@dataclass
+class Script:
+    """Lines to append to a feed."""
+
+    domain: str
+    first: int
+    lines: list[str] = field(default_factory=list)
+    methods: dict[int, str] = field(default_factory=dict)
+    places: dict[int, int] = field(default_factory=dict)
+
+    def add(self, value: dict) -> int:
+        """Appends a line, and answers its number in the feed."""
+        self.lines.append(json.dumps(value))
+        return self.first + len(self.lines) - 1
+
+    def hold(self, *objects: dict) -> None:
+        """Holds objects."""
+        for it in objects:
+            self.add({"type": "MODIFIED", "object": it})
+
+    def remove(self, *objects: dict) -> None:
+        """Removes objects."""
+        for it in objects:
+            self.add({"type": "DELETED", "object": it})
+
+    def view(self, query: Query) -> int:
+        """Asks for the view of a query over what is held here, and answers the id of the question."""
+        number = len(self.methods) + 1
+        self.methods[number] = query.method
+        self.places[number] = self.add({"control": "subscribe", "id": number, "query": query.members(self.domain)})
+        self.add({"control": "drain", "id": number})
+        self.add({"control": "cancel", "id": number})
+        return number
+
+    def simulate(self, request: dict) -> int:
+        """Asks what comes of a request over what is held here, and answers the number of the question."""
+        return self.add({"control": "simulate", **request})
+
+
+@dataclass
+class Answers:
+    """What a run says: the refused lines, the messages of each view, and the verdicts, by line."""
+
+    refused: dict[int, str]
+    views: dict[int, list[Message]]
+    texts: dict[int, list[str]]
+    verdicts: dict[int, str]
+
+    def view(self, number: int) -> list[Message]:
+        """The messages of a view; none where the program refuses the query."""
+        return self.views.get(number, [])
+
+
+class Program:
+    """The program linkerd_cli with its configuration."""
+
+    def __init__(self, path: pathlib.Path, options: list[str]):
+        self.path, self.options, self.told = path, options, set()
+
+    def replay(self, lines: list[bytes]) -> list[str]:
+        """What `replay` writes for these lines. What it says on standard error is passed on, each line once."""
+        with tempfile.TemporaryFile() as source, tempfile.TemporaryFile() as output:
+            source.writelines(line + b"\n" for line in lines)
+            source.seek(0)
+            status, last = self.run(source, output)
+            output.seek(0)
+            written = output.read().decode("utf-8", "surrogateescape").splitlines()
+        if status not in (0, 1):
+            kind = Status.NO_TOOL if status == 70 else Status.TOOL_FAILED
+            raise Fault(kind, f"{self.path} replay ended with status {status}: {last or 'it says nothing'}")
+        return written
+
+    def run(self, source, output) -> tuple[int, str]:
+        """Runs `replay`, and answers its status and the last line that it wrote on standard error."""
+        last = ""
+        try:
+            command = [str(self.path), "replay", *self.options]
+            with subprocess.Popen(command, stdin=source, stdout=output, stderr=subprocess.PIPE, text=True, errors="replace") as run:
+                for line in run.stderr:
+                    last = line.strip()
+                    if line not in self.told:
+                        self.told.add(line)
+                        print(line, end="", file=sys.stderr, flush=True)
+        except OSError as error:
+            raise Fault(Status.NO_TOOL, f"cannot run {self.path}: {error.strerror}") from error
+        return run.returncode, last
+
+
+def answers_in(output: list[str], methods: dict[int, str]) -> Answers:
+    """What the lines that `replay` wrote answer to views of these methods."""
+    found = Answers({}, {}, {}, {})
+    frames: dict[str, list[tuple[int, bytes]]] = {method: [] for method in methods.values()}
+    for line in output:
+        word, number, *rest = line.split(" ", 2)
+        if word == "frame":
+            frames[methods[int(number)]].append((int(number), message_in(rest[0]) or b""))
+        elif word == "oversize":
+            raise Fault(Status.TOOL_FAILED, f"a view has a message of {rest[0]} bytes, which the program does not send")
+        else:
+            {"refused": found.refused, "verdict": found.verdicts}[word][int(number)] = rest[0]
+    for method, sent in frames.items():
+        for (number, _), rows in zip(sent, decode_each(method, [message for _, message in sent])):
+            if rows is None:
+                raise Fault(Status.TOOL_FAILED, f"protoc cannot read a message that answers {method}")
+            found.views.setdefault(number, []).append(tree(rows))
+            found.texts.setdefault(number, []).extend(rows)
+    return found
+
+
+class Session:
+    """A feed, the program, and what is known of the feed so far: whether and which of its lines the program refuses."""
+
+    def __init__(self, feed: Feed, program: Program, domain: str):
+        self.feed, self.program, self.domain = feed, program, domain
+        self.refused: dict[int, str] = {}
+        self.held, self.is_known = feed.held(), False
+
+    def ask(self, questions: Callable[[Held, Script], Asked]) -> tuple[Asked, Answers]:
+        """Asks questions in one run: `questions` appends them by the names that are held.
+
+        Which lines of the feed are refused is known after the first run alone. If others are held than was thought, the
+        questions are made again.
+        """
+        while True:
+            before = self.held
+            try:
+                self.require_objects()
+                script = Script(self.domain, len(self.feed.lines) + 1)
+                asked = questions(self.held, script)
+            except Fault:
+                if self.is_known:
+                    raise
+                self.learn(self.replay(Script(self.domain, len(self.feed.lines) + 1)))
+                continue
+            answers = self.replay(script)
+            self.learn(answers)
+            if self.held.objects == before.objects:
+                return asked, answers
+
+    def replay(self, script: Script) -> Answers:
+        """Runs the program over the feed and the lines of a script."""
+        lines = self.feed.lines + [line.encode() for line in script.lines]
+        return answers_in(self.program.replay(lines), script.methods)
+
+    def learn(self, answers: Answers) -> None:
+        """Leaves out what the lines that are refused would hold."""
+        self.refused = {number: why for number, why in answers.refused.items() if number <= len(self.feed.lines)}
+        self.held, self.is_known = self.feed.held(self.refused), True
+
+    def require_objects(self) -> None:
+        """Raises a Fault where the feed holds nothing."""
+        if not self.held.objects:
+            raise Fault(Status.EMPTY, "the feed holds no object")

@@ -1,0 +1,113 @@
+"""`mesh record`: the lists of a cluster's objects, by kubectl."""
+
+import json
+import subprocess
+import sys
+import urllib.parse
+
+from mesh_front.faults import Fault, Status
+from mesh_front.feed import members
+from mesh_front.kinds import KINDS, Kind
+
+PAGE = 500
+
+
+class NotFound(Exception):
+    """The API server has nothing at a path."""
+
+
+class Cluster:
+    """A cluster that kubectl reaches."""
+
+    def __init__(self, options: list[str]):
+        self.options = options
+
+    def get(self, path: str, kind: Kind) -> bytes:
+        """What the API server answers at a path; the kind is named where kubectl fails."""
+        try:
+            run = subprocess.run(["kubectl", *self.options, "get", "--raw", path], stdin=subprocess.DEVNULL, capture_output=True)
+        except OSError as error:
+            raise Fault(Status.NO_TOOL, f"cannot run kubectl: {error.strerror}") from error
+        said = run.stderr.decode(errors="replace").strip()
+        if run.returncode and "(NotFound)" in said:
+            raise NotFound
+        if run.returncode:
+            raise Fault(Status.TOOL_FAILED, f"recording {kind.title} failed: {said or f'kubectl ended with status {run.returncode}'}")
+        return run.stdout
+
+    def value(self, path: str, kind: Kind) -> dict:
+        """The JSON object at a path."""
+        try:
+            found = json.loads(self.get(path, kind))
+        except ValueError:
+            found = None
+        if not isinstance(found, dict):
+            raise Fault(Status.TOOL_FAILED, f"recording {kind.title} failed: kubectl printed no JSON object for {path}")
+        return found
+
+
+def versions(cluster: Cluster, kind: Kind) -> list[str]:
+    """The versions of a kind's group to ask for: the recorded one, then what the cluster has, its preferred version first."""
+    if not kind.group:
+        return [kind.version]
+    group = cluster.value(f"/apis/{kind.group}", kind)
+    preferred = members(group, "preferredVersion").get("version")
+    others = [it.get("version") for it in group.get("versions") or [] if isinstance(it, dict)]
+    served = [version for version in (kind.version, preferred, *others) if version in others]
+    return list(dict.fromkeys(served))
+
+
+def collection(kind: Kind, version: str, namespace: str | None) -> str:
+    """The path of the objects of a kind, in a namespace or in all."""
+    root = f"/apis/{kind.group}/{version}" if kind.group else f"/api/{version}"
+    return f"{root}/namespaces/{namespace}/{kind.plural}" if namespace else f"{root}/{kind.plural}"
+
+
+def pages(cluster: Cluster, kind: Kind, path: str) -> list[dict]:
+    """The pages of a list."""
+    found, more = [], ""
+    while not found or more:
+        query = {"limit": PAGE} | ({"continue": more} if more else {})
+        page = cluster.value(f"{path}?{urllib.parse.urlencode(query)}", kind)
+        if page.get("kind") != f"{kind.name}List" or not isinstance(page.get("items"), (list, type(None))):
+            raise Fault(Status.TOOL_FAILED, f"recording {kind.title} failed: {path} has a {page.get('kind')}, not a {kind.name}List")
+        found.append(page)
+        more = members(page, "metadata").get("continue") or ""
+    return found
+
+
+def whole_list(found: list[dict]) -> dict:
+    """One list with the items of all."""
+    metadata = {key: value for key, value in members(found[0], "metadata").items() if key not in ("continue", "remainingItemCount")}
+    return {**found[0], "metadata": metadata, "items": [it for page in found for it in page.get("items") or []]}
+
+
+def list_of(cluster: Cluster, kind: Kind, namespaces: list[str]) -> dict | None:
+    """The list of a kind, or None where the cluster lacks the kind."""
+    try:
+        known = versions(cluster, kind)
+    except NotFound:
+        known = []
+    for version in known:
+        try:
+            paths = [collection(kind, version, namespace) for namespace in namespaces or [None]]
+            return whole_list([page for path in paths for page in pages(cluster, kind, path)])
+        except NotFound:
+            continue
+    if not kind.group:
+        raise Fault(Status.TOOL_FAILED, f"recording {kind.title} failed: the API server does not have the kind")
+    return None
+
+
+def run(cluster: Cluster, namespaces: list[str]) -> Status:
+    """Prints a list of each kind, one a line, once all are read."""
+    lists = []
+    for kind in KINDS:
+        found = list_of(cluster, kind, list(dict.fromkeys(namespaces)))
+        if found is None:
+            print(f"mesh: left out {kind.title}: the cluster does not have it in the group {kind.group}", file=sys.stderr)
+        else:
+            lists.append(found)
+    for found in lists:
+        print(json.dumps(found, separators=(",", ":")))
+    return Status.DONE

@@ -1,0 +1,197 @@
+"""The words of `tools/mesh`: its commands, their options, and what each runs."""
+
+import argparse
+import ipaddress
+import os
+import pathlib
+import sys
+from typing import Callable
+
+from mesh_front import ask, check, diff, endpoints, policy, record
+from mesh_front.faults import MEANINGS, Fault, Status
+from mesh_front.feed import Feed, read_bytes
+from mesh_front.manifests import deletion, read_changes
+from mesh_front.messages import ROOT, require_protoc
+from mesh_front.names import pod_name, pod_port, service_name
+from mesh_front.program import Program, Session
+
+CONFIGURATION = {
+    "cluster-domain": "NAME",
+    "trust-domain": "NAME",
+    "control-plane-namespace": "NAME",
+    "cluster-networks": "NETWORKS",
+    "default-policy": "POLICY",
+}
+DOMAIN = "cluster.local"
+ABOUT = "Answers questions about a recorded cluster by running linkerd_cli and decoding its messages."
+STATUSES = "exit status:\n" + "\n".join(f"  {int(status)}  {meaning}" for status, meaning in MEANINGS.items())
+
+
+class Parser(argparse.ArgumentParser):
+    """A parser that names a wrong word in one line."""
+
+    def error(self, message: str):
+        raise Fault(Status.USAGE, f"{message}; {self.prog} --help tells more")
+
+
+def of_form(read: Callable, form: str) -> Callable:
+    """A type of argparse that names the form of a word."""
+
+    def value(word: str):
+        try:
+            return read(word)
+        except ValueError as error:
+            raise argparse.ArgumentTypeError(f"{word!r} is not {form}") from error
+
+    return value
+
+
+def header(word: str) -> list[str]:
+    """A header of a word `NAME=VALUE`."""
+    name, equals, value = word.partition("=")
+    if not equals or not name:
+        raise ValueError
+    return [name, value]
+
+
+def common(wants_feed: bool) -> argparse.ArgumentParser:
+    """The options that the commands over a feed share."""
+    options = argparse.ArgumentParser(add_help=False)
+    if wants_feed:
+        options.add_argument("--feed", type=pathlib.Path, default=pathlib.Path("-"), metavar="FILE", help="the feed (default: standard input)")
+        options.add_argument("--program", type=pathlib.Path, default=ROOT / "linkerd_cli", metavar="FILE", help="the program (default: ./linkerd_cli)")
+        options.add_argument("-o", "--output", choices=["table", "json"], default="table", help="how the answer is printed (default: table)")
+        settings = options.add_argument_group("configuration of the recorded control plane, as docs/COMMANDS.md has it")
+        for name, value in CONFIGURATION.items():
+            settings.add_argument(f"--{name}", metavar=value)
+    return options
+
+
+def add_command(commands, name: str, about: str, run: Callable, wants_feed: bool = True) -> argparse.ArgumentParser:
+    """Adds a command that `run` runs."""
+    formatter = argparse.RawDescriptionHelpFormatter
+    parser = commands.add_parser(
+        name, help=about, description=about, epilog=STATUSES, parents=[common(wants_feed)], formatter_class=formatter, allow_abbrev=False
+    )
+    parser.set_defaults(run=run)
+    return parser
+
+
+def add_ask(commands) -> None:
+    """Adds the command `ask`."""
+    parser = add_command(commands, "ask", "Tells whether a request to a port of a Pod is admitted, and why.", run_ask)
+    parser.add_argument("target", type=of_form(pod_port, "NS/POD:PORT"), metavar="NS/POD:PORT")
+    client = parser.add_argument_group("the client: a Pod of the feed, or an address")
+    client.add_argument("--from", dest="pod", type=of_form(pod_name, "NS/POD"), metavar="NS/POD", help="a Pod, with its address and identity")
+    client.add_argument("--client", type=of_form(ipaddress.ip_address, "an address"), metavar="IP", help="an address")
+    client.add_argument("--identity", metavar="ID", help="the identity of the client at the address")
+    client.add_argument("--tls", action="store_true", help="the client uses TLS without an identity")
+    request = parser.add_argument_group("the request")
+    request.add_argument("--method", default="GET", help="the method (default: GET)")
+    request.add_argument("--path", default="/", help="the path (default: /)")
+    request.add_argument("--host", help="the host")
+    request.add_argument("--query", help="the query without the question mark")
+    request.add_argument("--header", action="append", type=of_form(header, "NAME=VALUE"), metavar="NAME=VALUE", help="a header; may be repeated")
+    request.add_argument("--no-http", action="store_true", help="the connection is not HTTP")
+
+
+def parser() -> Parser:
+    """The parser of all words."""
+    words = Parser(prog="mesh", description=ABOUT, epilog=STATUSES, formatter_class=argparse.RawDescriptionHelpFormatter, allow_abbrev=False)
+    commands = words.add_subparsers(dest="command", required=True, metavar="COMMAND", parser_class=Parser)
+    recording = add_command(commands, "record", "Prints a feed of the cluster that kubectl reaches: a list of each kind.", run_record, False)
+    recording.add_argument("-n", "--namespace", action="append", default=[], metavar="NS", help="this namespace alone; may be repeated")
+    recording.add_argument("--context", metavar="NAME", help="kubectl's context")
+    shown = add_command(commands, "endpoints", "Shows the endpoints of a Service.", run_endpoints)
+    shown.add_argument("service", type=of_form(service_name, "SERVICE[.NS][:PORT]"), metavar="SERVICE[.NS][:PORT]")
+    inbound = add_command(commands, "policy", "Shows who may connect to a port of a Pod.", run_policy)
+    inbound.add_argument("target", type=of_form(pod_port, "NS/POD:PORT"), metavar="NS/POD:PORT")
+    add_ask(commands)
+    compared = add_command(commands, "diff", "Shows which views a change of objects changes.", run_diff)
+    compared.add_argument("--apply", action="append", type=pathlib.Path, default=[], metavar="FILE", help="objects in YAML or JSON; each replaces the object of its name")
+    compared.add_argument("--delete", action="append", type=of_form(deletion, "KIND/NS/NAME"), default=[], metavar="KIND/NS/NAME", help="an object to remove")
+    add_command(commands, "check", "Shows what in a feed refers to nothing or is refused.", run_check)
+    return words
+
+
+def session(words: argparse.Namespace) -> Session:
+    """The feed and the program that the words name."""
+    require_protoc()
+    given = {name: getattr(words, name.replace("-", "_")) for name in CONFIGURATION}
+    options = [f"--{name}={value}" for name, value in given.items() if value is not None]
+    return Session(Feed(read_bytes(words.feed)), Program(words.program, options), words.cluster_domain or DOMAIN)
+
+
+def answered(words: argparse.Namespace, run: Callable[[Session], Status]) -> Status:
+    """Runs a question over the feed; where lines of the feed are refused, it is said and the status tells it."""
+    asked = session(words)
+    try:
+        status = run(asked)
+    finally:
+        if asked.refused:
+            number, why = next(iter(asked.refused.items()))
+            lines = "1 line is" if len(asked.refused) == 1 else f"{len(asked.refused)} lines are"
+            print(f"mesh: {lines} refused; the first is line {number}: {why}", file=sys.stderr)
+    return Status.REFUSED if asked.refused else status
+
+
+def run_record(words: argparse.Namespace) -> Status:
+    """Runs `record`."""
+    return record.run(record.Cluster(["--context", words.context] if words.context else []), words.namespace)
+
+
+def run_endpoints(words: argparse.Namespace) -> Status:
+    """Runs `endpoints`."""
+    return answered(words, lambda asked: endpoints.run(asked, words.service, words.output == "json"))
+
+
+def run_policy(words: argparse.Namespace) -> Status:
+    """Runs `policy`."""
+    return answered(words, lambda asked: policy.run(asked, words.target, words.output == "json"))
+
+
+def ask_words(words: argparse.Namespace) -> ask.Words:
+    """What the words of `ask` ask."""
+    if bool(words.pod) == bool(words.client):
+        raise Fault(Status.USAGE, "give either --from or --client")
+    if words.pod and (words.identity or words.tls):
+        raise Fault(Status.USAGE, "--identity and --tls go with --client; with --from the identity is that of the Pod")
+    http = {"method": words.method, "path": words.path, "host": words.host, "query": words.query, "headers": words.header}
+    given = {name: value for name, value in http.items() if value is not None}
+    client = ask.Client(str(words.client), words.identity, words.tls) if words.client else None
+    return ask.Words(words.target, words.pod, client, None if words.no_http else given)
+
+
+def run_ask(words: argparse.Namespace) -> Status:
+    """Runs `ask`."""
+    question = ask_words(words)
+    return answered(words, lambda asked: ask.run(asked, question, words.output == "json"))
+
+
+def run_diff(words: argparse.Namespace) -> Status:
+    """Runs `diff`."""
+    changes = [change for path in words.apply for change in read_changes(path)] + words.delete
+    if not changes:
+        raise Fault(Status.USAGE, "give --apply FILE or --delete KIND/NS/NAME")
+    return answered(words, lambda asked: diff.run(asked, changes, words.output == "json"))
+
+
+def run_check(words: argparse.Namespace) -> Status:
+    """Runs `check`. Refused lines are among the problems, and so the status is that of problems."""
+    return check.run(session(words), words.output == "json")
+
+
+def main(arguments: list[str]) -> int:
+    """Runs the command that the words give, and answers the exit status."""
+    try:
+        words = parser().parse_args(arguments)
+        status = words.run(words)
+        sys.stdout.flush()
+        return int(status)
+    except Fault as fault:
+        print(f"mesh: {fault}", file=sys.stderr)
+        return int(fault.status)
+    except BrokenPipeError:
+        # What is left in the buffer has no reader: at exit it goes nowhere.
+        os.dup2(os.open(os.devnull, os.O_WRONLY), sys.stdout.fileno())
+        return 141
