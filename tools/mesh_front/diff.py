@@ -142,13 +142,11 @@ def require_changes(changes: list[Change], asked: Asked, answers: Answers) -> No
 
 def lines(found: list[Difference], asked: Asked) -> list[str]:
     """The differences as people read them."""
-    if not found:
-        return [f"none of {len(asked.questions)} views changes"]
     shown = []
     for it in found:
         changed = list(difflib.unified_diff(it.before, it.after, lineterm="", n=0))[2:]
         shown += [it.view, *(f"{row[0]} {row[1:]}" for row in changed if not row.startswith("@@")), ""]
-    return [*shown, f"{len(found)} of {len(asked.questions)} views change"]
+    return [*shown, f"views that change: {len(found)} of {len(asked.questions)}"]
 
 
 def run(session: Session, changes: list[Change], as_json: bool) -> Status:

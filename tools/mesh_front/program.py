@@ -38,7 +38,6 @@ class Script:
     first: int
     lines: list[str] = field(default_factory=list)
     methods: dict[int, str] = field(default_factory=dict)
-    places: dict[int, int] = field(default_factory=dict)
 
     def add(self, value: dict) -> int:
         """Appends a line, and answers its number in the feed."""
@@ -59,7 +58,7 @@ class Script:
         """Asks for the view of a query over what is held here, and answers the id of the question."""
         number = len(self.methods) + 1
         self.methods[number] = query.method
-        self.places[number] = self.add({"control": "subscribe", "id": number, "query": query.members(self.domain)})
+        self.add({"control": "subscribe", "id": number, "query": query.members(self.domain)})
         self.add({"control": "drain", "id": number})
         self.add({"control": "cancel", "id": number})
         return number
@@ -75,7 +74,6 @@ class Answers:
 
     refused: dict[int, str]
     views: dict[int, list[Message]]
-    texts: dict[int, list[str]]
     verdicts: dict[int, str]
 
     def view(self, number: int) -> list[Message]:
@@ -120,7 +118,7 @@ class Program:
 
 def answers_in(output: list[str], methods: dict[int, str]) -> Answers:
     """What the lines that `replay` wrote answer to views of these methods."""
-    found = Answers({}, {}, {}, {})
+    found = Answers({}, {}, {})
     frames: dict[str, list[tuple[int, bytes]]] = {method: [] for method in methods.values()}
     for line in output:
         word, number, *rest = line.split(" ", 2)
@@ -135,7 +133,6 @@ def answers_in(output: list[str], methods: dict[int, str]) -> Answers:
             if rows is None:
                 raise Fault(Status.TOOL_FAILED, f"protoc cannot read a message that answers {method}")
             found.views.setdefault(number, []).append(tree(rows))
-            found.texts.setdefault(number, []).extend(rows)
     return found
 
 

@@ -10,7 +10,11 @@ import re
 from dataclasses import dataclass
 
 KEY = re.compile(r"""("(?:[^"\\]|\\.)*"|'(?:[^']|'')*'|[^\s'"#&*!|>%@`\[\]{},?:-][^#]*?|-[^\s#][^#]*?)\s*:(?:\s+|$)""")
-UNCLEAR = re.compile(r"(?i)(y|yes|n|no|on|off|[-+]?0[0-9_o]+|[-+]?0[xb][0-9a-f_]+|[-+]?[0-9][0-9_]*_[0-9_]*|[-+]?[0-9]+(:[0-9]+)+|[-+]?\.(inf|nan)|<<|=)")
+UNCLEAR = re.compile(
+    r"(?i)y|yes|n|no|on|off|<<|=|[-?]|[-?]\s.*"  # words that are true or false in YAML 1.1, and marks of blocks
+    r"|[-+]?0[0-9_o]+|[-+]?0[xb][0-9a-f_]+|[-+]?[0-9.][0-9_.]*_[0-9_.]*|[-+]?[0-9]+(:[0-9]+)+"  # octal, hexadecimal, underscores, base 60
+    r"|[-+]?\.(inf|nan)|[-+]?[0-9]*\.0*|[-+]?[0-9]*\.?[0-9]*e[-+]?[0-9]+"  # numbers that JSON writes in another way
+)
 WORDS = {"": None, "~": None, "null": None, "Null": None, "NULL": None}
 WORDS |= {"true": True, "True": True, "TRUE": True, "false": False, "False": False, "FALSE": False}
 
@@ -55,11 +59,11 @@ class Reader:
         """The next line that has something."""
         while self.at < len(self.lines):
             number, line = self.lines[self.at]
+            if "\t" in line:
+                raise Unreadable(number, "a tab, which is read in a literal block alone")
             text = without_comment(line)
             if text.strip():
                 indent = len(text) - len(text.lstrip(" "))
-                if text[indent] == "\t":
-                    raise Unreadable(number, "a tab before the text")
                 return Row(number, indent, text[indent:])
             self.at += 1
         return None
@@ -216,7 +220,7 @@ def scalar(text: str, number: int):
         raise Unreadable(number, f"{text} is not read here; put it into quotes if it is a string")
     if re.fullmatch(r"[-+]?[0-9]+", text):
         return int(text)
-    return float(text) if re.fullmatch(r"[-+]?([0-9]+\.[0-9]*|\.[0-9]+|[0-9]+(\.[0-9]*)?[eE][-+]?[0-9]+)", text) else text
+    return float(text) if re.fullmatch(r"[-+]?([0-9]+\.[0-9]*|\.[0-9]+)", text) else text
 
 
 def double_quoted(text: str, number: int) -> str:

@@ -1,0 +1,182 @@
+"""`mesh ask`."""
+
+from mesh_tests.support import IDENTITIES, Case, added, named, pod, policy, reference, server
+
+OPERATOR = f"cli.ops.{IDENTITIES}"
+GATEWAY = f"gateway.edge.{IDENTITIES}"
+
+
+class Ask(Case):
+    """What comes of a request, and why."""
+
+    def ask(self, feed, *words):
+        """Asks over a feed."""
+        return self.mesh("ask", feed, *words)
+
+    def test_the_identity_is_missing(self):
+        """10.0.0.5 is in the network of `from-gateway` and in that of `operators-only`, which is everywhere."""
+        self.require(self.ask("policy.jsonl", "app/web-1:8080", "--client", "10.0.0.5", "--path", "/admin"), 1, f"""
+            VERDICT  denied by the policy deny of the Server web: no authorization admits the client
+            REQUEST  GET /admin to app/web-1:8080
+            CLIENT   10.0.0.5, no identity
+            SERVER   web, protocol HTTP/1, policy deny
+            MESHED   yes
+
+            AUTHORIZATION                        FOR               NETWORK   CLIENT
+            AuthorizationPolicy/from-gateway     Server/web        admits    needs {GATEWAY}
+            AuthorizationPolicy/operators-only   HTTPRoute/admin   admits    needs *.ops.{IDENTITIES}
+        """)
+
+    def test_the_network_is_wrong(self):
+        """10.9.0.5 is in the exception of the network, and the gateway is no operator."""
+        run = self.ask("policy.jsonl", "app/web-1:8080", "--client", "10.9.0.5", "--identity", GATEWAY, "--path", "/admin/x")
+        self.require(run, 1, f"""
+            VERDICT  denied by the policy deny of the Server web: no authorization admits the client
+            REQUEST  GET /admin/x to app/web-1:8080
+            CLIENT   10.9.0.5, {GATEWAY}
+            SERVER   web, protocol HTTP/1, policy deny
+            MESHED   yes
+
+            AUTHORIZATION                        FOR               NETWORK                               CLIENT
+            AuthorizationPolicy/from-gateway     Server/web        needs 10.0.0.0/8 except 10.9.0.0/16   admits
+            AuthorizationPolicy/operators-only   HTTPRoute/admin   admits                                needs *.ops.{IDENTITIES}
+        """)
+
+    def test_an_allowed_request(self):
+        """An operator is admitted from any address; the gateway's policy would need both parts."""
+        run = self.ask("policy.jsonl", "app/web-1:8080", "--client", "10.9.0.5", "--identity", OPERATOR, "--path", "/admin")
+        self.require(run, 0, f"""
+            VERDICT  allowed by AuthorizationPolicy app/operators-only
+            REQUEST  GET /admin to app/web-1:8080
+            CLIENT   10.9.0.5, {OPERATOR}
+            SERVER   web, protocol HTTP/1, policy deny
+            MESHED   yes
+
+            AUTHORIZATION                        FOR               NETWORK                               CLIENT
+            AuthorizationPolicy/from-gateway     Server/web        needs 10.0.0.0/8 except 10.9.0.0/16   needs {GATEWAY}
+            AuthorizationPolicy/operators-only   HTTPRoute/admin   admits                                admits
+        """)
+
+    def test_no_route_matches(self):
+        """The only route is for `/admin`."""
+        self.require(self.ask("policy.jsonl", "app/web-1:8080", "--client", "10.0.0.5"), 1, """
+            VERDICT  not found: the Server web has routes, and none matches the request
+            REQUEST  GET / to app/web-1:8080
+            CLIENT   10.0.0.5, no identity
+            SERVER   web, protocol HTTP/1, policy deny
+            MESHED   yes
+
+            ROUTE             GROUP               HOSTNAMES   MATCHES
+            HTTPRoute/admin   policy.linkerd.io   *           prefix /admin
+        """)
+
+    def test_a_connection_that_is_not_http(self):
+        """Routes do not count, and so neither does the policy of a route."""
+        run = self.ask("policy.jsonl", "app/web-1:8080", "--client", "10.0.0.5", "--identity", OPERATOR, "--no-http")
+        self.require(run, 1, f"""
+            VERDICT  denied by the policy deny of the Server web: no authorization admits the client
+            REQUEST  a connection to app/web-1:8080, not HTTP
+            CLIENT   10.0.0.5, {OPERATOR}
+            SERVER   web, protocol HTTP/1, policy deny
+            MESHED   yes
+
+            AUTHORIZATION                        FOR                            NETWORK   CLIENT
+            AuthorizationPolicy/from-gateway     Server/web                     admits    needs {GATEWAY}
+            AuthorizationPolicy/operators-only   HTTPRoute/admin, not matched   -         -
+        """)
+
+    def test_without_a_server(self):
+        """The Pod asks itself: its address and its identity are those of the feed."""
+        self.require(self.ask("policy.jsonl", "app/web-1:9090", "--from", "app/web-1"), 0, f"""
+            VERDICT  allowed by the default policy all-unauthenticated: no Server selects this port
+            REQUEST  GET / to app/web-1:9090
+            CLIENT   10.1.2.3, web.app.{IDENTITIES}
+            SERVER   none, default policy all-unauthenticated
+            MESHED   yes
+        """)
+
+    def test_a_reference_is_missing(self):
+        """`from-web` refers to an authentication that the feed lacks. The client has no proxy, and so no identity."""
+        self.require(self.ask("mistakes.jsonl", "shop/cart-1:8080", "--from", "shop/web-1"), 7, f"""
+            VERDICT  denied by the policy deny of the Server cart: no authorization admits the client
+            REQUEST  GET / to shop/cart-1:8080
+            CLIENT   10.1.0.2, no identity
+            SERVER   cart, protocol HTTP/1, policy deny
+            MESHED   yes
+
+            AUTHORIZATION                  FOR           NETWORK   CLIENT
+            AuthorizationPolicy/shoppers   Server/cart   admits    needs *.shop.{IDENTITIES}
+
+            not counted: AuthorizationPolicy shop/from-web: MeshTLSAuthentication shop/web-clients is not in the feed
+        """, "mesh: 1 line is refused; the first is line 6: BadValue object.spec.proxyProtocol Choice\n")
+
+    def test_a_pod_without_a_proxy(self):
+        """It is decided as if the Pod had one, and said that it has none."""
+        run = self.ask("mistakes.jsonl", "shop/web-1:9090", "--client", "10.0.0.1")
+        self.assertIn("MESHED   no: the Pod has no proxy that would apply this\n", run.output)
+
+    def test_an_authorization_that_admits_nobody(self):
+        """A NetworkAuthentication without networks admits from nowhere, a MeshTLSAuthentication without identities nobody."""
+        feed = added(
+            pod("a-1", "a", "10.0.0.1", 80),
+            server("a", "a", 80),
+            named("NetworkAuthentication", "none"),
+            named("MeshTLSAuthentication", "none"),
+            policy("from-nowhere", reference("Server", "a"), reference("NetworkAuthentication", "none")),
+            policy("of-nobody", reference("Server", "a"), reference("MeshTLSAuthentication", "none")),
+        )
+        self.require(self.ask(feed, "shop/a-1:80", "--client", "10.0.0.9"), 1, """
+            VERDICT  denied by the policy deny of the Server a: no authorization admits the client
+            REQUEST  GET / to shop/a-1:80
+            CLIENT   10.0.0.9, no identity
+            SERVER   a, protocol unknown, policy deny
+            MESHED   yes
+
+            AUTHORIZATION                      FOR        NETWORK          CLIENT
+            AuthorizationPolicy/from-nowhere   Server/a   admits nowhere   -
+            AuthorizationPolicy/of-nobody      Server/a   -                admits nobody
+        """)
+
+    def test_tls_without_an_identity(self):
+        """`unauthenticatedTLS` admits a client with TLS; without TLS that part is missing."""
+        spec = {"server": {"name": "a"}, "client": {"meshTLS": {"unauthenticatedTLS": True}}}
+        feed = added(pod("a-1", "a", "10.0.0.1", 80), server("a", "a", 80), named("ServerAuthorization", "tls", spec))
+        self.assertEqual(0, self.ask(feed, "shop/a-1:80", "--client", "10.0.0.9", "--tls").status)
+        run = self.ask(feed, "shop/a-1:80", "--client", "10.0.0.9")
+        self.assertIn("ServerAuthorization/tls   Server/a   admits    needs any client with TLS\n", run.output)
+
+    def test_host_header_query_and_method(self):
+        """The route matches a request with all parts, and none without one of them."""
+        match = {"method": "PUT", "headers": [{"name": "x-a", "value": "1"}], "queryParams": [{"name": "q", "value": "2"}]}
+        spec = {"parentRefs": [reference("Server", "a")], "hostnames": ["a.example"], "rules": [{"matches": [match]}]}
+        opened = server("a", "a", 80, accessPolicy="all-unauthenticated", proxyProtocol="HTTP/1")
+        feed = added(pod("a-1", "a", "10.0.0.1", 80), opened, named("HTTPRoute", "r", spec))
+        parts = ["--method=PUT", "--header=x-a=1", "--query=q=2", "--host=a.example"]
+        run = self.ask(feed, "shop/a-1:80", "--client=10.0.0.9", *parts)
+        self.assertEqual(0, run.status)
+        self.assertIn("REQUEST  PUT /?q=2 of the host a.example to shop/a-1:80\n", run.output)
+        for part in parts:
+            left = [it for it in parts if it != part]
+            self.assertEqual(1, self.ask(feed, "shop/a-1:80", "--client=10.0.0.9", *left).status, part)
+
+    def test_a_regular_expression_that_is_refused(self):
+        """The simulation is refused, and there is no verdict."""
+        match = {"path": {"type": "RegularExpression", "value": "("}}
+        route = named("HTTPRoute", "r", {"parentRefs": [reference("Server", "a")], "rules": [{"matches": [match]}]})
+        feed = added(pod("a-1", "a", "10.0.0.1", 80), server("a", "a", 80, proxyProtocol="HTTP/1"), route)
+        run = self.ask(feed, "shop/a-1:80", "--client", "10.0.0.9")
+        self.require(run, 7, "", "mesh: the simulation is refused: Pattern shop/r 0 0\n")
+
+    def test_json(self):
+        """The verdict as the program writes it, and which part admits."""
+        words = ["app/web-1:8080", "--client", "10.9.0.5", "--path", "/admin", "-o", "json"]
+        value = self.ask("policy.jsonl", *words).json()
+        self.assertEqual("denied default deny", value["verdict"])
+        parts = [(it["authorization"]["name"], it["network_admits"], it["client_admits"]) for it in value["reasons"]]
+        self.assertEqual([("from-gateway", False, False), ("operators-only", True, False)], parts)
+
+    def test_wrong_words(self):
+        """Who the client is must be said, in one way."""
+        self.require(self.ask("policy.jsonl", "app/web-1:8080"), 2, "", "mesh: give either --from or --client\n")
+        run = self.ask("policy.jsonl", "app/web-1:8080", "--from", "app/web-1", "--client", "10.0.0.1")
+        self.require(run, 2, "", "mesh: give either --from or --client\n")

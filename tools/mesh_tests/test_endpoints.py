@@ -1,0 +1,89 @@
+"""`mesh endpoints`."""
+
+from mesh_tests.support import EXAMPLES, Case
+
+
+class Endpoints(Case):
+    """Which endpoints a Service has."""
+
+    def test_each_port_of_a_service_whose_pods_are_not_held(self):
+        """The only slice of `api` has one address, at 8080 for the port `http` and at 9990 for `admin`. No Pod is held."""
+        self.require(self.mesh("endpoints", "first.jsonl", "api.gamma"), 0, """
+            SERVICE PORT   ADDRESS      PORT   POD   ACCOUNT   MESHED   HINT
+            80             10.42.0.20   8080   -     -         -        -
+            9990           10.42.0.20   9990   -     -         -        -
+        """)
+
+    def test_a_meshed_pod_and_one_without_a_proxy(self):
+        """After the seventh line both Pods are behind the Service; `web-2` has no label of a control plane."""
+        feed = b"\n".join((EXAMPLES / "changes.jsonl").read_bytes().split(b"\n")[:7])
+        self.require(self.mesh("endpoints", feed, "web.app:80"), 0, """
+            SERVICE PORT   ADDRESS    PORT   POD     ACCOUNT   MESHED   HINT
+            80             10.1.2.3   8080   web-1   web       yes      HTTP/2, tunnel 4143
+            80             10.1.2.4   8080   web-2   web       no       -
+        """)
+
+    def test_json(self):
+        """The identity is in JSON alone. The control plane is that of the options."""
+        words = ["--cluster-domain", "k8s.example", "--control-plane-namespace=linkerd-prod", "-o", "json"]
+        row = {
+            "address": "10.42.0.3",
+            "port": 8080,
+            "weight": 10000,
+            "pod": "web-1",
+            "account": "web",
+            "identity": "web.app.serviceaccount.identity.linkerd-prod.cluster.local",
+            "http2": True,
+            "tunnel_port": 4143,
+        }
+        run = self.mesh("endpoints", "configured.jsonl", "web.app", *words)
+        self.assertEqual([{"service_port": 80, "exists": True, "endpoints": [row]}], run.json())
+        self.assertEqual(0, run.status)
+
+    def test_a_pod_of_another_control_plane_is_not_meshed(self):
+        """Without options the control plane is `linkerd`, and the Pod is labelled for `linkerd-prod`."""
+        self.require(self.mesh("endpoints", "configured.jsonl", "web.app"), 0, """
+            SERVICE PORT   ADDRESS     PORT   POD     ACCOUNT   MESHED   HINT
+            80             10.42.0.3   8080   web-1   web       no       -
+        """)
+
+    def test_what_kubernetes_own_controller_found(self):
+        """The ready addresses that examples/README.md has from the Endpoints objects."""
+        wanted = {
+            "web": [41, 53, 88, 95, 109, 113],
+            "api": [26, 35, 47, 64, 72, 86, 99, 103, 116],
+            "db": [82, 107],
+            "cart": [38, 73, 85, 110, 115],
+        }
+        for name, ends in wanted.items():
+            run = self.mesh("endpoints", "recorded.jsonl", f"{name}.gamma:80", "-o", "json")
+            [port] = run.json()
+            found = [(it["address"], it["port"]) for it in port["endpoints"]]
+            self.assertEqual([(f"10.42.0.{end}", 8080) for end in ends], found)
+
+    def test_an_external_name(self):
+        """An ExternalName is held and counts as not existing."""
+        run = self.mesh("endpoints", "recorded.jsonl", "ext.gamma")
+        self.require(run, 0, "ext.gamma:80 counts as not existing, as an ExternalName does\n")
+
+    def test_no_endpoints(self):
+        """The Service of this feed has no slice."""
+        self.require(self.mesh("endpoints", "policy.jsonl", "web.app"), 0, "web.app:80 exists and has no endpoints\n")
+
+    def test_unknown_names(self):
+        """An unknown Service is told with the nearest names, an unknown port with those that there are."""
+        run = self.mesh("endpoints", "recorded.jsonl", "wbe.gamma")
+        self.require(run, 3, "", "mesh: there is no Service wbe.gamma in the feed; the nearest: web.gamma, db.gamma, ext.gamma\n")
+        run = self.mesh("endpoints", "first.jsonl", "api.gamma:81")
+        self.require(run, 3, "", "mesh: the Service api.gamma has no port 81, but 80, 9990\n")
+
+    def test_a_removed_service(self):
+        """The last line of the feed removes the only Service."""
+        self.require(self.mesh("endpoints", "changes.jsonl", "web.app"), 3, "", "mesh: there is no Service web.app in the feed\n")
+
+    def test_refused_lines(self):
+        """Line 2 is refused and so the Service is that of line 1. The answer is printed, and the status says that lines are refused."""
+        self.require(self.mesh("endpoints", "refused.jsonl", "web.app"), 7, """
+            SERVICE PORT   ADDRESS    PORT   POD   ACCOUNT   MESHED   HINT
+            80             10.1.2.3   8080   -     -         -        -
+        """, "mesh: 3 lines are refused; the first is line 2: BadValue object.spec.ports[0].port Range\n")

@@ -1,0 +1,96 @@
+"""`mesh record`, with a kubectl that answers from files."""
+
+import json
+import os
+from unittest import mock
+
+from mesh_tests.support import Case
+
+KUBECTL = """#!/usr/bin/env python3
+import json, pathlib, sys
+answers = json.loads(pathlib.Path(__file__).with_name("answers.json").read_text())
+*options, get, raw, path = sys.argv[1:]
+answer = answers.get(" ".join([*options, path]))
+if answer is None:
+    sys.exit('Error from server (NotFound): the server could not find the requested resource')
+if isinstance(answer, str):
+    sys.exit(answer)
+print(json.dumps(answer))
+"""
+
+
+def listed(kind: str, *names: str, more: str = "") -> dict:
+    """A page of a list."""
+    metadata = {"resourceVersion": "7"} | ({"continue": more, "remainingItemCount": 1} if more else {})
+    return {"kind": f"{kind}List", "apiVersion": "v1", "metadata": metadata, "items": [{"metadata": {"name": it}} for it in names]}
+
+
+class Record(Case):
+    """A recording of the cluster that kubectl reaches."""
+
+    def record(self, answers: dict, *words):
+        """Records a cluster whose API server has these answers."""
+        path = self.file("kubectl", KUBECTL.encode())
+        path.chmod(0o755)
+        self.file("answers.json", json.dumps(answers).encode())
+        with mock.patch.dict(os.environ, {"PATH": f"{self.room}:{os.environ['PATH']}"}):
+            return self.run_mesh("record", *words)
+
+    def left_out(self, *names: str) -> str:
+        """What is said of kinds that the cluster lacks."""
+        return "".join(f"mesh: left out {kind}: the cluster does not have it in the group {group}\n" for kind, group in map(str.split, names))
+
+    def policies(self) -> list[str]:
+        """The kinds of Linkerd and of the Gateway API."""
+        kinds = ["Server", "ServerAuthorization", "AuthorizationPolicy", "MeshTLSAuthentication", "NetworkAuthentication"]
+        routes = [f"HTTPRoute.{group} {group}" for group in ("policy.linkerd.io", "gateway.networking.k8s.io")]
+        return ["ServiceProfile linkerd.io", *(f"{kind} policy.linkerd.io" for kind in kinds), *routes]
+
+    def test_pages_and_kinds_that_the_cluster_lacks(self):
+        """The Services come in two pages; there is no Linkerd, and EndpointSlice has an older version."""
+        groups = {"versions": [{"version": "v1beta1"}], "preferredVersion": {"version": "v1beta1"}}
+        run = self.record({
+            "/api/v1/services?limit=500": listed("Service", "a", more="x y"),
+            "/api/v1/services?limit=500&continue=x+y": listed("Service", "b"),
+            "/api/v1/pods?limit=500": listed("Pod"),
+            "/apis/discovery.k8s.io": groups,
+            "/apis/discovery.k8s.io/v1beta1/endpointslices?limit=500": listed("EndpointSlice", "c"),
+        })
+        wanted = [listed("Service", "a", "b"), listed("Pod"), listed("EndpointSlice", "c")]
+        self.assertEqual(wanted, list(map(json.loads, run.output.splitlines())))
+        self.assertEqual((0, self.left_out(*self.policies())), (run.status, run.said))
+
+    def test_single_namespaces(self):
+        """Two namespaces make one list of a kind, also where one is named twice. The context goes to kubectl."""
+        run = self.record({
+            "--context c /api/v1/namespaces/x/services?limit=500": listed("Service", "a"),
+            "--context c /api/v1/namespaces/y/services?limit=500": listed("Service", "b"),
+            "--context c /api/v1/namespaces/x/pods?limit=500": listed("Pod", "p"),
+            "--context c /api/v1/namespaces/y/pods?limit=500": listed("Pod"),
+        }, "-n", "x", "-n", "y", "-n", "x", "--context", "c")
+        wanted = [listed("Service", "a", "b"), listed("Pod", "p")]
+        self.assertEqual(wanted, list(map(json.loads, run.output.splitlines())))
+        self.assertEqual((0, self.left_out("EndpointSlice discovery.k8s.io", *self.policies())), (run.status, run.said))
+
+    def test_the_first_failure_ends_it(self):
+        """Nothing is printed, and the kind is named."""
+        run = self.record({
+            "/api/v1/services?limit=500": listed("Service", "a"),
+            "/api/v1/pods?limit=500": "Error from server (Forbidden): pods is forbidden",
+        })
+        self.require(run, 6, "", "mesh: recording Pod failed: Error from server (Forbidden): pods is forbidden\n")
+
+    def test_an_answer_of_another_kind(self):
+        """What is no list of the kind is not recorded."""
+        run = self.record({"/api/v1/services?limit=500": {"kind": "Status"}})
+        self.require(run, 6, "", "mesh: recording Service failed: /api/v1/services has a Status, not a ServiceList\n")
+
+    def test_a_core_kind_that_is_not_found(self):
+        """Each cluster has Services, so that this is a failure."""
+        self.require(self.record({}), 6, "", "mesh: recording Service failed: the API server does not have the kind\n")
+
+    def test_without_kubectl(self):
+        """One sentence."""
+        with mock.patch.dict(os.environ, {"PATH": str(self.room)}):
+            run = self.run_mesh("record")
+        self.require(run, 5, "", "mesh: cannot run kubectl: No such file or directory\n")
