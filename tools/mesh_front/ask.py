@@ -174,7 +174,8 @@ def ask_trial(script: Script, words: Words, client: Client, one: views.Authoriza
 
 def not_shown(held: Held, first: First, namespace: str) -> list[Key]:
     """The policies that name the Server or a route of it and are not in the view."""
-    named = [*probes.named_policies(held, namespace, "Server", first.view.server), *probes.named_policies(held, namespace, "Namespace", namespace)]
+    named = probes.named_policies(held, namespace, "Server", first.view.server)
+    named += probes.named_policies(held, namespace, "Namespace", namespace)
     for it in first.view.routes:
         named += probes.named_policies(held, namespace, "HTTPRoute", it.name, it.group)
     shown = {(it.kind, it.name) for it in first.view.authorizations}
@@ -258,11 +259,16 @@ def reason_cells(it: Reason, view: views.Inbound) -> list[str]:
 
 def lines(answer: Answer) -> list[str]:
     """The answer as people read it."""
-    meshed = "yes" if answer.meshed else "no: the Pod has no proxy that would apply this"
     view = answer.view
-    server = f"{view.server}, protocol {view.protocol}, policy {view.policy}" if view.server else f"none, default policy {view.policy}"
-    pairs = [("VERDICT", verdict_text(answer)), ("REQUEST", answer.request), ("CLIENT", str(answer.client)), ("SERVER", server), ("MESHED", meshed)]
-    shown = [f"{name:<9}{text}" for name, text in pairs]
+    server = f"{view.server}, protocol {view.protocol}, policy" if view.server else "none, default policy"
+    pairs = {
+        "VERDICT": verdict_text(answer),
+        "REQUEST": answer.request,
+        "CLIENT": answer.client,
+        "SERVER": f"{server} {view.policy}",
+        "MESHED": "yes" if answer.meshed else "no: the Pod has no proxy of this control plane to apply this",
+    }
+    shown = [f"{name:<9}{text}" for name, text in pairs.items()]
     if answer.reasons:
         rows = [reason_cells(it, view) for it in answer.reasons]
         shown += ["", *table(["AUTHORIZATION", "FOR", "NETWORK", "CLIENT"], rows)]

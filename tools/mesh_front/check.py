@@ -151,7 +151,8 @@ def target_problem(held: Held, key: Key) -> str | None:
     elif target.get("kind") == "Namespace":
         named = [it.name for it in held.of(SERVER, key.namespace)]
         return None if not named else "it applies to no Server"
-    return f"its target {target.get('kind')} {target.get('name')} of the group {target.get('group') or 'core'} is none that it can apply to"
+    name = f"{target.get('kind')} {target.get('name')} of the group {target.get('group') or 'core'}"
+    return f"its target {name} is none that it can apply to"
 
 
 def policy_problems(held: Held, before: set[Key], after: set[Key]) -> list[Problem]:

@@ -24,7 +24,7 @@ MEANINGS = {
     Status.EMPTY: "the feed holds no object",
     Status.NO_TOOL: "linkerd_cli, protoc or kubectl is not there",
     Status.TOOL_FAILED: "linkerd_cli, protoc or kubectl failed",
-    Status.REFUSED: "a line of the feed, or the simulation itself, was refused: what is printed is without it",
+    Status.REFUSED: "a line of the feed is refused, and the answer is without it; or the simulation or the change is refused",
 }
 
 

@@ -92,11 +92,13 @@ class Held:
 
     def __init__(self, objects: dict[Key, dict]):
         self.objects = objects
+        self.keys: dict[Kind, list[Key]] = {}
+        for key in sorted(objects, key=lambda it: (it.namespace, it.name)):
+            self.keys.setdefault(key.kind, []).append(key)
 
     def of(self, kind: Kind, namespace: str | None = None) -> list[Key]:
         """The keys of a kind, in order, of one namespace or of all."""
-        found = [key for key in self.objects if key.kind == kind and namespace in (None, key.namespace)]
-        return sorted(found, key=lambda key: (key.namespace, key.name))
+        return [key for key in self.keys.get(kind, []) if namespace in (None, key.namespace)]
 
     def get(self, kind: Kind, namespace: str, name: str) -> dict | None:
         """An object, or None where it is not held."""

@@ -133,8 +133,8 @@ def is_whole(method: str, message: Message) -> bool:
         return "fully_qualified_name" in names or not names & {"routes", "dst_overrides"}
     if method == "WatchPort":
         return not names or {"protocol", "policy"} <= names
-    service, forward = message.at("service").names(), message.at("forward").names()
-    return len(names) == 1 and ("service" not in names or {"namespace", "name"} <= service) and ("forward" not in names or "endpoint" in forward)
+    wanted = {"service": {"namespace", "name"}, "forward": {"endpoint"}}
+    return len(names) == 1 and all(wanted.get(name, set()) <= message.at(name).names() for name in names)
 
 
 def decode_together(method: str, messages: list[bytes]) -> list[list[str]] | None:

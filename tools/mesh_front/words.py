@@ -58,9 +58,10 @@ def common(wants_feed: bool) -> argparse.ArgumentParser:
     """The options that the commands over a feed share."""
     options = argparse.ArgumentParser(add_help=False)
     if wants_feed:
-        options.add_argument("--feed", type=pathlib.Path, default=pathlib.Path("-"), metavar="FILE", help="the feed (default: standard input)")
-        options.add_argument("--program", type=pathlib.Path, default=ROOT / "linkerd_cli", metavar="FILE", help="the program (default: ./linkerd_cli)")
-        options.add_argument("-o", "--output", choices=["table", "json"], default="table", help="how the answer is printed (default: table)")
+        path = {"type": pathlib.Path, "metavar": "FILE"}
+        options.add_argument("--feed", **path, default=pathlib.Path("-"), help="the feed (default: standard input)")
+        options.add_argument("--program", **path, default=ROOT / "linkerd_cli", help="the program (default: ./linkerd_cli)")
+        options.add_argument("-o", "--output", choices=["table", "json"], default="table", help="the form of the answer (default: table)")
         settings = options.add_argument_group("configuration of the recorded control plane, as docs/COMMANDS.md has it")
         for name, value in CONFIGURATION.items():
             settings.add_argument(f"--{name}", metavar=value)
@@ -70,11 +71,29 @@ def common(wants_feed: bool) -> argparse.ArgumentParser:
 def add_command(commands, name: str, about: str, run: Callable, wants_feed: bool = True) -> argparse.ArgumentParser:
     """Adds a command that `run` runs."""
     formatter = argparse.RawDescriptionHelpFormatter
-    parser = commands.add_parser(
-        name, help=about, description=about, epilog=STATUSES, parents=[common(wants_feed)], formatter_class=formatter, allow_abbrev=False
-    )
+    texts = {"help": about, "description": about, "epilog": STATUSES, "formatter_class": formatter}
+    parser = commands.add_parser(name, **texts, parents=[common(wants_feed)], allow_abbrev=False)
     parser.set_defaults(run=run)
     return parser
+
+
+def add_record(commands) -> None:
+    """Adds the command `record`."""
+    about = "Prints a feed of the cluster that kubectl reaches: a list of each kind."
+    parser = add_command(commands, "record", about, run_record, False)
+    several = {"action": "append", "default": [], "metavar": "NS"}
+    parser.add_argument("-n", "--namespace", **several, help="this namespace alone; may be repeated")
+    parser.add_argument("--context", metavar="NAME", help="kubectl's context")
+
+
+def add_diff(commands) -> None:
+    """Adds the command `diff`."""
+    parser = add_command(commands, "diff", "Shows which views a change of objects changes.", run_diff)
+    several = {"action": "append", "default": []}
+    objects = "objects in YAML or JSON, each of which replaces the object of its name; may be repeated"
+    parser.add_argument("--apply", **several, type=pathlib.Path, metavar="FILE", help=objects)
+    form = "KIND/NS/NAME"
+    parser.add_argument("--delete", **several, type=of_form(deletion, form), metavar=form, help="an object to remove; may be repeated")
 
 
 def add_ask(commands) -> None:
@@ -82,7 +101,8 @@ def add_ask(commands) -> None:
     parser = add_command(commands, "ask", "Tells whether a request to a port of a Pod is admitted, and why.", run_ask)
     parser.add_argument("target", type=of_form(pod_port, "NS/POD:PORT"), metavar="NS/POD:PORT")
     client = parser.add_argument_group("the client: a Pod of the feed, or an address")
-    client.add_argument("--from", dest="pod", type=of_form(pod_name, "NS/POD"), metavar="NS/POD", help="a Pod, with its address and identity")
+    from_pod = of_form(pod_name, "NS/POD")
+    client.add_argument("--from", dest="pod", type=from_pod, metavar="NS/POD", help="a Pod, with its address and identity")
     client.add_argument("--client", type=of_form(ipaddress.ip_address, "an address"), metavar="IP", help="an address")
     client.add_argument("--identity", metavar="ID", help="the identity of the client at the address")
     client.add_argument("--tls", action="store_true", help="the client uses TLS without an identity")
@@ -91,25 +111,23 @@ def add_ask(commands) -> None:
     request.add_argument("--path", default="/", help="the path (default: /)")
     request.add_argument("--host", help="the host")
     request.add_argument("--query", help="the query without the question mark")
-    request.add_argument("--header", action="append", type=of_form(header, "NAME=VALUE"), metavar="NAME=VALUE", help="a header; may be repeated")
+    pair = of_form(header, "NAME=VALUE")
+    request.add_argument("--header", action="append", type=pair, metavar="NAME=VALUE", help="a header; may be repeated")
     request.add_argument("--no-http", action="store_true", help="the connection is not HTTP")
 
 
 def parser() -> Parser:
     """The parser of all words."""
-    words = Parser(prog="mesh", description=ABOUT, epilog=STATUSES, formatter_class=argparse.RawDescriptionHelpFormatter, allow_abbrev=False)
+    formatter = argparse.RawDescriptionHelpFormatter
+    words = Parser(prog="mesh", description=ABOUT, epilog=STATUSES, formatter_class=formatter, allow_abbrev=False)
     commands = words.add_subparsers(dest="command", required=True, metavar="COMMAND", parser_class=Parser)
-    recording = add_command(commands, "record", "Prints a feed of the cluster that kubectl reaches: a list of each kind.", run_record, False)
-    recording.add_argument("-n", "--namespace", action="append", default=[], metavar="NS", help="this namespace alone; may be repeated")
-    recording.add_argument("--context", metavar="NAME", help="kubectl's context")
+    add_record(commands)
     shown = add_command(commands, "endpoints", "Shows the endpoints of a Service.", run_endpoints)
     shown.add_argument("service", type=of_form(service_name, "SERVICE[.NS][:PORT]"), metavar="SERVICE[.NS][:PORT]")
     inbound = add_command(commands, "policy", "Shows who may connect to a port of a Pod.", run_policy)
     inbound.add_argument("target", type=of_form(pod_port, "NS/POD:PORT"), metavar="NS/POD:PORT")
     add_ask(commands)
-    compared = add_command(commands, "diff", "Shows which views a change of objects changes.", run_diff)
-    compared.add_argument("--apply", action="append", type=pathlib.Path, default=[], metavar="FILE", help="objects in YAML or JSON; each replaces the object of its name")
-    compared.add_argument("--delete", action="append", type=of_form(deletion, "KIND/NS/NAME"), default=[], metavar="KIND/NS/NAME", help="an object to remove")
+    add_diff(commands)
     add_command(commands, "check", "Shows what in a feed refers to nothing or is refused.", run_check)
     return words
 

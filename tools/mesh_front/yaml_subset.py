@@ -12,7 +12,8 @@ from dataclasses import dataclass
 KEY = re.compile(r"""("(?:[^"\\]|\\.)*"|'(?:[^']|'')*'|[^\s'"#&*!|>%@`\[\]{},?:-][^#]*?|-[^\s#][^#]*?)\s*:(?:\s+|$)""")
 UNCLEAR = re.compile(
     r"(?i)y|yes|n|no|on|off|<<|=|[-?]|[-?]\s.*"  # words that are true or false in YAML 1.1, and marks of blocks
-    r"|[-+]?0[0-9_o]+|[-+]?0[xb][0-9a-f_]+|[-+]?[0-9.][0-9_.]*_[0-9_.]*|[-+]?[0-9]+(:[0-9]+)+"  # octal, hexadecimal, underscores, base 60
+    r"|[-+]?0[0-9_o]+|[-+]?0[xb][0-9a-f_]+"  # octal, hexadecimal and binary numbers
+    r"|[-+]?[0-9.][0-9_.]*_[0-9_.]*|[-+]?[0-9]+(:[0-9]+)+"  # numbers with underscores, and to the base 60
     r"|[-+]?\.(inf|nan)|[-+]?[0-9]*\.0*|[-+]?[0-9]*\.?[0-9]*e[-+]?[0-9]+"  # numbers that JSON writes in another way
 )
 WORDS = {"": None, "~": None, "null": None, "Null": None, "NULL": None}

@@ -113,7 +113,7 @@ class Ask(Case):
     def test_a_pod_without_a_proxy(self):
         """It is decided as if the Pod had one, and said that it has none."""
         run = self.ask("mistakes.jsonl", "shop/web-1:9090", "--client", "10.0.0.1")
-        self.assertIn("MESHED   no: the Pod has no proxy that would apply this\n", run.output)
+        self.assertIn("MESHED   no: the Pod has no proxy of this control plane to apply this\n", run.output)
 
     def test_an_authorization_that_admits_nobody(self):
         """A NetworkAuthentication without networks admits from nowhere, a MeshTLSAuthentication without identities nobody."""
