@@ -38,6 +38,7 @@ class Script:
     first: int
     lines: list[str] = field(default_factory=list)
     methods: dict[int, str] = field(default_factory=dict)
+    events: set[int] = field(default_factory=set)
 
     def add(self, value: dict) -> int:
         """Appends a line, and answers its number in the feed."""
@@ -47,12 +48,12 @@ class Script:
     def hold(self, *objects: dict) -> None:
         """Holds objects."""
         for it in objects:
-            self.add({"type": "MODIFIED", "object": it})
+            self.events.add(self.add({"type": "MODIFIED", "object": it}))
 
     def remove(self, *objects: dict) -> None:
         """Removes objects."""
         for it in objects:
-            self.add({"type": "DELETED", "object": it})
+            self.events.add(self.add({"type": "DELETED", "object": it}))
 
     def view(self, query: Query) -> int:
         """Asks for the view of a query over what is held here, and answers the id of the question."""
@@ -164,6 +165,7 @@ class Session:
             answers = self.replay(script)
             self.learn(answers)
             if self.held.objects == before.objects:
+                self.require_events(script, answers)
                 return asked, answers
 
     def replay(self, script: Script) -> Answers:
@@ -175,6 +177,11 @@ class Session:
         """Leaves out what the lines that are refused would hold."""
         self.refused = {number: why for number, why in answers.refused.items() if number <= len(self.feed.lines)}
         self.held, self.is_known = self.feed.held(self.refused), True
+
+    def require_events(self, script: Script, answers: Answers) -> None:
+        """Raises a Fault where an event that the questions need is refused, as it is where too many objects are held."""
+        for number in script.events & answers.refused.keys():
+            raise Fault(Status.TOOL_FAILED, f"an event that the question needs is refused: {answers.refused[number]}")
 
     def require_objects(self) -> None:
         """Raises a Fault where the feed holds nothing."""

@@ -55,6 +55,13 @@ class Words(Case):
         run = self.run_mesh("check", "--program", failing, "--feed", feed)
         self.require(run, 6, "", f"out of memory\nmesh: {failing} replay ended with status 3: out of memory\n")
 
+    def test_an_event_that_the_question_needs(self):
+        """Where too many objects are held, the made-up ones are refused, and there is no answer."""
+        full = self.file("full", b"#!/bin/sh\ngrep -n mesh-question | sed 's/:.*//; s/.*/refused & Full 100000/'\nexit 1\n")
+        full.chmod(0o755)
+        run = self.run_mesh("check", "--program", full, "--feed", EXAMPLES / "policy.jsonl")
+        self.require(run, 6, "", "mesh: an event that the question needs is refused: Full 100000\n")
+
     def test_a_feed_that_is_not_there(self):
         """One sentence with the system's reason."""
         run = self.run_mesh("check", "--feed", self.room / "none")
