@@ -154,7 +154,7 @@ def shown_address(authorization: views.Authorization, client: Client) -> Client:
 def shown_client(authorization: views.Authorization, client: Client) -> Client:
     """The client as one that the authorization shows."""
     who = authorization.clients
-    names = who.identities + [f"any{suffix}" for suffix in who.suffixes] + ["any"] * who.any_identity
+    names = list(filter(None, who.identities)) + [f"any{suffix}" for suffix in who.suffixes] + ["any"] * who.any_identity
     if names and not who.anyone and not who.any_tls:
         return replace(client, identity=names[0])
     return replace(client, tls=True) if who.any_tls and not client.identity else client
@@ -199,7 +199,7 @@ def reason(authorization: views.Authorization, namespace: str, trial: Trial, ans
     """What the simulations of an authorization say."""
     wanted = f"allowed {authorization.kind} {namespace}/{authorization.name}"
     as_it_is, address, client, both = (answers.verdicts.get(number) == wanted for number in vars(trial).values())
-    return Reason(authorization, as_it_is, both or as_it_is, client, address)
+    return Reason(authorization, as_it_is, as_it_is or both, as_it_is or client, as_it_is or address)
 
 
 def why_not_shown(held: Held, key: Key, after: views.Inbound) -> NotShown:
@@ -207,7 +207,10 @@ def why_not_shown(held: Held, key: Key, after: views.Inbound) -> NotShown:
     missing = probes.missing_references(held, key)
     if missing and key.name in {it.name for it in after.authorizations if it.kind == key.kind.name}:
         return NotShown(str(key), f"{' and '.join(map(str, missing))} is not in the feed")
-    return NotShown(str(key), "the program does not count it: a reference or its target is of another group, kind or namespace")
+    other = probes.other_references(held, key)
+    if other:
+        return NotShown(str(key), f"it refers to {' and '.join(other)}, to which it cannot refer")
+    return NotShown(str(key), "its target is of another group or namespace")
 
 
 def second_run(session: Session, words: Words, first: First) -> Answer:

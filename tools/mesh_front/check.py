@@ -136,23 +136,20 @@ def policies_shown(servers: dict[Key, int], answers: Answers) -> set[Key]:
     return found
 
 
-def target_problem(held: Held, key: Key) -> str | None:
-    """What is wrong with the target of an AuthorizationPolicy that applies to nothing."""
+def target_problem(held: Held, key: Key) -> str:
+    """What is wrong with the target of an AuthorizationPolicy that no view shows."""
     target = members(held.spec(key), "targetRef")
-    kind = probes.referred_kind(target)
-    if kind in (SERVER, *ROUTE_KINDS):
-        found = Key(kind, target.get("namespace") or key.namespace, target.get("name"))
-        if found not in held.objects:
-            return f"its target {found} is not in the feed"
-        if found.namespace != key.namespace:
-            return f"its target {found} is in another namespace, and so it applies to nothing"
-        if kind != SERVER:
-            return f"its target {found} is attached to no Server of the feed, and so it applies to nothing"
-    elif target.get("kind") == "Namespace":
-        named = [it.name for it in held.of(SERVER, key.namespace)]
-        return None if not named else "it applies to no Server"
-    name = f"{target.get('kind')} {target.get('name')} of the group {target.get('group') or 'core'}"
-    return f"its target {name} is none that it can apply to"
+    kind, name, group = probes.referred_kind(target), target.get("name"), target.get("group") or "core"
+    if (target.get("kind"), group) == ("Namespace", "core"):
+        return "it applies to no Server" if name == key.namespace else f"its target Namespace {name} is not its own"
+    if kind not in (SERVER, *ROUTE_KINDS):
+        return f"its target {target.get('kind')} {name} of the group {group} is none that it can apply to"
+    found = Key(kind, target.get("namespace") or key.namespace, name)
+    if found not in held.objects:
+        return f"its target {found} is not in the feed"
+    if found.namespace != key.namespace:
+        return f"its target {found} is in another namespace, and so it applies to nothing"
+    return f"its target {found} is attached to no Server of the feed, and so it applies to nothing"
 
 
 def policy_problems(held: Held, before: set[Key], after: set[Key]) -> list[Problem]:
@@ -161,10 +158,11 @@ def policy_problems(held: Held, before: set[Key], after: set[Key]) -> list[Probl
     for key in held.of(AUTHORIZATION_POLICY):
         if key in before:
             continue
-        missing = probes.missing_references(held, key)
-        found += [Problem(str(key), f"it refers to {it}, which is not in the feed, and so it admits nobody") for it in missing]
-        why = None if key in after else target_problem(held, key)
-        found += [Problem(str(key), why)] if why else []
+        missing, other = probes.missing_references(held, key), probes.other_references(held, key)
+        why = [f"it refers to {it}, which is not in the feed, and so it admits nobody" for it in missing]
+        why += [f"it refers to {it}, to which it cannot refer, and so it admits nobody" for it in other]
+        why += [target_problem(held, key)] if key not in after and not other else []
+        found += [Problem(str(key), it) for it in why]
     return found
 
 

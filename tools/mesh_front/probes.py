@@ -6,6 +6,7 @@ from mesh_front.kinds import AUTHORIZATION_POLICY, MESH_AUTHENTICATION, NETWORK_
 from mesh_front.names import PodName
 from mesh_front.program import Answers, Query, Script
 
+AUTHENTICATIONS = (MESH_AUTHENTICATION, NETWORK_AUTHENTICATION)
 PORT = 1
 ADDRESS = "192.0.2.1"
 
@@ -63,9 +64,16 @@ def missing_references(held: Held, policy: Key) -> list[Key]:
     for reference in items(held.spec(policy), "requiredAuthenticationRefs"):
         kind = referred_kind(reference)
         key = Key(kind, reference.get("namespace") or policy.namespace, reference.get("name")) if kind else None
-        if kind in (MESH_AUTHENTICATION, NETWORK_AUTHENTICATION) and key not in held.objects:
+        if kind in AUTHENTICATIONS and key not in held.objects:
             found.append(key)
     return found
+
+
+def other_references(held: Held, policy: Key) -> list[str]:
+    """What an AuthorizationPolicy refers to that is neither an authentication nor a ServiceAccount."""
+    listed = items(held.spec(policy), "requiredAuthenticationRefs")
+    others = [it for it in listed if referred_kind(it) not in AUTHENTICATIONS and it.get("kind") != "ServiceAccount"]
+    return [f"{it.get('kind')} {it.get('name')} of the group {it.get('group') or 'core'}" for it in others]
 
 
 def named_policies(held: Held, namespace: str, kind: str, name: str, group: str | None = None) -> list[Key]:

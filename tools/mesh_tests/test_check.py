@@ -60,11 +60,28 @@ class Check(Case):
             policy("of-route", reference("HTTPRoute", "r")),
             policy("of-other", {**reference("Server", "e"), "namespace": "other"}),
             policy("of-service", {"kind": "Service", "name": "s"}),
+            policy("of-namespace", {"kind": "Namespace", "name": "other"}),
         )
         self.require(self.mesh("check", feed), 1, """
-            OBJECT                                PROBLEM
-            AuthorizationPolicy shop/of-other     its target Server other/e is in another namespace, and so it applies to nothing
-            AuthorizationPolicy shop/of-route     its target HTTPRoute.policy.linkerd.io shop/r is attached to no Server of the feed, and so it applies to nothing
-            AuthorizationPolicy shop/of-service   its target Service s of the group core is none that it can apply to
-            Server other/e                        it selects no port of a Pod in the feed
+            OBJECT                                  PROBLEM
+            AuthorizationPolicy shop/of-namespace   its target Namespace other is not its own
+            AuthorizationPolicy shop/of-other       its target Server other/e is in another namespace, and so it applies to nothing
+            AuthorizationPolicy shop/of-route       its target HTTPRoute.policy.linkerd.io shop/r is attached to no Server of the feed, and so it applies to nothing
+            AuthorizationPolicy shop/of-service     its target Service s of the group core is none that it can apply to
+            Server other/e                          it selects no port of a Pod in the feed
         """)
+
+    def test_references_of_another_kind(self):
+        """A policy can refer to authentications and ServiceAccounts alone."""
+        feed = added(
+            pod("a-1", "a", "10.0.0.1", 80),
+            server("a", "a", 80),
+            policy("secret", reference("Server", "a"), {"kind": "Secret", "name": "s"}),
+            policy("account", reference("Server", "a"), {"kind": "ServiceAccount", "name": "s"}),
+        )
+        self.require(self.mesh("check", feed), 1, """
+            OBJECT                            PROBLEM
+            AuthorizationPolicy shop/secret   it refers to Secret s of the group core, to which it cannot refer, and so it admits nobody
+        """)
+        run = self.mesh("ask", feed, "shop/a-1:80", "--client", "10.0.0.9")
+        self.assertIn("not counted: AuthorizationPolicy shop/secret: it refers to Secret s of the group core, to which it cannot refer\n", run.output)
