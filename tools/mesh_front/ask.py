@@ -10,8 +10,8 @@ from dataclasses import dataclass, replace
 
 from mesh_front import policy, probes, views
 from mesh_front.faults import Fault, Status
-from mesh_front.feed import Held, Key, members
-from mesh_front.kinds import AUTHORIZATION_POLICY, POD, SERVER_AUTHORIZATION
+from mesh_front.feed import Key, Objects, members
+from mesh_front.kinds import AUTHORIZATION_POLICY, SERVER_AUTHORIZATION
 from mesh_front.names import PodName, PodPort, require_pod
 from mesh_front.program import Answers, Script, Session
 from mesh_front.tables import show, table
@@ -71,8 +71,8 @@ class Reason:
 
 
 @dataclass
-class NotShown:
-    """A policy that names the Server or a route of it and is not in the view, and why."""
+class HiddenPolicy:
+    """A policy that names the Server or a route of it and that the view does not show, and why."""
 
     policy: str
     why: str
@@ -85,10 +85,10 @@ class Answer:
     verdict: str
     request: str
     client: Client
-    meshed: bool
+    is_meshed: bool
     view: views.Inbound
     reasons: list[Reason]
-    not_shown: list[NotShown]
+    hidden_policies: list[HiddenPolicy]
 
 
 @dataclass
@@ -96,7 +96,7 @@ class First:
     """What the first run tells: the view, the identity of the Pod, and the client."""
 
     view: views.Inbound
-    meshed: bool
+    is_meshed: bool
     client: Client
 
 
@@ -110,23 +110,23 @@ class Trial:
     with_both: int
 
 
-def address_of(held: Held, pod: PodName) -> str:
+def address_of(objects: Objects, pod: PodName) -> str:
     """The address of a held Pod."""
-    found = members(held.objects[require_pod(held, pod)], "status").get("podIP")
-    if not isinstance(found, str):
+    address = members(objects.by_key[require_pod(objects, pod)], "status").get("podIP")
+    if not isinstance(address, str):
         raise Fault(Status.UNKNOWN, f"the Pod {pod} has no address in the feed; give --client and --identity")
-    return found
+    return address
 
 
 def first_run(session: Session, words: Words) -> First:
     """Asks for the view of the port, whether its Pod is meshed, and who the client is."""
 
-    def questions(held, script):
-        require_pod(held, words.target.pod)
-        address = address_of(held, words.pod) if words.pod else None
+    def questions(objects, script):
+        require_pod(objects, words.target.pod)
+        address = address_of(objects, words.pod) if words.pod else None
         pods = [words.target.pod] + ([words.pod] if words.pod else [])
         view = script.view(policy.inbound_query(words.target))
-        return view, [probes.ask_row(held, script, pod) for pod in pods], address
+        return view, [probes.ask_row(objects, script, pod) for pod in pods], address
 
     (view, rows, address), answers = session.ask(questions)
     identities = [probes.identity(answers, number) for number in rows]
@@ -137,8 +137,8 @@ def first_run(session: Session, words: Words) -> First:
 def address_in(network: views.Network) -> str | None:
     """An address of a network that is in none of its exceptions, None where no try finds one."""
     whole = ipaddress.ip_network(network.network, strict=False)
-    parsed = [ipaddress.ip_network(it, strict=False) for it in network.exceptions]
-    holes = [it for it in parsed if it.version == whole.version]
+    exceptions = [ipaddress.ip_network(it, strict=False) for it in network.exceptions]
+    holes = [it for it in exceptions if it.version == whole.version]
     first, last, kind = int(whole.network_address), int(whole.broadcast_address), type(whole.network_address)
     tries = [first, *(int(it.broadcast_address) + 1 for it in holes), *(int(it.network_address) - 1 for it in holes)]
     free = [kind(it) for it in tries if first <= it <= last and not any(kind(it) in hole for hole in holes)]
@@ -147,8 +147,8 @@ def address_in(network: views.Network) -> str | None:
 
 def shown_address(authorization: views.Authorization, client: Client) -> Client:
     """The client at an address that the authorization shows."""
-    found = [address for address in map(address_in, authorization.networks) if address]
-    return replace(client, address=found[0]) if found else client
+    addresses = list(filter(None, map(address_in, authorization.networks)))
+    return replace(client, address=addresses[0]) if addresses else client
 
 
 def shown_client(authorization: views.Authorization, client: Client) -> Client:
@@ -160,9 +160,9 @@ def shown_client(authorization: views.Authorization, client: Client) -> Client:
     return replace(client, tls=True) if who.any_tls and not client.identity else client
 
 
-def object_of(held: Held, namespace: str, authorization: views.Authorization) -> dict:
+def object_of(objects: Objects, namespace: str, authorization: views.Authorization) -> dict:
     """The object of an authorization of the view."""
-    return held.objects[Key(KINDS[authorization.kind], namespace, authorization.name)]
+    return objects.by_key[Key(KINDS[authorization.kind], namespace, authorization.name)]
 
 
 def ask_trial(script: Script, words: Words, client: Client, one: views.Authorization) -> Trial:
@@ -172,67 +172,67 @@ def ask_trial(script: Script, words: Words, client: Client, one: views.Authoriza
     return Trial(*(script.simulate(words.request(it)) for it in clients))
 
 
-def not_shown(held: Held, first: First, namespace: str) -> list[Key]:
+def hidden_policies(objects: Objects, first: First, namespace: str) -> list[Key]:
     """The policies that name the Server or a route of it and are not in the view."""
-    named = probes.named_policies(held, namespace, "Server", first.view.server)
-    named += probes.named_policies(held, namespace, "Namespace", namespace)
+    policies = probes.named_policies(objects, namespace, "Server", first.view.server)
+    policies += probes.named_policies(objects, namespace, "Namespace", namespace)
     for it in first.view.routes:
-        named += probes.named_policies(held, namespace, "HTTPRoute", it.name, it.group)
-    shown = {(it.kind, it.name) for it in first.view.authorizations}
-    return [key for key in dict.fromkeys(named) if (key.kind.name, key.name) not in shown]
+        policies += probes.named_policies(objects, namespace, "HTTPRoute", it.name, it.group)
+    names = {(it.kind, it.name) for it in first.view.authorizations}
+    return [key for key in dict.fromkeys(policies) if (key.kind.name, key.name) not in names]
 
 
-def ask_reasons(held: Held, script: Script, words: Words, first: First) -> list[Trial]:
+def ask_reasons(objects: Objects, script: Script, words: Words, first: First) -> list[Trial]:
     """Asks for each authorization of the view which part of it admits the client."""
     trials = []
-    objects = [object_of(held, words.target.pod.namespace, it) for it in first.view.authorizations]
-    script.remove(*objects)
-    for authorization, value in zip(first.view.authorizations, objects):
+    values = [object_of(objects, words.target.pod.namespace, it) for it in first.view.authorizations]
+    script.remove(*values)
+    for authorization, value in zip(first.view.authorizations, values):
         script.hold(value)
         trials.append(ask_trial(script, words, first.client, authorization))
         script.remove(value)
-    script.hold(*objects)
+    script.hold(*values)
     return trials
 
 
 def reason(authorization: views.Authorization, namespace: str, trial: Trial, answers: Answers) -> Reason:
     """What the simulations of an authorization say."""
-    wanted = f"allowed {authorization.kind} {namespace}/{authorization.name}"
-    as_it_is, address, client, both = (answers.verdicts.get(number) == wanted for number in vars(trial).values())
+    verdict = f"allowed {authorization.kind} {namespace}/{authorization.name}"
+    as_it_is, address, client, both = (answers.verdicts.get(number) == verdict for number in vars(trial).values())
     return Reason(authorization, as_it_is, as_it_is or both, as_it_is or client, as_it_is or address)
 
 
-def why_not_shown(held: Held, key: Key, after: views.Inbound) -> NotShown:
+def why_hidden(objects: Objects, key: Key, after: views.Inbound) -> HiddenPolicy:
     """Why a policy is not in the view, by the view in which what it refers to is held."""
-    missing = probes.missing_references(held, key)
-    if missing and key.name in {it.name for it in after.authorizations if it.kind == key.kind.name}:
-        return NotShown(str(key), f"{' and '.join(map(str, missing))} is not in the feed")
-    other = probes.other_references(held, key)
+    absent = probes.missing_references(objects, key)
+    if absent and key.name in {it.name for it in after.authorizations if it.kind == key.kind.name}:
+        return HiddenPolicy(str(key), f"{' and '.join(map(str, absent))} is not in the feed")
+    other = probes.other_references(objects, key)
     if other:
-        return NotShown(str(key), f"it refers to {' and '.join(other)}, to which it cannot refer")
-    return NotShown(str(key), "its target is of another group or namespace")
+        return HiddenPolicy(str(key), f"it refers to {' and '.join(other)}, to which it cannot refer")
+    return HiddenPolicy(str(key), "its target is of another group or namespace")
 
 
 def second_run(session: Session, words: Words, first: First) -> Answer:
     """Asks for the verdict, and why."""
     namespace = words.target.pod.namespace
 
-    def questions(held, script):
+    def questions(objects, script):
         verdict = script.simulate(words.request(first.client))
-        trials = ask_reasons(held, script, words, first) if first.view.server else []
-        lacking = not_shown(held, first, namespace) if first.view.server else []
-        script.hold(*probes.stand_ins([it for key in lacking for it in probes.missing_references(held, key)]))
-        return verdict, trials, lacking, script.view(policy.inbound_query(words.target))
+        trials = ask_reasons(objects, script, words, first) if first.view.server else []
+        hidden_keys = hidden_policies(objects, first, namespace) if first.view.server else []
+        script.hold(*probes.stand_ins([it for key in hidden_keys for it in probes.missing_references(objects, key)]))
+        return verdict, trials, hidden_keys, script.view(policy.inbound_query(words.target))
 
-    (verdict, trials, lacking, number), answers = session.ask(questions)
-    if verdict in answers.refused:
-        raise Fault(Status.REFUSED, f"the simulation is refused: {answers.refused[verdict]}")
+    (verdict, trials, hidden_keys, number), answers = session.ask(questions)
+    if verdict in answers.refusals:
+        raise Fault(Status.REFUSED, f"the simulation is refused: {answers.refusals[verdict]}")
     reasons = [reason(it, namespace, trial, answers) for it, trial in zip(first.view.authorizations, trials)]
     after = views.inbound(answers.view(number))
-    absent = [why_not_shown(session.held, key, after) for key in lacking]
+    policies = [why_hidden(session.objects, key, after) for key in hidden_keys]
     text = answers.verdicts[verdict]
-    counted = [] if text == "not-found" else reasons
-    return Answer(text, words.request_text(), first.client, first.meshed, first.view, counted, absent)
+    reasons_for_request = [] if text == "not-found" else reasons
+    return Answer(text, words.request_text(), first.client, first.is_meshed, first.view, reasons_for_request, policies)
 
 
 def verdict_text(answer: Answer) -> str:
@@ -251,11 +251,11 @@ def verdict_text(answer: Answer) -> str:
 def reason_cells(it: Reason, view: views.Inbound) -> list[str]:
     """A reason in a row of a table."""
     one = it.authorization
-    shown = [(one.where(), it.network_admits), (str(one.clients), it.client_admits)]
+    parts = [(one.where(), it.network_admits), (str(one.clients), it.client_admits)]
     if it.counts:
-        cells = ["admits" if admits else f"needs {text}" for text, admits in shown]
+        cells = ["admits" if admits else f"needs {text}" for text, admits in parts]
     else:
-        cells = [f"admits {text}" if text in ("nobody", "nowhere") else "-" for text, _ in shown]
+        cells = [f"admits {text}" if text in ("nobody", "nowhere") else "-" for text, _ in parts]
     other = ", not matched" if one.route and not it.counts and cells == ["-", "-"] else ""
     return [one.title, policy.scope(one, view) + other, *cells]
 
@@ -269,17 +269,17 @@ def lines(answer: Answer) -> list[str]:
         "REQUEST": answer.request,
         "CLIENT": answer.client,
         "SERVER": f"{server} {view.policy}",
-        "MESHED": "yes" if answer.meshed else "no: the Pod has no proxy of this control plane to apply this",
+        "MESHED": "yes" if answer.is_meshed else "no: the Pod has no proxy of this control plane to apply this",
     }
-    shown = [f"{name:<9}{text}" for name, text in pairs.items()]
+    output = [f"{name:<9}{text}" for name, text in pairs.items()]
     if answer.reasons:
         rows = [reason_cells(it, view) for it in answer.reasons]
-        shown += ["", *table(["AUTHORIZATION", "FOR", "NETWORK", "CLIENT"], rows)]
+        output += ["", *table(["AUTHORIZATION", "FOR", "NETWORK", "CLIENT"], rows)]
     if answer.verdict == "not-found":
-        shown += ["", *policy.route_table(view.routes)]
-    if answer.not_shown:
-        shown += ["", *(f"not counted: {it.policy}: {it.why}" for it in answer.not_shown)]
-    return shown
+        output += ["", *policy.route_table(view.routes)]
+    if answer.hidden_policies:
+        output += ["", *(f"not counted: {it.policy}: {it.why}" for it in answer.hidden_policies)]
+    return output
 
 
 def run(session: Session, words: Words, as_json: bool) -> Status:

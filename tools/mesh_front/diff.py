@@ -5,7 +5,7 @@ from dataclasses import dataclass
 
 from mesh_front import policy, views
 from mesh_front.faults import Fault, Status
-from mesh_front.feed import Held, apply
+from mesh_front.feed import Objects, apply
 from mesh_front.kinds import POD, SERVICE
 from mesh_front.manifests import Change
 from mesh_front.messages import Message, address
@@ -35,7 +35,7 @@ class Difference:
 
 
 @dataclass
-class Asked:
+class Comparison:
     """The questions with the ids of their answers before and after, and the lines of the changes."""
 
     questions: list[Question]
@@ -48,9 +48,9 @@ def flat(message: Message, prefix: str = "") -> list[str]:
     """The fields of a message, each with its path."""
     rows: list[str] = []
     for name in dict.fromkeys(name for name, _ in message.fields):
-        found = message.all(name)
-        for place, value in enumerate(found):
-            path = f"{prefix}{name}[{place}]" if len(found) > 1 else f"{prefix}{name}"
+        values = message.all(name)
+        for place, value in enumerate(values):
+            path = f"{prefix}{name}[{place}]" if len(values) > 1 else f"{prefix}{name}"
             if not isinstance(value, Message):
                 rows.append(f"{path} {value}")
             elif value.names() & {"ipv4", "ipv6"}:
@@ -60,12 +60,12 @@ def flat(message: Message, prefix: str = "") -> list[str]:
     return rows
 
 
-def endpoint_rows(found: views.Endpoints) -> list[str]:
+def endpoint_rows(view: views.Endpoints) -> list[str]:
     """Endpoints in rows."""
-    if not found.endpoints:
-        return ["the Service exists and has no endpoints" if found.exists else "the Service does not exist"]
+    if not view.endpoints:
+        return ["the Service exists and has no endpoints" if view.exists else "the Service does not exist"]
     rows = []
-    for it in found.endpoints:
+    for it in view.endpoints:
         pod = f" Pod {it.pod} account {it.account}" if it.pod else ""
         identity = f" identity {it.identity}" if it.identity else ""
         rows.append(f"{it.address}:{it.port}{pod}{identity} hint {it.hint}")
@@ -103,58 +103,58 @@ def difference(question: Question, before: list[Message], after: list[Message]) 
     return Difference(question.title, *rows)
 
 
-def after_changes(held: Held, changes: list[Change]) -> Held:
+def after_changes(objects: Objects, changes: list[Change]) -> Objects:
     """What is held after the changes."""
-    objects = dict(held.objects)
+    by_key = dict(objects.by_key)
     for it in changes:
-        apply(objects, {"type": it.type, "object": it.object})
-    return Held(objects)
+        apply(by_key, {"type": it.type, "object": it.object})
+    return Objects(by_key)
 
 
-def questions_of(states: list[Held]) -> list[Question]:
+def questions_of(states: list[Objects]) -> list[Question]:
     """Each port of each Pod and each port of each Service that some of these states have."""
-    ports = {(key, port) for held in states for key in held.of(POD) for port in held.pod_ports(key)}
-    services = {(key, port) for held in states for key in held.of(SERVICE) for port in held.service_ports(key) or [80]}
-    found = []
+    ports = {(key, port) for objects in states for key in objects.of(POD) for port in objects.pod_ports(key)}
+    services = {(key, port) for objects in states for key in objects.of(SERVICE) for port in objects.service_ports(key) or [80]}
+    questions = []
     for key, port in sorted(ports, key=lambda it: (it[0].namespace, it[0].name, it[1])):
         target = PodPort(PodName(key.namespace, key.name), port)
-        found.append(Question(f"{WHAT['WatchPort']} of Pod {target}", policy.inbound_query(target)))
+        questions.append(Question(f"{WHAT['WatchPort']} of Pod {target}", policy.inbound_query(target)))
     for key, port in sorted(services, key=lambda it: (it[0].namespace, it[0].name, it[1])):
         name = f"{key.name}.{key.namespace}"
-        found += [Question(f"{WHAT[method]} of Service {name}:{port}", Query(method, name, port)) for method in SERVICE_METHODS]
-    return found
+        questions += [Question(f"{WHAT[method]} of Service {name}:{port}", Query(method, name, port)) for method in SERVICE_METHODS]
+    return questions
 
 
-def ask(held: Held, script: Script, changes: list[Change]) -> Asked:
+def ask(objects: Objects, script: Script, changes: list[Change]) -> Comparison:
     """Asks for each view before and after the changes."""
-    questions = questions_of([held, after_changes(held, changes)])
+    questions = questions_of([objects, after_changes(objects, changes)])
     before = [script.view(it.query) for it in questions]
     lines = [script.add({"type": it.type, "object": it.object}) for it in changes]
-    return Asked(questions, before, [script.view(it.query) for it in questions], lines)
+    return Comparison(questions, before, [script.view(it.query) for it in questions], lines)
 
 
-def require_changes(changes: list[Change], asked: Asked, answers: Answers) -> None:
+def require_changes(changes: list[Change], comparison: Comparison, answers: Answers) -> None:
     """Raises a Fault where the program refuses a change."""
-    for change, line in zip(changes, asked.changes):
-        if line in answers.refused:
-            raise Fault(Status.REFUSED, f"the change of {change.key} is refused: {answers.refused[line]}")
+    for change, line in zip(changes, comparison.changes):
+        if line in answers.refusals:
+            raise Fault(Status.REFUSED, f"the change of {change.key} is refused: {answers.refusals[line]}")
 
 
-def lines(found: list[Difference], asked: Asked) -> list[str]:
+def lines(differences: list[Difference], comparison: Comparison) -> list[str]:
     """The differences as people read them."""
-    shown = []
-    for it in found:
-        changed = list(difflib.unified_diff(it.before, it.after, lineterm="", n=0))[2:]
-        shown += [it.view, *(f"{row[0]} {row[1:]}" for row in changed if not row.startswith("@@")), ""]
-    return [*shown, f"views that change: {len(found)} of {len(asked.questions)}"]
+    output = []
+    for it in differences:
+        changed_rows = list(difflib.unified_diff(it.before, it.after, lineterm="", n=0))[2:]
+        output += [it.view, *(f"{row[0]} {row[1:]}" for row in changed_rows if not row.startswith("@@")), ""]
+    return [*output, f"views that change: {len(differences)} of {len(comparison.questions)}"]
 
 
 def run(session: Session, changes: list[Change], as_json: bool) -> Status:
     """Shows each view that the changes change, before and after."""
-    asked, answers = session.ask(lambda held, script: ask(held, script, changes))
-    require_changes(changes, asked, answers)
-    pairs = zip(asked.questions, asked.before, asked.after)
-    compared = [difference(it, answers.view(before), answers.view(after)) for it, before, after in pairs]
-    found = [it for it in compared if it]
-    show(found, lines(found, asked), as_json)
-    return Status.NO if found else Status.DONE
+    comparison, answers = session.ask(lambda objects, script: ask(objects, script, changes))
+    require_changes(changes, comparison, answers)
+    questions = zip(comparison.questions, comparison.before, comparison.after)
+    results = [difference(it, answers.view(before), answers.view(after)) for it, before, after in questions]
+    differences = [it for it in results if it]
+    show(differences, lines(differences, comparison), as_json)
+    return Status.NO if differences else Status.DONE

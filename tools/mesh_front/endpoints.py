@@ -23,25 +23,25 @@ class PortEndpoints:
 def lines(service: ServiceName, answer: list[PortEndpoints]) -> list[str]:
     """The answer as people read it."""
     rows = [[str(it.service_port), *row.cells()] for it in answer for row in it.endpoints]
-    shown = table(HEADINGS, rows) if rows else []
+    output = table(HEADINGS, rows) if rows else []
     for it in answer:
         if not it.exists:
-            shown.append(f"{service.name}.{service.namespace}:{it.service_port} counts as not existing, as an ExternalName does")
+            output.append(f"{service.name}.{service.namespace}:{it.service_port} counts as not existing, as an ExternalName does")
         elif not it.endpoints:
-            shown.append(f"{service.name}.{service.namespace}:{it.service_port} exists and has no endpoints")
-    return shown
+            output.append(f"{service.name}.{service.namespace}:{it.service_port} exists and has no endpoints")
+    return output
 
 
 def run(session: Session, service: ServiceName, as_json: bool) -> Status:
     """Shows the endpoints of a port of a Service, or of each of its ports."""
 
-    def questions(held, script):
-        key = require_service(held, service)
-        ports = [service.port] if service.port else held.service_ports(key) or [80]
+    def questions(objects, script):
+        key = require_service(objects, service)
+        ports = [service.port] if service.port else objects.service_ports(key) or [80]
         return [(port, script.view(Query("Get", f"{service.name}.{service.namespace}", port))) for port in ports]
 
-    asked, answers = session.ask(questions)
-    found = [(port, views.endpoints(answers.view(number))) for port, number in asked]
-    answer = [PortEndpoints(port, it.exists, it.endpoints) for port, it in found]
+    numbers, answers = session.ask(questions)
+    pairs = [(port, views.endpoints(answers.view(number))) for port, number in numbers]
+    answer = [PortEndpoints(port, it.exists, it.endpoints) for port, it in pairs]
     show(answer, lines(service, answer), as_json)
     return Status.DONE

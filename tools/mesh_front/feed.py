@@ -48,8 +48,8 @@ def members(value, *path: str) -> dict:
 
 def items(value, *path: str) -> list[dict]:
     """The objects in the list at the end of a path of members."""
-    found = members(value, *path[:-1]).get(path[-1])
-    return [it for it in found if isinstance(it, dict)] if isinstance(found, list) else []
+    result = members(value, *path[:-1]).get(path[-1])
+    return [it for it in result if isinstance(it, dict)] if isinstance(result, list) else []
 
 
 def key_of(value: dict) -> Key | None:
@@ -59,41 +59,41 @@ def key_of(value: dict) -> Key | None:
     return Key(kind, namespace, name) if kind and isinstance(name, str) and isinstance(namespace, str) else None
 
 
-def apply_list(held: dict[Key, dict], value: dict) -> None:
+def apply_list(objects: dict[Key, dict], value: dict) -> None:
     """Holds the items of a list in place of all objects of its kind."""
     kind = kind_of(value["kind"].removesuffix("List"), value.get("apiVersion"))
     if kind is None:
         return
-    for key in [key for key in held if key.kind == kind]:
-        del held[key]
+    for key in [key for key in objects if key.kind == kind]:
+        del objects[key]
     for item in items(value, "items"):
-        named = {**item, "kind": kind.name, "apiVersion": value.get("apiVersion") or kind.api_version}
-        key = key_of(named)
+        item_value = {**item, "kind": kind.name, "apiVersion": value.get("apiVersion") or kind.api_version}
+        key = key_of(item_value)
         if key:
-            held[key] = named
+            objects[key] = item_value
 
 
-def apply(held: dict[Key, dict], value) -> None:
+def apply(objects: dict[Key, dict], value) -> None:
     """Does to the held objects what the line with this value does."""
     if not isinstance(value, dict):
         return
     if value.get("type") is not None:
         key = key_of(members(value, "object"))
         if key and value["type"] in ("ADDED", "MODIFIED"):
-            held[key] = value["object"]
+            objects[key] = value["object"]
         elif key and value["type"] == "DELETED":
-            held.pop(key, None)
+            objects.pop(key, None)
     elif isinstance(value.get("kind"), str) and value["kind"].endswith("List"):
-        apply_list(held, value)
+        apply_list(objects, value)
 
 
-class Held:
+class Objects:
     """The objects that a feed holds at its end."""
 
-    def __init__(self, objects: dict[Key, dict]):
-        self.objects = objects
+    def __init__(self, by_key: dict[Key, dict]):
+        self.by_key = by_key
         self.keys: dict[Kind, list[Key]] = {}
-        for key in sorted(objects, key=lambda it: (it.namespace, it.name)):
+        for key in sorted(by_key, key=lambda it: (it.namespace, it.name)):
             self.keys.setdefault(key.kind, []).append(key)
 
     def of(self, kind: Kind, namespace: str | None = None) -> list[Key]:
@@ -102,16 +102,16 @@ class Held:
 
     def get(self, kind: Kind, namespace: str, name: str) -> dict | None:
         """An object, or None where it is not held."""
-        return self.objects.get(Key(kind, namespace, name))
+        return self.by_key.get(Key(kind, namespace, name))
 
     def spec(self, key: Key) -> dict:
         """The `spec` of an object."""
-        return members(self.objects[key], "spec")
+        return members(self.by_key[key], "spec")
 
     def free_name(self, namespace: str) -> str:
         """A name that no object of the namespace has."""
-        taken = {key.name for key in self.objects if key.namespace == namespace}
-        return next(name for name in (f"mesh-question-{number}" for number in range(len(taken) + 1)) if name not in taken)
+        names = {key.name for key in self.by_key if key.namespace == namespace}
+        return next(name for name in (f"mesh-question-{number}" for number in range(len(names) + 1)) if name not in names)
 
     def service_ports(self, key: Key) -> list[int]:
         """The port numbers of a Service, in its order, each once."""
@@ -119,9 +119,9 @@ class Held:
 
     def pod_ports(self, key: Key) -> list[int]:
         """The ports of a Pod that its containers name or that a Server of its namespace has as a number."""
-        named = [port.get("containerPort") for it in items(self.spec(key), "containers") for port in items(it, "ports")]
+        container_ports = [port.get("containerPort") for it in items(self.spec(key), "containers") for port in items(it, "ports")]
         numbers = [self.spec(server).get("port") for server in self.of(SERVER, key.namespace)]
-        return sorted({port for port in named + numbers if isinstance(port, int) and 0 < port < 65536})
+        return sorted({port for port in container_ports + numbers if isinstance(port, int) and 0 < port < 65536})
 
 
 class Feed:
@@ -134,13 +134,13 @@ class Feed:
             if is_control(value):
                 self.lines[place], self.values[place] = b"", None
 
-    def held(self, refused: Iterable[int] = ()) -> Held:
+    def objects(self, refusals: Iterable[int] = ()) -> Objects:
         """What is held at the end if the lines with these numbers, counted from 1, are refused."""
-        held: dict[Key, dict] = {}
+        objects: dict[Key, dict] = {}
         for number, value in enumerate(self.values, 1):
-            if number not in refused:
-                apply(held, value)
-        return Held(held)
+            if number not in refusals:
+                apply(objects, value)
+        return Objects(objects)
 
 
 def read_bytes(path: pathlib.Path) -> bytes:

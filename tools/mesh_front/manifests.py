@@ -34,21 +34,21 @@ def changes_of(value, path: pathlib.Path) -> list[Change]:
     if not isinstance(value, dict):
         raise Fault(Status.USAGE, f"{path} has a value that is no object")
     if isinstance(value.get("type"), str) and isinstance(value.get("object"), dict):
-        found = value["type"], value["object"]
+        change = value["type"], value["object"]
     elif str(value.get("kind", "")).endswith("List") and "items" in value:
-        return [change for it in items(value, "items") for change in changes_of(with_kind(it, value), path)]
+        return [change for it in items(value, "items") for change in changes_of(item_of_list(it, value), path)]
     else:
-        found = "MODIFIED", value
-    key = key_of(found[1])
-    if key is None or found[0] not in ("ADDED", "MODIFIED", "DELETED"):
-        name = f"{found[1].get('kind')} {members(found[1], 'metadata').get('name')}"
+        change = "MODIFIED", value
+    key = key_of(change[1])
+    if key is None or change[0] not in ("ADDED", "MODIFIED", "DELETED"):
+        name = f"{change[1].get('kind')} {members(change[1], 'metadata').get('name')}"
         raise Fault(Status.USAGE, f"{path} has {name}, which is none of the kinds that are read, or no change of an object")
-    return [Change(*found, key)]
+    return [Change(*change, key)]
 
 
-def with_kind(item: dict, listed: dict) -> dict:
+def item_of_list(item: dict, list_value: dict) -> dict:
     """An item of a list, with the kind of the list where it has none."""
-    return {"kind": listed["kind"].removesuffix("List"), "apiVersion": listed.get("apiVersion"), **item}
+    return {"kind": list_value["kind"].removesuffix("List"), "apiVersion": list_value.get("apiVersion"), **item}
 
 
 def read_changes(path: pathlib.Path) -> list[Change]:
@@ -59,10 +59,10 @@ def read_changes(path: pathlib.Path) -> list[Change]:
         values = documents(text) if values is None else values
     except (Unreadable, UnicodeDecodeError) as error:
         raise Fault(Status.USAGE, f"cannot read {path}: {error}") from error
-    found = [change for value in values for change in changes_of(value, path)]
-    if not found:
+    changes = [change for value in values for change in changes_of(value, path)]
+    if not changes:
         raise Fault(Status.USAGE, f"{path} has no object")
-    return found
+    return changes
 
 
 def deletion(word: str) -> Change:

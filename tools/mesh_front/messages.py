@@ -65,13 +65,13 @@ def scalar(text: str):
     """The value that a scalar of protoc's text has: a string, a number, a bool, or the name of an enum's value."""
     if text.startswith('"'):
         parts = re.findall(rb"\\([0-7]{3}|.)|([^\\]+)", text[1:-1].encode())
-        return b"".join(plain or unescaped(code) for code, plain in parts).decode()
+        return b"".join(plain or byte_of_escape(code) for code, plain in parts).decode()
     if text in ("true", "false"):
         return text == "true"
     return int(text) if re.fullmatch(r"-?\d+", text) else text
 
 
-def unescaped(code: bytes) -> bytes:
+def byte_of_escape(code: bytes) -> bytes:
     """The byte that an escape of protoc's text stands for."""
     return bytes([int(code, 8)]) if len(code) == 3 else ESCAPES.get(code, code)
 
@@ -115,13 +115,13 @@ def protoc(mode: str, method: str, data: bytes) -> bytes | None:
 
 def split(text: str) -> list[list[str]]:
     """The rows of each message in protoc's text of several, without their indentation."""
-    found: list[list[str]] = []
+    result: list[list[str]] = []
     for row in text.splitlines():
         if row == "messages {":
-            found.append([])
+            result.append([])
         elif row != "}":
-            found[-1].append(row[2:])
-    return found
+            result[-1].append(row[2:])
+    return result
 
 
 def is_whole(method: str, message: Message) -> bool:
@@ -133,8 +133,8 @@ def is_whole(method: str, message: Message) -> bool:
         return "fully_qualified_name" in names or not names & {"routes", "dst_overrides"}
     if method == "WatchPort":
         return not names or {"protocol", "policy"} <= names
-    wanted = {"service": {"namespace", "name"}, "forward": {"endpoint"}}
-    return len(names) == 1 and all(wanted.get(name, set()) <= message.at(name).names() for name in names)
+    parts = {"service": {"namespace", "name"}, "forward": {"endpoint"}}
+    return len(names) == 1 and all(parts.get(name, set()) <= message.at(name).names() for name in names)
 
 
 def decode_together(method: str, messages: list[bytes]) -> list[list[str]] | None:
@@ -151,9 +151,9 @@ def decode_each(method: str, messages: list[bytes]) -> list[list[str] | None]:
     """The rows of protoc's text of each message, None for one that is not a message of the method."""
     if not messages:
         return []
-    together = decode_together(method, messages)
-    if together is not None or len(messages) == 1:
-        return together or [None]
+    rows = decode_together(method, messages)
+    if rows is not None or len(messages) == 1:
+        return rows or [None]
     half = len(messages) // 2
     return decode_each(method, messages[:half]) + decode_each(method, messages[half:])
 

@@ -5,7 +5,7 @@ import re
 from dataclasses import dataclass
 
 from mesh_front.faults import Fault, Status
-from mesh_front.feed import Held, Key
+from mesh_front.feed import Key, Objects
 from mesh_front.kinds import POD, SERVICE
 
 LABEL = r"[a-z0-9-]+"
@@ -52,18 +52,18 @@ def port_number(digits: str) -> int:
 
 def service_name(word: str) -> ServiceName:
     """The Service of a word `SERVICE[.NS][:PORT]`; a ValueError where it is none."""
-    found = re.fullmatch(rf"({LABEL})(?:\.({LABEL}))?(?::(\d+))?", word)
-    if not found:
+    match = re.fullmatch(rf"({LABEL})(?:\.({LABEL}))?(?::(\d+))?", word)
+    if not match:
         raise ValueError
-    return ServiceName(found[1], found[2] or "default", port_number(found[3]) if found[3] else None)
+    return ServiceName(match[1], match[2] or "default", port_number(match[3]) if match[3] else None)
 
 
 def pod_name(word: str) -> PodName:
     """The Pod of a word `NS/POD`; a ValueError where it is none."""
-    found = re.fullmatch(rf"({LABEL})/({NAME})", word)
-    if not found:
+    match = re.fullmatch(rf"({LABEL})/({NAME})", word)
+    if not match:
         raise ValueError
-    return PodName(found[1], found[2])
+    return PodName(match[1], match[2])
 
 
 def pod_port(word: str) -> PodPort:
@@ -74,30 +74,30 @@ def pod_port(word: str) -> PodPort:
     return PodPort(pod_name(pod), port_number(port))
 
 
-def nearest(name: str, names: list[str]) -> str:
+def nearest_names(name: str, names: list[str]) -> str:
     """The nearest of the names, in a clause for a sentence."""
-    found = difflib.get_close_matches(name, names, n=3, cutoff=0.5)
-    return f"; the nearest: {', '.join(found)}" if found else ""
+    match = difflib.get_close_matches(name, names, n=3, cutoff=0.5)
+    return f"; the nearest: {', '.join(match)}" if match else ""
 
 
-def require_pod(held: Held, pod: PodName) -> Key:
+def require_pod(objects: Objects, pod: PodName) -> Key:
     """The key of a Pod; a Fault where it is not held."""
     key = Key(POD, pod.namespace, pod.name)
-    if key not in held.objects:
-        names = [f"{it.namespace}/{it.name}" for it in held.of(POD)]
-        raise Fault(Status.UNKNOWN, f"there is no Pod {pod} in the feed{nearest(str(pod), names)}")
+    if key not in objects.by_key:
+        names = [f"{it.namespace}/{it.name}" for it in objects.of(POD)]
+        raise Fault(Status.UNKNOWN, f"there is no Pod {pod} in the feed{nearest_names(str(pod), names)}")
     return key
 
 
-def require_service(held: Held, service: ServiceName) -> Key:
+def require_service(objects: Objects, service: ServiceName) -> Key:
     """The key of a Service; a Fault where it, or the port that the words give, is not held."""
     key = Key(SERVICE, service.namespace, service.name)
-    if key not in held.objects:
-        names = [f"{it.name}.{it.namespace}" for it in held.of(SERVICE)]
+    if key not in objects.by_key:
+        names = [f"{it.name}.{it.namespace}" for it in objects.of(SERVICE)]
         word = f"{service.name}.{service.namespace}"
-        raise Fault(Status.UNKNOWN, f"there is no Service {word} in the feed{nearest(word, names)}")
-    ports = held.service_ports(key)
+        raise Fault(Status.UNKNOWN, f"there is no Service {word} in the feed{nearest_names(word, names)}")
+    ports = objects.service_ports(key)
     if service.port and ports and service.port not in ports:
-        listed = ", ".join(map(str, ports))
-        raise Fault(Status.UNKNOWN, f"the Service {service.name}.{service.namespace} has no port {service.port}, but {listed}")
+        port_list = ", ".join(map(str, ports))
+        raise Fault(Status.UNKNOWN, f"the Service {service.name}.{service.namespace} has no port {service.port}, but {port_list}")
     return key

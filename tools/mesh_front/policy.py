@@ -32,22 +32,22 @@ def route_table(routes: list[views.Route]) -> list[str]:
 
 def lines(view: views.Inbound) -> list[str]:
     """The view as people read it."""
-    shown = table(["SERVER", "PROTOCOL", "POLICY"], [[view.server or "none", view.protocol, view.policy]])
+    output = table(["SERVER", "PROTOCOL", "POLICY"], [[view.server or "none", view.protocol, view.policy]])
     if view.server and not view.authorizations:
-        shown += ["", "No authorization applies."]
+        output += ["", "No authorization applies."]
     if view.authorizations:
         rows = [[it.title, scope(it, view), it.where(), str(it.clients)] for it in view.authorizations]
-        shown += ["", *table(["AUTHORIZATION", "FOR", "NETWORKS", "CLIENTS"], rows)]
+        output += ["", *table(["AUTHORIZATION", "FOR", "NETWORKS", "CLIENTS"], rows)]
     if view.routes:
-        shown += ["", *route_table(view.routes)]
-    return shown
+        output += ["", *route_table(view.routes)]
+    return output
 
 
 def run(session: Session, target: PodPort, as_json: bool) -> Status:
     """Shows the Server of a port of a Pod, its policy, its authorizations and its routes."""
 
-    def questions(held, script):
-        require_pod(held, target.pod)
+    def questions(objects, script):
+        require_pod(objects, target.pod)
         return script.view(inbound_query(target))
 
     number, answers = session.ask(questions)

@@ -9,10 +9,10 @@ from dataclasses import dataclass, field
 from typing import Callable, TypeVar
 
 from mesh_front.faults import Fault, Status
-from mesh_front.feed import Feed, Held
+from mesh_front.feed import Feed, Objects
 from mesh_front.messages import Message, decode_each, message_in, tree
 
-Asked = TypeVar("Asked")
+Numbers = TypeVar("Asked")
 
 
 @dataclass(frozen=True)
@@ -45,14 +45,14 @@ class Script:
         self.lines.append(json.dumps(value))
         return self.first + len(self.lines) - 1
 
-    def hold(self, *objects: dict) -> None:
+    def hold(self, *by_key: dict) -> None:
         """Holds objects."""
-        for it in objects:
+        for it in by_key:
             self.events.add(self.add({"type": "MODIFIED", "object": it}))
 
-    def remove(self, *objects: dict) -> None:
+    def remove(self, *by_key: dict) -> None:
         """Removes objects."""
-        for it in objects:
+        for it in by_key:
             self.events.add(self.add({"type": "DELETED", "object": it}))
 
     def view(self, query: Query) -> int:
@@ -73,7 +73,7 @@ class Script:
 class Answers:
     """What a run says: the refused lines, the messages of each view, and the verdicts, by line."""
 
-    refused: dict[int, str]
+    refusals: dict[int, str]
     views: dict[int, list[Message]]
     verdicts: dict[int, str]
 
@@ -86,7 +86,7 @@ class Program:
     """The program linkerd_cli with its configuration."""
 
     def __init__(self, path: pathlib.Path, options: list[str]):
-        self.path, self.options, self.told = path, options, set()
+        self.path, self.options, self.lines_on_error = path, options, set()
 
     def replay(self, lines: list[bytes]) -> list[str]:
         """What `replay` writes for these lines. What it says on standard error is passed on, each line once."""
@@ -95,11 +95,11 @@ class Program:
             source.seek(0)
             status, last = self.run(source, output)
             output.seek(0)
-            written = output.read().decode("utf-8", "surrogateescape").splitlines()
+            output_lines = output.read().decode("utf-8", "surrogateescape").splitlines()
         if status not in (0, 1):
-            kind = Status.NO_TOOL if status == 70 else Status.TOOL_FAILED
-            raise Fault(kind, f"{self.path} replay ended with status {status}: {last or 'it says nothing'}")
-        return written
+            status_kind = Status.NO_TOOL if status == 70 else Status.TOOL_FAILED
+            raise Fault(status_kind, f"{self.path} replay ended with status {status}: {last or 'it says nothing'}")
+        return output_lines
 
     def run(self, source, output) -> tuple[int, str]:
         """Runs `replay`, and answers its status and the last line that it wrote on standard error."""
@@ -109,8 +109,8 @@ class Program:
             with subprocess.Popen(command, stdin=source, stdout=output, stderr=subprocess.PIPE, text=True, errors="replace") as run:
                 for line in run.stderr:
                     last = line.strip()
-                    if line not in self.told:
-                        self.told.add(line)
+                    if line not in self.lines_on_error:
+                        self.lines_on_error.add(line)
                         print(line, end="", file=sys.stderr, flush=True)
         except OSError as error:
             raise Fault(Status.NO_TOOL, f"cannot run {self.path}: {error.strerror}") from error
@@ -119,22 +119,25 @@ class Program:
 
 def answers_in(output: list[str], methods: dict[int, str]) -> Answers:
     """What the lines that `replay` wrote answer to views of these methods."""
-    found = Answers({}, {}, {})
+    answers = Answers({}, {}, {})
     frames: dict[str, list[tuple[int, bytes]]] = {method: [] for method in methods.values()}
     for line in output:
-        word, number, *rest = line.split(" ", 2)
-        if word == "frame":
-            frames[methods[int(number)]].append((int(number), message_in(rest[0]) or b""))
-        elif word == "oversize":
-            raise Fault(Status.TOOL_FAILED, f"a view has a message of {rest[0]} bytes, which the program does not send")
+        word, number, rest = (*line.split(" ", 2), "", "")[:3]
+        message = message_in(rest) if word == "frame" else None
+        if message is not None and int(number) in methods:
+            frames[methods[int(number)]].append((int(number), message))
+        elif word == "refused":
+            answers.refusals[int(number)] = rest
+        elif word == "verdict":
+            answers.verdicts[int(number)] = rest
         else:
-            {"refused": found.refused, "verdict": found.verdicts}[word][int(number)] = rest[0]
-    for method, sent in frames.items():
-        for (number, _), rows in zip(sent, decode_each(method, [message for _, message in sent])):
+            raise Fault(Status.TOOL_FAILED, f"the program wrote a line that answers no question: {line[:80]}")
+    for method, pairs in frames.items():
+        for (number, _), rows in zip(pairs, decode_each(method, [message for _, message in pairs])):
             if rows is None:
                 raise Fault(Status.TOOL_FAILED, f"protoc cannot read a message that answers {method}")
-            found.views.setdefault(number, []).append(tree(rows))
-    return found
+            answers.views.setdefault(number, []).append(tree(rows))
+    return answers
 
 
 class Session:
@@ -142,21 +145,21 @@ class Session:
 
     def __init__(self, feed: Feed, program: Program, domain: str):
         self.feed, self.program, self.domain = feed, program, domain
-        self.refused: dict[int, str] = {}
-        self.held, self.is_known = feed.held(), False
+        self.refusals: dict[int, str] = {}
+        self.objects, self.is_known = feed.objects(), False
 
-    def ask(self, questions: Callable[[Held, Script], Asked]) -> tuple[Asked, Answers]:
+    def ask(self, questions: Callable[[Objects, Script], Numbers]) -> tuple[Numbers, Answers]:
         """Asks questions in one run: `questions` appends them by the names that are held.
 
         Which lines of the feed are refused is known after the first run alone. If others are held than was thought, the
         questions are made again.
         """
         while True:
-            before = self.held
+            previous = self.objects
             try:
                 self.require_objects()
                 script = Script(self.domain, len(self.feed.lines) + 1)
-                asked = questions(self.held, script)
+                numbers = questions(self.objects, script)
             except Fault:
                 if self.is_known:
                     raise
@@ -164,9 +167,9 @@ class Session:
                 continue
             answers = self.replay(script)
             self.learn(answers)
-            if self.held.objects == before.objects:
+            if self.objects.by_key == previous.by_key:
                 self.require_events(script, answers)
-                return asked, answers
+                return numbers, answers
 
     def replay(self, script: Script) -> Answers:
         """Runs the program over the feed and the lines of a script."""
@@ -175,15 +178,15 @@ class Session:
 
     def learn(self, answers: Answers) -> None:
         """Leaves out what the lines that are refused would hold."""
-        self.refused = {number: why for number, why in answers.refused.items() if number <= len(self.feed.lines)}
-        self.held, self.is_known = self.feed.held(self.refused), True
+        self.refusals = {number: why for number, why in answers.refusals.items() if number <= len(self.feed.lines)}
+        self.objects, self.is_known = self.feed.objects(self.refusals), True
 
     def require_events(self, script: Script, answers: Answers) -> None:
         """Raises a Fault where an event that the questions need is refused, as it is where too many objects are held."""
-        for number in script.events & answers.refused.keys():
-            raise Fault(Status.TOOL_FAILED, f"an event that the question needs is refused: {answers.refused[number]}")
+        for number in script.events & answers.refusals.keys():
+            raise Fault(Status.TOOL_FAILED, f"an event that the question needs is refused: {answers.refusals[number]}")
 
     def require_objects(self) -> None:
         """Raises a Fault where the feed holds nothing."""
-        if not self.held.objects:
+        if not self.objects.by_key:
             raise Fault(Status.EMPTY, "the feed holds no object")

@@ -10,6 +10,7 @@ from mesh_front.feed import members
 from mesh_front.kinds import KINDS, Kind
 
 PAGE = 500
+PAGE_MEMBERS = ("continue", "remainingItemCount")
 
 
 class NotFound(Exception):
@@ -28,22 +29,22 @@ class Cluster:
             run = subprocess.run(["kubectl", *self.options, "get", "--raw", path], stdin=subprocess.DEVNULL, capture_output=True)
         except OSError as error:
             raise Fault(Status.NO_TOOL, f"cannot run kubectl: {error.strerror}") from error
-        said = run.stderr.decode(errors="replace").strip()
-        if run.returncode and "(NotFound)" in said:
+        message = run.stderr.decode(errors="replace").strip()
+        if run.returncode and "(NotFound)" in message:
             raise NotFound
         if run.returncode:
-            raise Fault(Status.TOOL_FAILED, f"recording {kind.title} failed: {said or f'kubectl ended with status {run.returncode}'}")
+            raise Fault(Status.TOOL_FAILED, f"recording {kind.title} failed: {message or f'kubectl ended with status {run.returncode}'}")
         return run.stdout
 
     def value(self, path: str, kind: Kind) -> dict:
         """The JSON object at a path."""
         try:
-            found = json.loads(self.get(path, kind))
+            result = json.loads(self.get(path, kind))
         except ValueError:
-            found = None
-        if not isinstance(found, dict):
+            result = None
+        if not isinstance(result, dict):
             raise Fault(Status.TOOL_FAILED, f"recording {kind.title} failed: kubectl printed no JSON object for {path}")
-        return found
+        return result
 
 
 def versions(cluster: Cluster, kind: Kind) -> list[str]:
@@ -53,8 +54,8 @@ def versions(cluster: Cluster, kind: Kind) -> list[str]:
     group = cluster.value(f"/apis/{kind.group}", kind)
     preferred = members(group, "preferredVersion").get("version")
     others = [it.get("version") for it in group.get("versions") or [] if isinstance(it, dict)]
-    served = [version for version in (kind.version, preferred, *others) if version in others]
-    return list(dict.fromkeys(served))
+    served_versions = [version for version in (kind.version, preferred, *others) if version in others]
+    return list(dict.fromkeys(served_versions))
 
 
 def collection(kind: Kind, version: str, namespace: str | None) -> str:
@@ -65,30 +66,31 @@ def collection(kind: Kind, version: str, namespace: str | None) -> str:
 
 def pages(cluster: Cluster, kind: Kind, path: str) -> list[dict]:
     """The pages of a list."""
-    found, more = [], ""
-    while not found or more:
+    all_pages: list[dict] = []
+    more = ""
+    while not all_pages or more:
         query = {"limit": PAGE} | ({"continue": more} if more else {})
         page = cluster.value(f"{path}?{urllib.parse.urlencode(query)}", kind)
         if page.get("kind") != f"{kind.name}List" or not isinstance(page.get("items"), (list, type(None))):
             raise Fault(Status.TOOL_FAILED, f"recording {kind.title} failed: {path} has a {page.get('kind')}, not a {kind.name}List")
-        found.append(page)
+        all_pages.append(page)
         more = members(page, "metadata").get("continue") or ""
-    return found
+    return all_pages
 
 
-def whole_list(found: list[dict]) -> dict:
+def whole_list(parts: list[dict]) -> dict:
     """One list with the items of all."""
-    metadata = {key: value for key, value in members(found[0], "metadata").items() if key not in ("continue", "remainingItemCount")}
-    return {**found[0], "metadata": metadata, "items": [it for page in found for it in page.get("items") or []]}
+    metadata = {key: value for key, value in members(parts[0], "metadata").items() if key not in PAGE_MEMBERS}
+    return {**parts[0], "metadata": metadata, "items": [it for part in parts for it in part.get("items") or []]}
 
 
 def list_of(cluster: Cluster, kind: Kind, namespaces: list[str]) -> dict | None:
     """The list of a kind, or None where the cluster lacks the kind."""
     try:
-        known = versions(cluster, kind)
+        candidates = versions(cluster, kind)
     except NotFound:
-        known = []
-    for version in known:
+        candidates = []
+    for version in candidates:
         try:
             paths = [collection(kind, version, namespace) for namespace in namespaces or [None]]
             return whole_list([page for path in paths for page in pages(cluster, kind, path)])
@@ -103,11 +105,11 @@ def run(cluster: Cluster, namespaces: list[str]) -> Status:
     """Prints a list of each kind, one a line, once all are read."""
     lists = []
     for kind in KINDS:
-        found = list_of(cluster, kind, list(dict.fromkeys(namespaces)))
-        if found is None:
+        result = list_of(cluster, kind, list(dict.fromkeys(namespaces)))
+        if result is None:
             print(f"mesh: left out {kind.title}: the cluster does not have it in the group {kind.group}", file=sys.stderr)
         else:
-            lists.append(found)
-    for found in lists:
-        print(json.dumps(found, separators=(",", ":")))
+            lists.append(result)
+    for result in lists:
+        print(json.dumps(result, separators=(",", ":")))
     return Status.DONE

@@ -140,9 +140,9 @@ def authorization(row: Message, route: str | None) -> Authorization:
     """The authorization of an Authz."""
     networks = [Network(network_text(it.at("net")), list(map(network_text, it.all("except")))) for it in row.all("networks")]
     who = row.at("authentication")
-    listed = who.at("clients")
-    everyone = listed.one("everyone", False)
-    clients = Clients("anyone" in who.names(), "any_tls" in who.names(), everyone, listed.all("identities"), listed.all("suffixes"))
+    clients_by_identity = who.at("clients")
+    everyone = clients_by_identity.one("everyone", False)
+    clients = Clients("anyone" in who.names(), "any_tls" in who.names(), everyone, clients_by_identity.all("identities"), clients_by_identity.all("suffixes"))
     return Authorization(AUTHORIZATIONS[row.one("kind")], row.one("name", ""), networks, clients, route)
 
 

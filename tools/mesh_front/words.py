@@ -122,10 +122,10 @@ def parser() -> Parser:
     words = Parser(prog="mesh", description=ABOUT, epilog=STATUSES, formatter_class=formatter, allow_abbrev=False)
     commands = words.add_subparsers(dest="command", required=True, metavar="COMMAND", parser_class=Parser)
     add_record(commands)
-    shown = add_command(commands, "endpoints", "Shows the endpoints of a Service.", run_endpoints)
-    shown.add_argument("service", type=of_form(service_name, "SERVICE[.NS][:PORT]"), metavar="SERVICE[.NS][:PORT]")
-    inbound = add_command(commands, "policy", "Shows who may connect to a port of a Pod.", run_policy)
-    inbound.add_argument("target", type=of_form(pod_port, "NS/POD:PORT"), metavar="NS/POD:PORT")
+    endpoints_parser = add_command(commands, "endpoints", "Shows the endpoints of a Service.", run_endpoints)
+    endpoints_parser.add_argument("service", type=of_form(service_name, "SERVICE[.NS][:PORT]"), metavar="SERVICE[.NS][:PORT]")
+    policy_parser = add_command(commands, "policy", "Shows who may connect to a port of a Pod.", run_policy)
+    policy_parser.add_argument("target", type=of_form(pod_port, "NS/POD:PORT"), metavar="NS/POD:PORT")
     add_ask(commands)
     add_diff(commands)
     add_command(commands, "check", "Shows what in a feed refers to nothing or is refused.", run_check)
@@ -135,22 +135,22 @@ def parser() -> Parser:
 def session(words: argparse.Namespace) -> Session:
     """The feed and the program that the words name."""
     require_protoc()
-    given = {name: getattr(words, name.replace("-", "_")) for name in CONFIGURATION}
-    options = [f"--{name}={value}" for name, value in given.items() if value is not None]
+    values = {name: getattr(words, name.replace("-", "_")) for name in CONFIGURATION}
+    options = [f"--{name}={value}" for name, value in values.items() if value is not None]
     return Session(Feed(read_bytes(words.feed)), Program(words.program, options), words.cluster_domain or DOMAIN)
 
 
-def answered(words: argparse.Namespace, run: Callable[[Session], Status]) -> Status:
+def answer_over_feed(words: argparse.Namespace, run: Callable[[Session], Status]) -> Status:
     """Runs a question over the feed; where lines of the feed are refused, it is said and the status tells it."""
-    asked = session(words)
+    question_session = session(words)
     try:
-        status = run(asked)
+        status = run(question_session)
     finally:
-        if asked.refused:
-            number, why = next(iter(asked.refused.items()))
-            lines = "1 line is" if len(asked.refused) == 1 else f"{len(asked.refused)} lines are"
+        if question_session.refusals:
+            number, why = next(iter(question_session.refusals.items()))
+            lines = "1 line is" if len(question_session.refusals) == 1 else f"{len(question_session.refusals)} lines are"
             print(f"mesh: {lines} refused; the first is line {number}: {why}", file=sys.stderr)
-    return Status.REFUSED if asked.refused else status
+    return Status.REFUSED if question_session.refusals else status
 
 
 def run_record(words: argparse.Namespace) -> Status:
@@ -160,12 +160,12 @@ def run_record(words: argparse.Namespace) -> Status:
 
 def run_endpoints(words: argparse.Namespace) -> Status:
     """Runs `endpoints`."""
-    return answered(words, lambda asked: endpoints.run(asked, words.service, words.output == "json"))
+    return answer_over_feed(words, lambda it: endpoints.run(it, words.service, words.output == "json"))
 
 
 def run_policy(words: argparse.Namespace) -> Status:
     """Runs `policy`."""
-    return answered(words, lambda asked: policy.run(asked, words.target, words.output == "json"))
+    return answer_over_feed(words, lambda it: policy.run(it, words.target, words.output == "json"))
 
 
 def ask_words(words: argparse.Namespace) -> ask.Words:
@@ -175,15 +175,15 @@ def ask_words(words: argparse.Namespace) -> ask.Words:
     if words.pod and (words.identity or words.tls):
         raise Fault(Status.USAGE, "--identity and --tls go with --client; with --from the identity is that of the Pod")
     http = {"method": words.method, "path": words.path, "host": words.host, "query": words.query, "headers": words.header}
-    given = {name: value for name, value in http.items() if value is not None}
+    values = {name: value for name, value in http.items() if value is not None}
     client = ask.Client(str(words.client), words.identity, words.tls) if words.client else None
-    return ask.Words(words.target, words.pod, client, None if words.no_http else given)
+    return ask.Words(words.target, words.pod, client, None if words.no_http else values)
 
 
 def run_ask(words: argparse.Namespace) -> Status:
     """Runs `ask`."""
     question = ask_words(words)
-    return answered(words, lambda asked: ask.run(asked, question, words.output == "json"))
+    return answer_over_feed(words, lambda it: ask.run(it, question, words.output == "json"))
 
 
 def run_diff(words: argparse.Namespace) -> Status:
@@ -191,7 +191,7 @@ def run_diff(words: argparse.Namespace) -> Status:
     changes = [change for path in words.apply for change in read_changes(path)] + words.delete
     if not changes:
         raise Fault(Status.USAGE, "give --apply FILE or --delete KIND/NS/NAME")
-    return answered(words, lambda asked: diff.run(asked, changes, words.output == "json"))
+    return answer_over_feed(words, lambda it: diff.run(it, changes, words.output == "json"))
 
 
 def run_check(words: argparse.Namespace) -> Status:

@@ -38,13 +38,13 @@ class Row:
 
 def without_comment(text: str) -> str:
     """A line up to its comment."""
-    quoted = None
+    quote = None
     for place, letter in enumerate(text):
-        if quoted:
-            escaped = quoted == '"' and text[place - 1] == "\\" and text[place - 2] != "\\"
-            quoted = None if letter == quoted and not escaped else quoted
+        if quote:
+            is_escaped = quote == '"' and text[place - 1] == "\\" and text[place - 2] != "\\"
+            quote = None if letter == quote and not is_escaped else quote
         elif letter in "'\"" and (place == 0 or text[place - 1] in " [{,:-"):
-            quoted = letter
+            quote = letter
         elif letter == "#" and (place == 0 or text[place - 1] in " \t"):
             return text[:place].rstrip()
     return text.rstrip()
@@ -83,33 +83,33 @@ class Reader:
 
     def sequence(self, indent: int) -> list:
         """The list whose items begin at this indentation."""
-        found = []
+        values = []
         while (row := self.row()) and row.indent == indent and (row.text == "-" or row.text.startswith("- ")):
             rest = row.text[1:].lstrip()
             if not rest:
                 self.at += 1
-                found.append(self.block(indent + 1))
+                values.append(self.block(indent + 1))
             elif rest.startswith("- ") or KEY.match(rest):
                 inner = indent + len(row.text) - len(rest)
                 self.lines[self.at] = row.number, " " * inner + rest
-                found.append(self.block(inner))
+                values.append(self.block(inner))
             else:
                 self.at += 1
-                found.append(self.inline(rest, row.number, indent))
+                values.append(self.inline(rest, row.number, indent))
         self.require_end(indent)
-        return found
+        return values
 
     def mapping(self, indent: int) -> dict:
         """The mapping whose keys begin at this indentation."""
-        found: dict = {}
+        values: dict = {}
         while (row := self.row()) and row.indent == indent and (match := KEY.match(row.text)):
             key, rest = scalar(match[1], row.number), row.text[match.end() :]
-            if not isinstance(key, str) or key in found:
+            if not isinstance(key, str) or key in values:
                 raise Unreadable(row.number, f"the key {match[1]} is not a string, or comes a second time")
             self.at += 1
-            found[key] = self.inline(rest, row.number, indent) if rest else self.under(indent)
+            values[key] = self.inline(rest, row.number, indent) if rest else self.under(indent)
         self.require_end(indent)
-        return found
+        return values
 
     def under(self, indent: int):
         """The value of a key that has nothing on its line: a deeper block, or a list at the same indentation."""
@@ -124,20 +124,20 @@ class Reader:
 
     def literal(self, mark: str, number: int, indent: int) -> str:
         """The string of a literal block."""
-        found: list[str] = []
+        values: list[str] = []
         while self.at < len(self.lines):
             line = self.lines[self.at][1]
             if line.strip() and len(line) - len(line.lstrip(" ")) <= indent:
                 break
-            found.append(line)
+            values.append(line)
             self.at += 1
-        full = [line for line in found if line.strip()]
+        full = [line for line in values if line.strip()]
         if not full:
             raise Unreadable(number, "an empty literal block")
         inner = len(full[0]) - len(full[0].lstrip(" "))
         if any(len(line) - len(line.lstrip(" ")) < inner for line in full):
             raise Unreadable(number, "a literal block whose lines begin before its first")
-        text = "\n".join(line[inner:] for line in found) + "\n"
+        text = "\n".join(line[inner:] for line in values) + "\n"
         return text if mark == "|+" else text.rstrip("\n") + ("" if mark == "|-" else "\n")
 
     def require_end(self, indent: int) -> None:
@@ -167,9 +167,9 @@ class Flow:
         """The value that begins here."""
         letter = self.skip()
         if letter == "[":
-            return self.listed("]", self.value)
+            return self.items_until("]", self.value)
         if letter == "{":
-            pairs = self.listed("}", self.pair)
+            pairs = self.items_until("}", self.pair)
             if len({key for key, _ in pairs}) < len(pairs):
                 self.fail()
             return dict(pairs)
@@ -187,28 +187,28 @@ class Flow:
         self.at += 1
         return key, self.value()
 
-    def listed(self, end: str, item) -> list:
+    def items_until(self, end: str, item) -> list:
         """Items with commas between them, up to the bracket."""
         self.at += 1
-        found: list = []
+        values: list = []
         while self.skip() != end:
-            found.append(item())
+            values.append(item())
             if self.skip() == ",":
                 self.at += 1
             elif self.skip() != end:
                 self.fail()
         self.at += 1
-        return found
+        return values
 
 
 def scalar(text: str, number: int):
     """The value of a string, a number or a word, or of brackets."""
     if text[:1] in ("[", "{"):
         flow = Flow(text, number)
-        found = flow.value()
+        values = flow.value()
         if flow.skip():
             flow.fail()
-        return found
+        return values
     if text[:1] == '"':
         return double_quoted(text, number)
     if text[:1] == "'":
@@ -227,12 +227,12 @@ def scalar(text: str, number: int):
 def double_quoted(text: str, number: int) -> str:
     """The string of a word in double quotes, with the escapes that JSON has."""
     try:
-        found = json.loads(text)
+        values = json.loads(text)
     except ValueError:
-        found = None
-    if not isinstance(found, str):
+        values = None
+    if not isinstance(values, str):
         raise Unreadable(number, f"{text} is not a string with the escapes of JSON on one line")
-    return found
+    return values
 
 
 def documents(text: str) -> list:
@@ -245,12 +245,12 @@ def documents(text: str) -> list:
             raise Unreadable(number, "a directive, or a value behind ---")
         else:
             parts[-1].append((number, line))
-    found = []
+    values = []
     for lines in parts:
         reader = Reader(lines)
         value = reader.block(0)
         row = reader.row()
         if row:
             raise Unreadable(row.number, f"{row.text} goes on with nothing above it")
-        found.append(value)
-    return [it for it in found if it is not None]
+        values.append(value)
+    return [it for it in values if it is not None]

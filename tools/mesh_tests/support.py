@@ -27,7 +27,7 @@ class Run:
 
     status: int
     output: str
-    said: str
+    error_output: str
 
     def json(self):
         """The value of the output."""
@@ -44,7 +44,7 @@ def replay(feed: bytes) -> bytes:
     return subprocess.run([program(), "replay"], input=feed, capture_output=True).stdout
 
 
-def named(kind: str, name: str, spec: dict | None = None, api: str = f"{POLICY}/v1beta3", labels: dict | None = None) -> dict:
+def new_object(kind: str, name: str, spec: dict | None = None, api: str = f"{POLICY}/v1beta3", labels: dict | None = None) -> dict:
     """An object in the namespace `shop`."""
     metadata = {"name": name, "namespace": "shop", "labels": labels or {}}
     return {"apiVersion": api, "kind": kind, "metadata": metadata, "spec": spec or {}}
@@ -59,22 +59,22 @@ def pod(name: str, app: str, address: str, *ports: int, is_meshed: bool = True) 
     """A Pod with a label `app`, the account of that name, and containers with these ports."""
     labels = {"app": app} | ({"linkerd.io/control-plane-ns": "linkerd"} if is_meshed else {})
     containers = [{"name": "c", "ports": [{"containerPort": port} for port in ports]}]
-    value = named("Pod", name, {"serviceAccountName": app, "containers": containers}, "v1", labels)
+    value = new_object("Pod", name, {"serviceAccountName": app, "containers": containers}, "v1", labels)
     return {**value, "status": {"podIP": address}}
 
 
 def server(name: str, app: str, port: int, **spec) -> dict:
     """A Server for the Pods with a label `app`."""
-    return named("Server", name, {"podSelector": {"matchLabels": {"app": app}}, "port": port, **spec})
+    return new_object("Server", name, {"podSelector": {"matchLabels": {"app": app}}, "port": port, **spec})
 
 
 def policy(name: str, target: dict, *references: dict) -> dict:
     """An AuthorizationPolicy."""
     spec = {"targetRef": target, "requiredAuthenticationRefs": list(references)}
-    return named("AuthorizationPolicy", name, spec, f"{POLICY}/v1alpha1")
+    return new_object("AuthorizationPolicy", name, spec, f"{POLICY}/v1alpha1")
 
 
-def added(*objects: dict) -> bytes:
+def feed_of(*objects: dict) -> bytes:
     """A feed that holds the objects."""
     return b"".join(json.dumps({"type": "ADDED", "object": it}).encode() + b"\n" for it in objects)
 
@@ -97,13 +97,13 @@ class Case(unittest.TestCase):
 
     def run_mesh(self, *words) -> Run:
         """Runs `tools/mesh` in this process."""
-        output, said = io.StringIO(), io.StringIO()
-        with contextlib.redirect_stdout(output), contextlib.redirect_stderr(said):
+        output, error_output = io.StringIO(), io.StringIO()
+        with contextlib.redirect_stdout(output), contextlib.redirect_stderr(error_output):
             try:
                 status = main([str(word) for word in words])
             except SystemExit as end:
                 status = end.code
-        return Run(status, output.getvalue(), said.getvalue())
+        return Run(status, output.getvalue(), error_output.getvalue())
 
     def mesh(self, command: str, feed, *words) -> Run:
         """Runs a command of `tools/mesh` over a feed: an example, or bytes."""
@@ -116,7 +116,7 @@ class Case(unittest.TestCase):
         run = subprocess.run(command, input=text, capture_output=True, text=True)
         return Run(run.returncode, run.stdout, run.stderr)
 
-    def require(self, run: Run, status: int, output: str = "", said: str = "") -> None:
+    def require(self, run: Run, status: int, output: str = "", error_output: str = "") -> None:
         """Compares how a run ended and all that it wrote."""
-        wanted = Run(status, textwrap.dedent(output).lstrip("\n"), textwrap.dedent(said).lstrip("\n"))
-        self.assertEqual(vars(wanted), vars(run))
+        expected = Run(status, textwrap.dedent(output).lstrip("\n"), textwrap.dedent(error_output).lstrip("\n"))
+        self.assertEqual(vars(expected), vars(run))

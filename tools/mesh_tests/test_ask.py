@@ -1,6 +1,6 @@
 """`mesh ask`."""
 
-from mesh_tests.support import IDENTITIES, Case, added, named, pod, policy, reference, server
+from mesh_tests.support import IDENTITIES, Case, feed_of, new_object, pod, policy, reference, server
 
 OPERATOR = f"cli.ops.{IDENTITIES}"
 GATEWAY = f"gateway.edge.{IDENTITIES}"
@@ -117,11 +117,11 @@ class Ask(Case):
 
     def test_an_authorization_that_admits_nobody(self):
         """A NetworkAuthentication without networks admits from nowhere, a MeshTLSAuthentication without identities nobody."""
-        feed = added(
+        feed = feed_of(
             pod("a-1", "a", "10.0.0.1", 80),
             server("a", "a", 80),
-            named("NetworkAuthentication", "none"),
-            named("MeshTLSAuthentication", "none"),
+            new_object("NetworkAuthentication", "none"),
+            new_object("MeshTLSAuthentication", "none"),
             policy("from-nowhere", reference("Server", "a"), reference("NetworkAuthentication", "none")),
             policy("of-nobody", reference("Server", "a"), reference("MeshTLSAuthentication", "none")),
         )
@@ -140,7 +140,7 @@ class Ask(Case):
     def test_tls_without_an_identity(self):
         """`unauthenticatedTLS` admits a client with TLS; without TLS that part is missing."""
         spec = {"server": {"name": "a"}, "client": {"meshTLS": {"unauthenticatedTLS": True}}}
-        feed = added(pod("a-1", "a", "10.0.0.1", 80), server("a", "a", 80), named("ServerAuthorization", "tls", spec))
+        feed = feed_of(pod("a-1", "a", "10.0.0.1", 80), server("a", "a", 80), new_object("ServerAuthorization", "tls", spec))
         self.assertEqual(0, self.ask(feed, "shop/a-1:80", "--client", "10.0.0.9", "--tls").status)
         run = self.ask(feed, "shop/a-1:80", "--client", "10.0.0.9")
         self.assertIn("ServerAuthorization/tls   Server/a   admits    needs any client with TLS\n", run.output)
@@ -149,21 +149,21 @@ class Ask(Case):
         """The route matches a request with all parts, and none without one of them."""
         match = {"method": "PUT", "headers": [{"name": "x-a", "value": "1"}], "queryParams": [{"name": "q", "value": "2"}]}
         spec = {"parentRefs": [reference("Server", "a")], "hostnames": ["a.example"], "rules": [{"matches": [match]}]}
-        opened = server("a", "a", 80, accessPolicy="all-unauthenticated", proxyProtocol="HTTP/1")
-        feed = added(pod("a-1", "a", "10.0.0.1", 80), opened, named("HTTPRoute", "r", spec))
+        open_server = server("a", "a", 80, accessPolicy="all-unauthenticated", proxyProtocol="HTTP/1")
+        feed = feed_of(pod("a-1", "a", "10.0.0.1", 80), open_server, new_object("HTTPRoute", "r", spec))
         parts = ["--method=PUT", "--header=x-a=1", "--query=q=2", "--host=a.example"]
         run = self.ask(feed, "shop/a-1:80", "--client=10.0.0.9", *parts)
         self.assertEqual(0, run.status)
         self.assertIn("REQUEST  PUT /?q=2 of the host a.example to shop/a-1:80\n", run.output)
         for part in parts:
-            left = [it for it in parts if it != part]
-            self.assertEqual(1, self.ask(feed, "shop/a-1:80", "--client=10.0.0.9", *left).status, part)
+            reader = [it for it in parts if it != part]
+            self.assertEqual(1, self.ask(feed, "shop/a-1:80", "--client=10.0.0.9", *reader).status, part)
 
     def test_a_regular_expression_that_is_refused(self):
         """The simulation is refused, and there is no verdict."""
         match = {"path": {"type": "RegularExpression", "value": "("}}
-        route = named("HTTPRoute", "r", {"parentRefs": [reference("Server", "a")], "rules": [{"matches": [match]}]})
-        feed = added(pod("a-1", "a", "10.0.0.1", 80), server("a", "a", 80, proxyProtocol="HTTP/1"), route)
+        route = new_object("HTTPRoute", "r", {"parentRefs": [reference("Server", "a")], "rules": [{"matches": [match]}]})
+        feed = feed_of(pod("a-1", "a", "10.0.0.1", 80), server("a", "a", 80, proxyProtocol="HTTP/1"), route)
         run = self.ask(feed, "shop/a-1:80", "--client", "10.0.0.9")
         self.require(run, 7, "", "mesh: the simulation is refused: Pattern shop/r 0 0\n")
 

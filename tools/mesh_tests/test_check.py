@@ -1,6 +1,6 @@
 """`mesh check`."""
 
-from mesh_tests.support import Case, added, named, pod, policy, reference, server
+from mesh_tests.support import Case, feed_of, new_object, pod, policy, reference, server
 
 
 class Check(Case):
@@ -32,7 +32,7 @@ class Check(Case):
 
     def test_a_server_behind_others(self):
         """Both ports have `a` and `b` behind it; `c`, which never counts, selects a port, and `d` selects none."""
-        feed = added(
+        feed = feed_of(
             pod("x-1", "x", "10.0.0.1", 80),
             *(server(name, "x", 80) for name in "abc"),
             server("d", "x", 80, podSelector={"matchLabels": {"app": "y"}}),
@@ -45,16 +45,16 @@ class Check(Case):
 
     def test_a_port_that_no_container_names(self):
         """A Server may have the number of a port that no container names."""
-        feed = added(pod("x-1", "x", "10.0.0.1"), server("a", "x", 81))
+        feed = feed_of(pod("x-1", "x", "10.0.0.1"), server("a", "x", 81))
         self.require(self.mesh("check", feed), 0, "no problem found\n")
 
     def test_policies_that_apply_to_nothing(self):
         """A route without a Server, a Server of another namespace, and a kind that no policy applies to."""
-        route = named("HTTPRoute", "r", {"parentRefs": [{"group": "", "kind": "Service", "name": "s"}]})
+        route = new_object("HTTPRoute", "r", {"parentRefs": [{"group": "", "kind": "Service", "name": "s"}]})
         elsewhere = server("e", "x", 80)
         elsewhere["metadata"]["namespace"] = "other"
-        feed = added(
-            named("Service", "s", {"ports": [{"port": 80}]}, "v1"),
+        feed = feed_of(
+            new_object("Service", "s", {"ports": [{"port": 80}]}, "v1"),
             route,
             elsewhere,
             policy("of-route", reference("HTTPRoute", "r")),
@@ -73,7 +73,7 @@ class Check(Case):
 
     def test_references_of_another_kind(self):
         """A policy can refer to authentications and ServiceAccounts alone."""
-        feed = added(
+        feed = feed_of(
             pod("a-1", "a", "10.0.0.1", 80),
             server("a", "a", 80),
             policy("secret", reference("Server", "a"), {"kind": "Secret", "name": "s"}),

@@ -33,9 +33,9 @@ class Decode(Case):
 
     def test_each_message_fits_its_method_alone(self):
         """The shortest messages of each method, and all that the examples give."""
-        wanted = {"Get": [ADD, REMOVE, NO_ENDPOINTS, field(3)], "GetProfile": [PROFILE, b"\x20\x01"], "WatchPort": [SERVER]}
-        wanted["Watch"] = [ABSENT, FORWARD, SERVICE]
-        for method, messages in wanted.items():
+        expected = {"Get": [ADD, REMOVE, NO_ENDPOINTS, field(3)], "GetProfile": [PROFILE, b"\x20\x01"], "WatchPort": [SERVER]}
+        expected["Watch"] = [ABSENT, FORWARD, SERVICE]
+        for method, messages in expected.items():
             for message, other in itertools.product(messages, METHODS):
                 self.assertEqual(other == method, decode_each(other, [message]) != [None], (message, other))
         for name in ("changes", "profile", "policy", "recorded", "configured"):

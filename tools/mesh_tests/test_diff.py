@@ -2,9 +2,9 @@
 
 import json
 
-from mesh_tests.support import EXAMPLES, IDENTITIES, Case, added, pod, server
+from mesh_tests.support import EXAMPLES, IDENTITIES, Case, feed_of, pod, server
 
-OPENED = (EXAMPLES / "open-server.yaml").read_bytes()
+OPEN_SERVER = (EXAMPLES / "open-server.yaml").read_bytes()
 
 
 class Diff(Case):
@@ -16,7 +16,7 @@ class Diff(Case):
 
     def test_a_policy_of_a_server(self):
         """The port of the Pod has another policy; the three views of the Service stay."""
-        self.require(self.diff("policy.jsonl", OPENED), 1, """
+        self.require(self.diff("policy.jsonl", OPEN_SERVER), 1, """
             inbound policy of Pod app/web-1:8080
             - policy deny
             + policy all-unauthenticated
@@ -26,23 +26,23 @@ class Diff(Case):
 
     def test_nothing_changes(self):
         """The Server as it is in the feed."""
-        data = OPENED.replace(b"  accessPolicy: all-unauthenticated\n", b"")
+        data = OPEN_SERVER.replace(b"  accessPolicy: all-unauthenticated\n", b"")
         self.require(self.diff("policy.jsonl", data), 0, "views that change: 0 of 4\n")
 
     def test_objects_that_are_removed(self):
         """Without its Service there are no endpoints and no routes; without its authorization the gateway is not admitted."""
         words = ["--delete", "AuthorizationPolicy/app/from-gateway", "--delete", "Service/app/web", "-o", "json"]
         run = self.mesh("diff", "policy.jsonl", *words)
-        found = {it["view"]: it for it in run.json()}
+        views = {it["view"]: it for it in run.json()}
         self.assertEqual(1, run.status)
-        wanted = ["inbound policy of Pod app/web-1:8080", "endpoints of Service web.app:80", "outbound policy of Service web.app:80"]
-        self.assertEqual(wanted, list(found))
-        rows = found[wanted[0]]
+        expected = ["inbound policy of Pod app/web-1:8080", "endpoints of Service web.app:80", "outbound policy of Service web.app:80"]
+        self.assertEqual(expected, list(views))
+        rows = views[expected[0]]
         gone = f"AuthorizationPolicy/from-gateway for Server/web: networks 10.0.0.0/8 except 10.9.0.0/16, clients gateway.edge.{IDENTITIES}"
         self.assertEqual([gone], [row for row in rows["before"] if row not in rows["after"]])
-        self.assertEqual(["the Service exists and has no endpoints"], found[wanted[1]]["before"])
-        self.assertEqual(["the Service does not exist"], found[wanted[1]]["after"])
-        self.assertEqual(["absent"], found[wanted[2]]["after"])
+        self.assertEqual(["the Service exists and has no endpoints"], views[expected[1]]["before"])
+        self.assertEqual(["the Service does not exist"], views[expected[1]]["after"])
+        self.assertEqual(["absent"], views[expected[2]]["after"])
 
     def test_a_new_pod(self):
         """A Pod that comes is told with its port, and so is the row of an endpoint that it gets."""
@@ -63,11 +63,11 @@ class Diff(Case):
 
     def test_a_list_and_a_deletion(self):
         """Items of a list have its kind; an event removes an object."""
-        feed = added(pod("a-1", "a", "10.0.0.1", 80))
+        feed = feed_of(pod("a-1", "a", "10.0.0.1", 80))
         first, second = server("a", "a", 80), server("b", "a", 80)
         items = [{name: value for name, value in it.items() if name not in ("kind", "apiVersion")} for it in (first, second)]
-        listed = {"kind": "ServerList", "apiVersion": "policy.linkerd.io/v1beta3", "items": items}
-        self.require(self.diff(feed, json.dumps(listed, indent=2).encode()), 1, """
+        list_page = {"kind": "ServerList", "apiVersion": "policy.linkerd.io/v1beta3", "items": items}
+        self.require(self.diff(feed, json.dumps(list_page, indent=2).encode()), 1, """
             inbound policy of Pod shop/a-1:80
             - server none
             + server a
@@ -77,7 +77,7 @@ class Diff(Case):
             views that change: 1 of 1
         """)
         event = {"type": "DELETED", "object": first}
-        self.require(self.diff(feed + added(first, second), json.dumps(event).encode()), 1, """
+        self.require(self.diff(feed + feed_of(first, second), json.dumps(event).encode()), 1, """
             inbound policy of Pod shop/a-1:80
             - server a
             + server b
@@ -87,9 +87,9 @@ class Diff(Case):
 
     def test_a_change_that_is_refused(self):
         """The program refuses a misspelt policy, and its fault is told."""
-        run = self.diff("policy.jsonl", OPENED.replace(b"all-unauthenticated", b"open"))
-        said = "mesh: the change of Server app/web is refused: BadValue object.spec.accessPolicy Choice\n"
-        self.require(run, 7, "", said)
+        run = self.diff("policy.jsonl", OPEN_SERVER.replace(b"all-unauthenticated", b"open"))
+        error_output = "mesh: the change of Server app/web is refused: BadValue object.spec.accessPolicy Choice\n"
+        self.require(run, 7, "", error_output)
 
     def test_wrong_files(self):
         """A file that is no YAML, one of another kind, one that is not there, and none."""

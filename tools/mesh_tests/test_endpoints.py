@@ -49,17 +49,17 @@ class Endpoints(Case):
 
     def test_what_kubernetes_own_controller_found(self):
         """The ready addresses that examples/README.md has from the Endpoints objects."""
-        wanted = {
+        expected = {
             "web": [41, 53, 88, 95, 109, 113],
             "api": [26, 35, 47, 64, 72, 86, 99, 103, 116],
             "db": [82, 107],
             "cart": [38, 73, 85, 110, 115],
         }
-        for name, ends in wanted.items():
+        for name, ends in expected.items():
             run = self.mesh("endpoints", "recorded.jsonl", f"{name}.gamma:80", "-o", "json")
             [port] = run.json()
-            found = [(it["address"], it["port"]) for it in port["endpoints"]]
-            self.assertEqual([(f"10.42.0.{end}", 8080) for end in ends], found)
+            rows = [(it["address"], it["port"]) for it in port["endpoints"]]
+            self.assertEqual([(f"10.42.0.{end}", 8080) for end in ends], rows)
 
     def test_an_external_name(self):
         """An ExternalName is held and counts as not existing."""

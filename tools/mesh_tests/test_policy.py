@@ -1,6 +1,6 @@
 """`mesh policy`."""
 
-from mesh_tests.support import IDENTITIES, Case, added, named, pod, server
+from mesh_tests.support import IDENTITIES, Case, feed_of, new_object, pod, server
 
 
 class Policy(Case):
@@ -30,7 +30,7 @@ class Policy(Case):
 
     def test_a_server_that_nobody_may_connect_to(self):
         """A Server that names no policy denies; its protocol is unknown unless it says one."""
-        feed = added(pod("a-1", "a", "10.0.0.1", 80), server("a", "a", 80))
+        feed = feed_of(pod("a-1", "a", "10.0.0.1", 80), server("a", "a", 80))
         self.require(self.mesh("policy", feed, "shop/a-1:80"), 0, """
             SERVER   PROTOCOL   POLICY
             a        unknown    deny
@@ -41,7 +41,7 @@ class Policy(Case):
     def test_clients_of_a_server_authorization(self):
         """A network with an exception, any client with TLS, and a route that asks for a method, a header and a parameter."""
         client = {"networks": [{"cidr": "fd00::/8", "except": ["fd00::5"]}], "meshTLS": {"unauthenticatedTLS": True}}
-        authorization = named("ServerAuthorization", "tls", {"server": {"name": "a"}, "client": client})
+        authorization = new_object("ServerAuthorization", "tls", {"server": {"name": "a"}, "client": client})
         match = {
             "method": "GET",
             "path": {"type": "Exact", "value": "/x"},
@@ -49,8 +49,8 @@ class Policy(Case):
             "queryParams": [{"type": "RegularExpression", "name": "q", "value": "[0-9]"}],
         }
         parent = {"group": "policy.linkerd.io", "kind": "Server", "name": "a"}
-        route = named("HTTPRoute", "r", {"parentRefs": [parent], "hostnames": ["a.example"], "rules": [{"matches": [match]}]})
-        feed = added(pod("a-1", "a", "10.0.0.1", 80), server("a", "a", 80, proxyProtocol="HTTP/2"), authorization, route)
+        route = new_object("HTTPRoute", "r", {"parentRefs": [parent], "hostnames": ["a.example"], "rules": [{"matches": [match]}]})
+        feed = feed_of(pod("a-1", "a", "10.0.0.1", 80), server("a", "a", 80, proxyProtocol="HTTP/2"), authorization, route)
         self.require(self.mesh("policy", feed, "shop/a-1:80"), 0, """
             SERVER   PROTOCOL   POLICY
             a        HTTP/2     deny

@@ -19,7 +19,7 @@ print(json.dumps(answer))
 """
 
 
-def listed(kind: str, *names: str, more: str = "") -> dict:
+def list_page(kind: str, *names: str, more: str = "") -> dict:
     """A page of a list."""
     metadata = {"resourceVersion": "7"} | ({"continue": more, "remainingItemCount": 1} if more else {})
     return {"kind": f"{kind}List", "apiVersion": "v1", "metadata": metadata, "items": [{"metadata": {"name": it}} for it in names]}
@@ -50,32 +50,32 @@ class Record(Case):
         """The Services come in two pages; there is no Linkerd, and EndpointSlice has an older version."""
         groups = {"versions": [{"version": "v1beta1"}], "preferredVersion": {"version": "v1beta1"}}
         run = self.record({
-            "/api/v1/services?limit=500": listed("Service", "a", more="x y"),
-            "/api/v1/services?limit=500&continue=x+y": listed("Service", "b"),
-            "/api/v1/pods?limit=500": listed("Pod"),
+            "/api/v1/services?limit=500": list_page("Service", "a", more="x y"),
+            "/api/v1/services?limit=500&continue=x+y": list_page("Service", "b"),
+            "/api/v1/pods?limit=500": list_page("Pod"),
             "/apis/discovery.k8s.io": groups,
-            "/apis/discovery.k8s.io/v1beta1/endpointslices?limit=500": listed("EndpointSlice", "c"),
+            "/apis/discovery.k8s.io/v1beta1/endpointslices?limit=500": list_page("EndpointSlice", "c"),
         })
-        wanted = [listed("Service", "a", "b"), listed("Pod"), listed("EndpointSlice", "c")]
-        self.assertEqual(wanted, list(map(json.loads, run.output.splitlines())))
-        self.assertEqual((0, self.left_out(*self.policies())), (run.status, run.said))
+        expected = [list_page("Service", "a", "b"), list_page("Pod"), list_page("EndpointSlice", "c")]
+        self.assertEqual(expected, list(map(json.loads, run.output.splitlines())))
+        self.assertEqual((0, self.left_out(*self.policies())), (run.status, run.error_output))
 
     def test_single_namespaces(self):
         """Two namespaces make one list of a kind, also where one is named twice. The context goes to kubectl."""
         run = self.record({
-            "--context c /api/v1/namespaces/x/services?limit=500": listed("Service", "a"),
-            "--context c /api/v1/namespaces/y/services?limit=500": listed("Service", "b"),
-            "--context c /api/v1/namespaces/x/pods?limit=500": listed("Pod", "p"),
-            "--context c /api/v1/namespaces/y/pods?limit=500": listed("Pod"),
+            "--context c /api/v1/namespaces/x/services?limit=500": list_page("Service", "a"),
+            "--context c /api/v1/namespaces/y/services?limit=500": list_page("Service", "b"),
+            "--context c /api/v1/namespaces/x/pods?limit=500": list_page("Pod", "p"),
+            "--context c /api/v1/namespaces/y/pods?limit=500": list_page("Pod"),
         }, "-n", "x", "-n", "y", "-n", "x", "--context", "c")
-        wanted = [listed("Service", "a", "b"), listed("Pod", "p")]
-        self.assertEqual(wanted, list(map(json.loads, run.output.splitlines())))
-        self.assertEqual((0, self.left_out("EndpointSlice discovery.k8s.io", *self.policies())), (run.status, run.said))
+        expected = [list_page("Service", "a", "b"), list_page("Pod", "p")]
+        self.assertEqual(expected, list(map(json.loads, run.output.splitlines())))
+        self.assertEqual((0, self.left_out("EndpointSlice discovery.k8s.io", *self.policies())), (run.status, run.error_output))
 
     def test_the_first_failure_ends_it(self):
         """Nothing is printed, and the kind is named."""
         run = self.record({
-            "/api/v1/services?limit=500": listed("Service", "a"),
+            "/api/v1/services?limit=500": list_page("Service", "a"),
             "/api/v1/pods?limit=500": "Error from server (Forbidden): pods is forbidden",
         })
         self.require(run, 6, "", "mesh: recording Pod failed: Error from server (Forbidden): pods is forbidden\n")

@@ -14,10 +14,10 @@ class Recordings(Case):
 
     def test_endpoints(self):
         """Each Service of the recording has the addresses, ports and Pods of its Endpoints object."""
-        listed = json.loads((RECORDINGS / "endpoints.json").read_text())["items"]
-        for value in listed:
+        list_page = json.loads((RECORDINGS / "endpoints.json").read_text())["items"]
+        for value in list_page:
             metadata = value["metadata"]
-            wanted = {
+            expected = {
                 (address["ip"], port["port"], address["targetRef"]["name"])
                 for part in value.get("subsets", [])
                 for port in part.get("ports", [])
@@ -25,7 +25,7 @@ class Recordings(Case):
             }
             run = self.mesh("endpoints", LISTS.read_bytes(), f"{metadata['name']}.{metadata['namespace']}", "-o", "json")
             rows = [row for port in run.json() for row in port["endpoints"]]
-            self.assertEqual(wanted, {(row["address"], row["port"], row["pod"]) for row in rows}, metadata)
+            self.assertEqual(expected, {(row["address"], row["port"], row["pod"]) for row in rows}, metadata)
             self.assertEqual(0, run.status)
 
     def test_events_and_lists(self):
@@ -40,7 +40,7 @@ class Recordings(Case):
     def test_a_request(self):
         """`anyone` admits everyone to the Server; `web-get` needs a client of `alpha` or the account `cart`; both match GET alone."""
         words = ["gamma/web-61:8080", "--from", "gamma/cart-193"]
-        allowed = self.mesh("ask", LISTS.read_bytes(), *words, "-o", "json").json()
-        self.assertEqual("allowed ServerAuthorization gamma/anyone", allowed["verdict"])
-        self.assertEqual([True, True], [it["admits"] for it in allowed["reasons"]])
+        answer = self.mesh("ask", LISTS.read_bytes(), *words, "-o", "json").json()
+        self.assertEqual("allowed ServerAuthorization gamma/anyone", answer["verdict"])
+        self.assertEqual([True, True], [it["admits"] for it in answer["reasons"]])
         self.assertEqual("not-found", self.mesh("ask", LISTS.read_bytes(), *words, "--method=POST", "-o", "json").json()["verdict"])

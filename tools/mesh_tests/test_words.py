@@ -22,7 +22,7 @@ class Words(Case):
         self.assertEqual(2, run.status)
         run = self.run_mesh("check", "--fed", "x")
         self.require(run, 2, "", "mesh: unrecognized arguments: --fed x; mesh --help tells more\n")
-        self.assertIn("invalid choice: 'endpoint'", self.run_mesh("endpoint").said)
+        self.assertIn("invalid choice: 'endpoint'", self.run_mesh("endpoint").error_output)
 
     def test_help(self):
         """Each command has it, with the exit statuses."""
@@ -33,13 +33,13 @@ class Words(Case):
 
     def test_an_empty_feed(self):
         """An empty file, and one without any line that is read."""
-        said = "mesh: the feed holds no object\n"
-        self.require(self.mesh("endpoints", b"", "web.app"), 4, "", said)
-        self.require(self.mesh("check", b"\n\n"), 4, "", said)
+        error_output = "mesh: the feed holds no object\n"
+        self.require(self.mesh("endpoints", b"", "web.app"), 4, "", error_output)
+        self.require(self.mesh("check", b"\n\n"), 4, "", error_output)
         indented = json.dumps(json.loads((EXAMPLES / "first.jsonl").read_text().splitlines()[0]), indent=1).encode()
         run = self.mesh("endpoints", indented, "api.gamma")
         self.assertEqual((4, ""), (run.status, run.output))
-        self.assertRegex(run.said, r"mesh: \d+ lines are refused; the first is line 1: NotJson\n")
+        self.assertRegex(run.error_output, r"mesh: \d+ lines are refused; the first is line 1: NotJson\n")
 
     def test_subscriptions_of_the_feed(self):
         """Lines of control do not count: neither ids nor verdicts of the feed are taken for answers."""
@@ -50,10 +50,10 @@ class Words(Case):
         feed = EXAMPLES / "first.jsonl"
         run = self.run_mesh("check", "--program", self.room / "none", "--feed", feed)
         self.require(run, 5, "", f"mesh: cannot run {self.room}/none: No such file or directory\n")
-        failing = self.file("failing", b"#!/bin/sh\necho 'out of memory' >&2\nexit 3\n")
-        failing.chmod(0o755)
-        run = self.run_mesh("check", "--program", failing, "--feed", feed)
-        self.require(run, 6, "", f"out of memory\nmesh: {failing} replay ended with status 3: out of memory\n")
+        failing_program = self.file("failing", b"#!/bin/sh\necho 'out of memory' >&2\nexit 3\n")
+        failing_program.chmod(0o755)
+        run = self.run_mesh("check", "--program", failing_program, "--feed", feed)
+        self.require(run, 6, "", f"out of memory\nmesh: {failing_program} replay ended with status 3: out of memory\n")
 
     def test_an_event_that_the_question_needs(self):
         """Where too many objects are held, the made-up ones are refused, and there is no answer."""
@@ -71,7 +71,7 @@ class Words(Case):
         """The program names what is wrong; its status is told."""
         run = self.mesh("check", "first.jsonl", "--default-policy", "open")
         self.assertEqual((6, ""), (run.status, run.output))
-        self.assertIn("replay ended with status 2", run.said)
+        self.assertIn("replay ended with status 2", run.error_output)
 
     def test_standard_input_and_a_reader_that_leaves(self):
         """The feed is read from standard input; where the reader of the output leaves, the status is 141."""
@@ -80,9 +80,9 @@ class Words(Case):
         run = subprocess.run(words, input=feed, capture_output=True)
         self.assertEqual((0, b""), (run.returncode, run.stderr))
         self.assertTrue(run.stdout.endswith(b"80             10.42.0.20   8080   -     -         -        -\n"))
-        with subprocess.Popen(words, stdin=subprocess.PIPE, stdout=subprocess.PIPE, stderr=subprocess.PIPE) as left:
-            left.stdout.close()
-            left.stdin.write(feed)
-            left.stdin.close()
-            self.assertEqual(b"", left.stderr.read())
-        self.assertEqual(141, left.returncode)
+        with subprocess.Popen(words, stdin=subprocess.PIPE, stdout=subprocess.PIPE, stderr=subprocess.PIPE) as reader:
+            reader.stdout.close()
+            reader.stdin.write(feed)
+            reader.stdin.close()
+            self.assertEqual(b"", reader.stderr.read())
+        self.assertEqual(141, reader.returncode)
