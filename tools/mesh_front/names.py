@@ -99,5 +99,5 @@ def require_service(objects: Objects, service: ServiceName) -> Key:
     ports = objects.service_ports(key)
     if service.port and ports and service.port not in ports:
         port_list = ", ".join(map(str, ports))
-        raise Fault(Status.UNKNOWN, f"the Service {service.name}.{service.namespace} has no port {service.port}, but {port_list}")
+        raise Fault(Status.UNKNOWN, f"the Service {service.name}.{service.namespace} has no port {service.port}; it has {port_list}")
     return key

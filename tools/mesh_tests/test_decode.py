@@ -79,7 +79,7 @@ class Decode(Case):
         """The words decide, and the bytes are refused."""
         self.require(self.decode(frame(SERVER), "1=Get"), 1, """
             frame 1
-              protoc finds no message that answers the method
+              protoc finds no message of the method
         """)
 
     def test_what_protoc_would_accept(self):
@@ -105,7 +105,7 @@ class Decode(Case):
         texts = [frame(REMOVE) for _ in range(9)]
         texts[0] = texts[4] = frame(b"\x20\x01\x20\x01")
         shown = self.decode("".join(texts)).output.split("frame 1\n")[1:]
-        self.assertEqual([0, 4], [place for place, rows in enumerate(shown) if rows == "  protoc finds no message that answers the method\n"])
+        self.assertEqual([0, 4], [place for place, rows in enumerate(shown) if rows == "  protoc finds no message of the method\n"])
         self.assertIsNone(message_in("00"))
 
     def test_wrong_words(self):

@@ -75,7 +75,7 @@ class Endpoints(Case):
         run = self.mesh("endpoints", "recorded.jsonl", "wbe.gamma")
         self.require(run, 3, "", "mesh: there is no Service wbe.gamma in the feed; the nearest: web.gamma, db.gamma, ext.gamma\n")
         run = self.mesh("endpoints", "first.jsonl", "api.gamma:81")
-        self.require(run, 3, "", "mesh: the Service api.gamma has no port 81, but 80, 9990\n")
+        self.require(run, 3, "", "mesh: the Service api.gamma has no port 81; it has 80, 9990\n")
 
     def test_a_removed_service(self):
         """The last line of the feed removes the only Service."""
