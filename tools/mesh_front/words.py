@@ -123,7 +123,9 @@ def parser() -> Parser:
     commands = words.add_subparsers(dest="command", required=True, metavar="COMMAND", parser_class=Parser)
     add_record(commands)
     endpoints_parser = add_command(commands, "endpoints", "Shows the endpoints of a Service.", run_endpoints)
-    endpoints_parser.add_argument("service", type=of_form(service_name, "SERVICE[.NS][:PORT]"), metavar="SERVICE[.NS][:PORT]")
+    form = "SERVICE[.NS][:PORT]"
+    service = "NS is default unless it is given; without PORT the endpoints of each port are shown"
+    endpoints_parser.add_argument("service", type=of_form(service_name, form), metavar=form, help=service)
     policy_parser = add_command(commands, "policy", "Shows who may connect to a port of a Pod.", run_policy)
     policy_parser.add_argument("target", type=of_form(pod_port, "NS/POD:PORT"), metavar="NS/POD:PORT")
     add_ask(commands)
