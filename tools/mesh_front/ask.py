@@ -1,8 +1,9 @@
 """`mesh ask`: what comes of a request, and why.
 
 The reasons are found by asking again. Of each authorization in the view all others are removed, and the request is simulated as
-it is, from an address that the authorization shows, as a client that it shows, and as both. A policy that names the Server and is
-not in the view is asked for once more with the references that it lacks.
+it is, from an address that the authorization shows, as a client that it shows, and as both. Where the policy of the Server or the
+default one denies, the request is simulated with an identity, at the address of a Pod, and with both. A policy that names the
+Server and is not in the view is asked for once more with the references that it lacks.
 """
 
 import ipaddress
@@ -11,7 +12,7 @@ from dataclasses import dataclass, replace
 from mesh_front import policy, probes, views
 from mesh_front.faults import Fault, Status
 from mesh_front.feed import Key, Objects, members
-from mesh_front.kinds import AUTHORIZATION_POLICY, SERVER_AUTHORIZATION
+from mesh_front.kinds import AUTHORIZATION_POLICY, POD, SERVER_AUTHORIZATION
 from mesh_front.names import PodName, PodPort, require_pod
 from mesh_front.program import Answers, Script, Session
 from mesh_front.tables import show, table
@@ -80,9 +81,10 @@ class HiddenPolicy:
 
 @dataclass
 class Answer:
-    """What comes of the request, and why."""
+    """What comes of the request, and why. Where a policy denies that others would pass: what the client would need for it."""
 
     verdict: str
+    policy_needs: str | None
     request: str
     client: Client
     is_meshed: bool
@@ -195,6 +197,21 @@ def ask_reasons(objects: Objects, script: Script, words: Words, first: First) ->
     return trials
 
 
+def ask_policy(objects: Objects, script: Script, words: Words, first: First) -> dict[str, int]:
+    """Asks what a client would need for the policy to admit it, the least first, where no authorization is held."""
+    values = [object_of(objects, words.target.pod.namespace, it) for it in first.view.authorizations]
+    addresses = [members(objects.by_key[key], "status").get("podIP") for key in objects.of(POD)]
+    script.remove(*values)
+    somebody = replace(first.client, identity=first.client.identity or "any")
+    numbers = {"an identity": script.simulate(words.request(somebody))}
+    for address in [it for it in addresses if isinstance(it, str)][:1]:
+        place = f"an address of the cluster, such as {address}"
+        numbers[place] = script.simulate(words.request(replace(first.client, address=address)))
+        numbers[f"an identity and {place}"] = script.simulate(words.request(replace(somebody, address=address)))
+    script.hold(*values)
+    return numbers
+
+
 def reason(authorization: views.Authorization, namespace: str, trial: Trial, answers: Answers) -> Reason:
     """What the simulations of an authorization say."""
     verdict = f"allowed {authorization.kind} {namespace}/{authorization.name}"
@@ -220,19 +237,23 @@ def second_run(session: Session, words: Words, first: First) -> Answer:
     def questions(objects, script):
         verdict = script.simulate(words.request(first.client))
         trials = ask_reasons(objects, script, words, first) if first.view.server else []
+        needs = ask_policy(objects, script, words, first)
         hidden_keys = hidden_policies(objects, first, namespace) if first.view.server else []
         script.hold(*probes.stand_ins([it for key in hidden_keys for it in probes.missing_references(objects, key)]))
-        return verdict, trials, hidden_keys, script.view(policy.inbound_query(words.target))
+        return verdict, needs, trials, hidden_keys, script.view(policy.inbound_query(words.target))
 
-    (verdict, trials, hidden_keys, number), answers = session.ask(questions)
+    (verdict, needs, trials, hidden_keys, number), answers = session.ask(questions)
     if verdict in answers.refusals:
         raise Fault(Status.REFUSED, f"the simulation is refused: {answers.refusals[verdict]}")
     reasons = [reason(it, namespace, trial, answers) for it, trial in zip(first.view.authorizations, trials)]
     after = views.inbound(answers.view(number))
     policies = [why_hidden(session.objects, key, after) for key in hidden_keys]
     text = answers.verdicts[verdict]
+    enough = [what for what, line in needs.items() if answers.verdicts.get(line, "").startswith("allowed default")]
+    policy_needs = enough[0] if enough and text.startswith("denied") else None
     reasons_for_request = [] if text == "not-found" else reasons
-    return Answer(text, words.request_text(), first.client, first.is_meshed, first.view, reasons_for_request, policies)
+    request = words.request_text()
+    return Answer(text, policy_needs, request, first.client, first.is_meshed, first.view, reasons_for_request, policies)
 
 
 def verdict_text(answer: Answer) -> str:
@@ -266,6 +287,7 @@ def lines(answer: Answer) -> list[str]:
     server = f"{view.server}, protocol {view.protocol}, policy" if view.server else "none, default policy"
     pairs = {
         "VERDICT": verdict_text(answer),
+        **({"POLICY": f"{view.policy} needs {answer.policy_needs}"} if answer.policy_needs else {}),
         "REQUEST": answer.request,
         "CLIENT": answer.client,
         "SERVER": f"{server} {view.policy}",

@@ -95,6 +95,22 @@ class Ask(Case):
             MESHED   yes
         """)
 
+    def test_what_a_policy_needs(self):
+        """The policies that admit some clients: by their identity, by an address of the cluster's networks, or by both."""
+        place = "an address of the cluster, such as 10.1.2.3"
+        needs = {
+            ("all-authenticated", "203.0.113.7"): "an identity",
+            ("cluster-unauthenticated", "203.0.113.7"): place,
+            ("cluster-authenticated", "10.0.0.5"): "an identity",
+            ("cluster-authenticated", "203.0.113.7"): f"an identity and {place}",
+        }
+        for (word, address), need in needs.items():
+            run = self.ask("policy.jsonl", "app/web-1:9090", "--client", address, "--default-policy", word)
+            verdict = f"VERDICT  denied by the default policy {word}: no Server selects this port\nPOLICY   {word} needs {need}\n"
+            self.assertEqual((1, verdict), (run.status, run.output[: len(verdict)]))
+        run = self.ask("policy.jsonl", "app/web-1:9090", "--client", "10.0.0.5", "--default-policy", "deny")
+        self.assertNotIn("POLICY", run.output)
+
     def test_a_reference_is_missing(self):
         """`from-web` refers to an authentication that the feed lacks. The client has no proxy, and so no identity."""
         self.require(self.ask("mistakes.jsonl", "shop/cart-1:8080", "--from", "shop/web-1"), 7, f"""
