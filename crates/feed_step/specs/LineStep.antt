@@ -1,9 +1,8 @@
 -- What a step of a replay comes to, by what the machine holds and by its replies.
-use Rattle.std.specs.Prelude.{◌≡◌, ◌≤◌, ◌<◌, ◌⊎◌, ◌+◌, ◌-◌, ◌^◌, ℕ, Bool, List, [], ◌∷◌, ◌++◌, Option, Some, None, Result, Ok, IfSome, is_some, min, option_map}
+use Rattle.std.specs.Prelude.{◌≡◌, ◌≤◌, ◌<◌, ◌+◌, ◌-◌, ◌^◌, ℕ, List, [], ◌∷◌, ◌++◌, Option, Some, None, Result, IfSome, is_some, min, option_map}
 use Rattle.mesh_base.specs.declared.sub_id.SubId.{SubId}
 use Rattle.view_types.specs.declared.request.Request.{Request}
 use Rattle.watch_events.specs.declared.line.Line.{Line}
-use Rattle.watch_events.specs.declared.line.Line.TheVariants as lines
 use Rattle.watch_events.specs.declared.line.LineFault.{LineFault}
 use Rattle.watch_events.specs.declared.line.LineFault.TheVariants as line_faults
 use Rattle.request_rules.specs.Verdicts.{verdict}

@@ -63,7 +63,8 @@ fn push_subscriptions(alloc: Global, n: u32, out: &mut List<u8>) -> Result<(), M
 // To every fourth Pod.
 #[tactic(auto, using(crate::proofs::Below::chosen_more, crate::proofs::Below::chosen_same))]
 fn push_simulations(alloc: Global, n: u32, out: &mut List<u8>) -> Result<(), Memory>
-    ensures { OnOk result (out.new ≡ out.old ++ flat_map simulate_line (filter (is_divisible_by 4) (below n))) }
+    ensures { OnOk result
+        (out.new ≡ out.old ++ flat_map simulate_line (filter (is_divisible_by 4) (below n))) }
 {
     for i in 0..n {
         if i % 4 == 0 {
@@ -86,7 +87,8 @@ fn push_drains(alloc: Global, n: u32, out: &mut List<u8>) -> Result<(), Memory>
 // Of every fifth slice.
 #[tactic(auto, using(crate::proofs::Below::chosen_more, crate::proofs::Below::chosen_same))]
 fn push_deletions(alloc: Global, n: u32, out: &mut List<u8>) -> Result<(), Memory>
-    ensures { OnOk result (out.new ≡ out.old ++ flat_map delete_line (filter (is_divisible_by 5) (below n))) }
+    ensures { OnOk result
+        (out.new ≡ out.old ++ flat_map delete_line (filter (is_divisible_by 5) (below n))) }
 {
     for i in 0..n {
         if i % 5 == 0 {

@@ -85,7 +85,9 @@ fn read_items<'a, R: Reader, G: Gather<R::Made>>(
     list: &'a [Value],
     reader: &R,
 ) -> Result<List<G::Item>, ReadFault>
-    ensures { Reads result (gathered G.parts (each_from (R.reading reader.now) (seen place.now).at 0 (items_view list.now))) }
+    ensures { Reads result
+        (gathered G.parts
+        (each_from (R.reading reader.now) (seen place.now).at 0 (items_view list.now))) }
 {
     let mut found = List::new(place.alloc());
     for i in 0..list.len() {

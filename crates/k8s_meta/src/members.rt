@@ -111,7 +111,8 @@ impl<'a> Place<'a> {
     /// The member, where it reads. One with a fault counts as absent.
     #[tactic(auto, using(crate::proofs::Loop::fails_none))]
     pub fn lenient<R: Reader>(&'a self, key: Key, reader: &R) -> Result<Option<R::Made>, Memory>
-        ensures { IfOk result (λ found. found ≡ lenient (R.reading reader.now) ((seen self.now) · key)) }
+        ensures { IfOk result
+            (λ found. found ≡ lenient (R.reading reader.now) ((seen self.now) · key)) }
     {
         match reader.read(&self.member(key)) {
             Ok(found) => Ok(Some(found)),

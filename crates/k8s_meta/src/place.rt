@@ -174,7 +174,8 @@ impl<'a> Place<'a> {
 
     /// The members of an object.
     pub fn members(&self) -> Result<&'a Map<String, Value>, ReadFault>
-        ensures { Gives (λ m. members_view m.now.entries) result (typed (seen self.now).at (as_object (seen self.now).value)) }
+        ensures { Gives (λ m. members_view m.now.entries) result
+            (typed (seen self.now).at (as_object (seen self.now).value)) }
     {
         let Some(value) = self.value else {
             return Err(self.wrong_type());

@@ -141,7 +141,8 @@ fn add_service_addresses(marks: &mut List<Mark>, addrs: &[Ip]) -> Result<(), Mem
 }
 
 fn add_slice(marks: &mut List<Mark>, slice: &Slice) -> Result<(), Memory>
-    ensures { OnOk result (marks.new ≡ marks.old ++ label_marks slice.now.meta.ns (service_of slice.now)) }
+    ensures { OnOk result
+        (marks.new ≡ marks.old ++ label_marks slice.now.meta.ns (service_of slice.now)) }
 {
     match slice.meta.labels.get(b"kubernetes.io/service-name") {
         Some(service) => marks.add(Mark::SlicesOf(slice.meta.ns.copy()?, service.copy()?)),

@@ -4,7 +4,6 @@ use Rattle.std.specs.Prelude.{Result, Ok, Err, ◌==◌, if◌then◌else◌, op
 use Rattle.std.specs.List.{AllByRecursion}
 use Rattle.std.proofs.lemmas.Bool.Decides.{eqb_tells}
 use Rattle.mesh_base.specs.declared.limits.Limits.{Limits}
-use Rattle.line_run.specs.Rows.{Row}
 use Rattle.view_types.specs.declared.config.Config.{Config}
 use Rattle.route_match.specs.Matching.{Pat}
 use Rattle.request_sim.specs.declared.fault.SimFault.{SimFault}
@@ -16,13 +15,11 @@ use Rattle.watch_events.specs.declared.line.LineFault.{LineFault}
 use Rattle.watch_events.specs.declared.line.LineFault.TheVariants as line_faults
 use Rattle.feed_history.specs.History.{State, after, after_line, hub_refusal, refusal_of, step}
 use Rattle.feed_history.specs.Ids.{unless_refused}
-use Rattle.feed_history.specs.Lawful.{ReadsLawfully}
 use Rattle.feed_history.specs.Marks.{MarkedRow}
 use Rattle.feed_history.specs.Program.{Program}
 use Rattle.feed_history.specs.declared.refusal.HubFault.{HubFault}
-use Rattle.feed_history.specs.declared.refusal.Refusal.{Refusal}
 use Rattle.feed_history.specs.declared.refusal.Refusal.TheVariants as refusals
-use Rattle.mesh_hub.specs.Calls.{CallsAreHistories, IsHistory, called, called_all}
+use Rattle.mesh_hub.specs.Calls.{CallsAreHistories, called, called_all}
 use Rattle.mesh_hub.specs.Hub.{HubState}
 use Rattle.mesh_hub.specs.HubAfter.{seen}
 use Rattle.mesh_hub.proofs.HubSteps.{applied_seen, cancelled_seen, drained_seen, subscribed_seen}

@@ -1,11 +1,8 @@
 -- What the steps of a drain come to: where the subscription stands, what it is due, and what becomes of it.
-use Rattle.std.specs.Prelude.{◌≡◌, ℕ, Bool, true, false, List, Some, None, Result, Ok, Err, nat_lt, length, remove, slice_index_or, slice_set}
-use Rattle.view_types.specs.declared.message.Message.{Message}
+use Rattle.std.specs.Prelude.{◌≡◌, ℕ, List, Some, None, Result, Ok, Err, remove, slice_index_or, slice_set}
 use Rattle.view_types.specs.declared.view.View.{View}
 use Rattle.view_rules.specs.Fold.{IsOrderlyIfShown}
 use Rattle.view_rules.specs.Views.{view_of}
-use Rattle.proxy_proto.specs.Messages.{canonical}
-use Rattle.proto_wire.specs.Frames.{frame_of}
 use Rattle.feed_history.specs.Drains.{frames_of, too_long}
 use Rattle.mesh_hub.specs.Hub.{HubState, messages_for}
 use Rattle.mesh_hub.specs.Subscriptions.{LiveSubscription}

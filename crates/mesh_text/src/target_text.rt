@@ -131,7 +131,8 @@ fn read_host(alloc: Global, host: &[u8], port: u16, domain: &[u8]) -> Result<Tar
 }
 
 fn read_service(alloc: Global, host: &[u8], port: u16, domain: &[u8]) -> Result<Target, TargetFault>
-    ensures { Answers (service_target port (names_of domain.now host.now (pieces 46 host.now))) result }
+    ensures { Answers (service_target port (names_of domain.now host.now (pieces 46 host.now)))
+        result }
 {
     let Some((name, ns)) = service_names(host, domain) else {
         return Err(TargetFault::Bad);
@@ -146,7 +147,8 @@ fn read_service(alloc: Global, host: &[u8], port: u16, domain: &[u8]) -> Result<
 /// The name and the namespace.
 #[tactic(auto, using(crate::proofs::Hosts::names_are, crate::proofs::Names::dotless_name))]
 fn service_names<'a>(host: &'a [u8], domain: &[u8]) -> Option<(&'a [u8], &'a [u8])>
-    ensures pair { MatchOption result (names_of domain.now host.now (pieces 46 host.now) ≡ None) (λ p. names_of domain.now host.now (pieces 46 host.now) ≡ Some (p.0.now, p.1.now)) }
+    ensures pair { MatchOption result (names_of domain.now host.now (pieces 46 host.now) ≡ None)
+        (λ p. names_of domain.now host.now (pieces 46 host.now) ≡ Some (p.0.now, p.1.now)) }
     ensures names { IfSome result (λ p. IsTrue (is_name p.0.now) × IsTrue (is_name p.1.now)) }
 {
     let (name, rest) = cut(host, b'.')?;

@@ -66,7 +66,8 @@ fn items_of<'a, K: MatchKind>(
     place: &'a Place<'a>,
     list: &'a [Value],
 ) -> Result<List<K::Made>, ReadFault>
-    ensures { Reads result (each_from (match_of (K.kind kind.now)) (seen place.now).at 0 (items_view list.now)) }
+    ensures { Reads result
+        (each_from (match_of (K.kind kind.now)) (seen place.now).at 0 (items_view list.now)) }
 {
     let mut found = List::new(place.alloc());
     for i in 0..list.len() {
@@ -113,7 +114,8 @@ fn joined<K: MatchKind>(
     any: Option<List<K::Made>>,
     negated: Option<Boxed<K::Made>>,
 ) -> Result<Option<K::Made>, Memory>
-    ensures { let k = K.kind kind.now in IfOk result (λ found. found ≡ joined k.all (parts k own all any negated)) }
+    ensures { let k = K.kind kind.now
+        in IfOk result (λ found. found ≡ joined k.all (parts k own all any negated)) }
 {
     let mut parts = own;
     add_some(&mut parts, some_all(kind, all))?;

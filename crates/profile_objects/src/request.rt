@@ -56,7 +56,9 @@ fn members(
     method: Option<Text>,
     path: Option<Text>,
 ) -> Result<List<ReqMatch>, Memory>
-    ensures { IfOk result (λ found. found ≡ option_to_list (option_map requests.Method method) ++ option_to_list (option_map requests.Path path)) }
+    ensures { IfOk result
+        (λ found. found ≡ option_to_list (option_map requests.Method method)
+        ++ option_to_list (option_map requests.Path path)) }
 {
     let mut found = List::new(alloc);
     add_some(&mut found, some_method(method))?;

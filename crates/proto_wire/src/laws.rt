@@ -8,7 +8,8 @@ ghost use Rattle.proto_wire.specs.Unframing.{all_messages, answers, all_answers}
 
 /// What is spelled is read again, whole.
 pub fn reads_back()
-    ensures { (rs : List Rec) → AllByRecursion Fits rs → scan_of (spelling rs) ≡ record { records = rs; fault = None } }
+    ensures { (rs : List Rec) → AllByRecursion Fits rs
+        → scan_of (spelling rs) ≡ record { records = rs; fault = None } }
 {}
 
 /// What is spelled is read again as these records, and without a fault.
@@ -18,15 +19,20 @@ pub fn records_come_back()
 
 /// A frame before any other bytes gives its message and these bytes.
 pub fn frames_come_apart()
-    ensures { (message after : List ℕ) → length message < 2 ^ 32 → first_frame (frame_of message ++ after) ≡ Some (message, after) }
+    ensures { (message after : List ℕ) → length message < 2 ^ 32
+        → first_frame (frame_of message ++ after) ≡ Some (message, after) }
 {}
 
 /// Frames one after another before any other bytes give their messages, and then what these bytes give.
 pub fn frames_come_back(limit: u32)
-    ensures whole { (messages : List (List ℕ)) → AllByRecursion (λ message. length message ≤ limit) messages
-        → frames_in limit (frames_of messages) ≡ record { messages = messages; fault = None; rest = [] } }
-    ensures before { (messages : List (List ℕ)) (more : List ℕ) → AllByRecursion (λ message. length message ≤ limit) messages
-        → frames_in limit (frames_of messages ++ more) ≡ after_messages messages (frames_in limit more) }
+    ensures whole { (messages : List (List ℕ))
+        → AllByRecursion (λ message. length message ≤ limit) messages
+        → frames_in limit (frames_of messages)
+        ≡ record { messages = messages; fault = None; rest = [] } }
+    ensures before { (messages : List (List ℕ)) (more : List ℕ)
+        → AllByRecursion (λ message. length message ≤ limit) messages
+        → frames_in limit (frames_of messages ++ more)
+        ≡ after_messages messages (frames_in limit more) }
 {
     let _ = limit;
 }
@@ -44,16 +50,19 @@ pub fn streams_are_made_up(limit: u32, stream: &[u8])
 pub fn fronts_stay()
     ensures joined { (limit : ℕ) (front more : List ℕ)
         → let f = frames_in limit front in
-        frames_in limit (front ++ more) ≡ after_messages f.messages (frames_in limit (f.rest ++ more)) }
+        frames_in limit (front ++ more)
+        ≡ after_messages f.messages (frames_in limit (f.rest ++ more)) }
     ensures fault { (limit : ℕ) (front more : List ℕ) (fault : WireFault)
         → let f = frames_in limit front in
         f.fault ≡ Some fault
-        → frames_in limit (front ++ more) ≡ record { messages = f.messages; fault = Some fault; rest = f.rest ++ more } }
+        → frames_in limit (front ++ more)
+        ≡ record { messages = f.messages; fault = Some fault; rest = f.rest ++ more } }
 {}
 
 /// Where a stream is cut doesn't matter: while memory lasts, the answers to its pieces give its messages together, or
 /// end with its first fault.
 pub fn cutting_is_free()
     ensures { (limit : ℕ) (pieces : List (List ℕ))
-        → all_answers (answers (record { limit = limit; part = Ok [] }) pieces) ≡ all_messages (frames_in limit (concat pieces)) }
+        → all_answers (answers (record { limit = limit; part = Ok [] }) pieces)
+        ≡ all_messages (frames_in limit (concat pieces)) }
 {}

@@ -17,7 +17,8 @@ const HEAD: usize = 5;
 
 // How many bytes the frame takes that begins like this, as far as they tell.
 fn size(limit: u32, part: &[u8]) -> Result<usize, WireFault>
-    ensures { IsAs (λ len. len) result (unless_fault (frame_fault limit part.now) (frame_size part.now)) }
+    ensures { IsAs (λ len. len) result
+        (unless_fault (frame_fault limit part.now) (frame_size part.now)) }
 {
     match part {
         [] => Ok(HEAD),
@@ -35,7 +36,8 @@ fn size(limit: u32, part: &[u8]) -> Result<usize, WireFault>
 
 // Adds bytes of a piece until there are so many, and answers those behind them.
 fn fill<'a>(part: &mut Vec<u8>, len: usize, piece: &'a [u8]) -> Result<&'a [u8], AllocError>
-    ensures part { OnOk result (part.new.items ≡ part.old.items ++ take (len - length part.old.items) piece.now) }
+    ensures part { OnOk result
+        (part.new.items ≡ part.old.items ++ take (len - length part.old.items) piece.now) }
     ensures rest { IfOk result (λ rest. rest.now ≡ drop (len - length part.old.items) piece.now) }
 {
     let missing = len.saturating_sub(part.len());
@@ -57,9 +59,11 @@ fn next<'a>(
     piece: &'a [u8],
 ) -> Result<Option<(Bytes, &'a [u8])>, WireFault>
     requires { head_of limit part.old.items ≡ Ok None }
-    ensures first { GivesAs (option_map (λ x. (x.0, x.1.now))) result (head_of limit (part.old.items ++ piece.now)) }
+    ensures first { GivesAs (option_map (λ x. (x.0, x.1.now))) result
+        (head_of limit (part.old.items ++ piece.now)) }
     ensures whole { IfOk result (λ found. IfSome found (λ _. part.new.items ≡ [])) }
-    ensures part { IfOk result (λ found. IfNone found (part.new.items ≡ part.old.items ++ piece.now)) }
+    ensures part { IfOk result
+        (λ found. IfNone found (part.new.items ≡ part.old.items ++ piece.now)) }
 {
     let rest = fill(part, HEAD, piece)?;
     let len = size(limit, part)?;
@@ -122,7 +126,8 @@ impl Unframer {
     /// Takes bytes up to the end of the first frame, and gives its message and the bytes behind it; or takes them all
     /// where that frame isn't whole with them.
     pub fn take<'a>(&mut self, piece: &'a [u8]) -> Result<Option<(Bytes, &'a [u8])>, WireFault>
-        ensures first { GivesAs (option_map (λ x. (x.0, x.1.now))) result (first_from self.old piece.now) }
+        ensures first { GivesAs (option_map (λ x. (x.0, x.1.now))) result
+            (first_from self.old piece.now) }
         ensures whole { IfOk result (λ found. IfSome found (λ _. self.new.part ≡ Ok [])) }
         ensures part { IfOk result (λ found. IfNone found (
             IfOk self.old.part (λ part. self.new.part ≡ Ok (part ++ piece.now)))) }

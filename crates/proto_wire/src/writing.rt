@@ -26,7 +26,9 @@ pub fn put_varint(out: &mut List<u8>, number: u64) -> Result<(), Memory>
 /// Writes a record of a number at the end. If memory runs out, a part may be written.
 #[tactic(auto, unfolding(crate::specs::Wire::spelled))]
 pub fn put_number(out: &mut List<u8>, field: u32, number: u64) -> Result<(), Memory>
-    ensures { OnOk result (out.new ≡ out.old ++ spelled (record { number = field; value = WireValue.Varint number })) }
+    ensures { OnOk result
+        (out.new ≡ out.old
+        ++ spelled (record { number = field; value = WireValue.Varint number })) }
 {
     put_varint(out, field as u64 * 8)?;
     put_varint(out, number)
@@ -35,7 +37,9 @@ pub fn put_number(out: &mut List<u8>, field: u32, number: u64) -> Result<(), Mem
 /// Writes a record of eight bytes at the end. If memory runs out, a part may be written.
 #[tactic(auto, unfolding(crate::specs::Wire::spelled))]
 pub fn put_fixed64(out: &mut List<u8>, field: u32, number: u64) -> Result<(), Memory>
-    ensures { OnOk result (out.new ≡ out.old ++ spelled (record { number = field; value = WireValue.Fixed64 number })) }
+    ensures { OnOk result
+        (out.new ≡ out.old
+        ++ spelled (record { number = field; value = WireValue.Fixed64 number })) }
 {
     put_varint(out, field as u64 * 8 + 1)?;
     out.extend_from_slice(&number.to_le_bytes())
@@ -44,7 +48,9 @@ pub fn put_fixed64(out: &mut List<u8>, field: u32, number: u64) -> Result<(), Me
 /// Writes a record of four bytes at the end. If memory runs out, a part may be written.
 #[tactic(auto, unfolding(crate::specs::Wire::spelled))]
 pub fn put_fixed32(out: &mut List<u8>, field: u32, number: u32) -> Result<(), Memory>
-    ensures { OnOk result (out.new ≡ out.old ++ spelled (record { number = field; value = WireValue.Fixed32 number })) }
+    ensures { OnOk result
+        (out.new ≡ out.old
+        ++ spelled (record { number = field; value = WireValue.Fixed32 number })) }
 {
     put_varint(out, field as u64 * 8 + 5)?;
     out.extend_from_slice(&number.to_le_bytes())
@@ -53,7 +59,9 @@ pub fn put_fixed32(out: &mut List<u8>, field: u32, number: u32) -> Result<(), Me
 /// Writes a record of a text, bytes or a nested message at the end. If memory runs out, a part may be written.
 #[tactic(auto, unfolding(crate::specs::Wire::spelled))]
 pub fn put_chunk(out: &mut List<u8>, field: u32, bytes: &[u8]) -> Result<(), Memory>
-    ensures { OnOk result (out.new ≡ out.old ++ spelled (record { number = field; value = WireValue.Chunk bytes.now })) }
+    ensures { OnOk result
+        (out.new ≡ out.old
+        ++ spelled (record { number = field; value = WireValue.Chunk bytes.now })) }
 {
     put_varint(out, field as u64 * 8 + 2)?;
     put_varint(out, bytes.len() as u64)?;

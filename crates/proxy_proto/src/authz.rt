@@ -42,7 +42,8 @@ fn put_clients(
     suffixes: &List<Text>,
     everyone: bool,
 ) -> Result<(), Memory>
-    ensures { OnOk result (out.new ≡ out.old ++ spelling (clients_records ids.now suffixes.now everyone)) }
+    ensures { OnOk result
+        (out.new ≡ out.old ++ spelling (clients_records ids.now suffixes.now everyone)) }
 {
     put_texts(out, 1, ids.as_slice())?;
     put_texts(out, 2, suffixes.as_slice())?;

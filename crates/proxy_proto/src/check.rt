@@ -44,8 +44,11 @@ fn check_record<'a>(
     next: &RecRef<'a>,
 ) -> Result<(), ProtoFault>
     requires { AreMet fields.now keys.old (map view_record seen.now) }
-    ensures fault { Checks result (record_fault (fault_at depth) fields.now (map view_record seen.now) (view_record next.now)) }
-    ensures keys { OnOk result (AreMet fields.now keys.new (map view_record seen.now ++ view_record next.now ∷ [])) }
+    ensures fault { Checks result
+        (record_fault (fault_at depth) fields.now (map view_record seen.now)
+        (view_record next.now)) }
+    ensures keys { OnOk result
+        (AreMet fields.now keys.new (map view_record seen.now ++ view_record next.now ∷ [])) }
 {
     let Some(field) = find_field(fields, next.number) else {
         return Ok(());

@@ -26,7 +26,8 @@ pub fn put_duration(
     field: u32,
     duration: Option<u64>,
 ) -> Result<(), Memory>
-    ensures { OnOk result (out.new ≡ out.old ++ spelling (optional_field field duration_records duration)) }
+    ensures { OnOk result
+        (out.new ≡ out.old ++ spelling (optional_field field duration_records duration)) }
 {
     let Some(nanoseconds) = duration else {
         return Ok(());
@@ -58,7 +59,8 @@ pub fn read_duration(
     records: &[RecRef<'_>],
     number: u32,
 ) -> Result<Option<u64>, Memory>
-    ensures { IfOk result (λ duration. duration ≡ optional_in number duration_in (map view_record records.now)) }
+    ensures { IfOk result
+        (λ duration. duration ≡ optional_in number duration_in (map view_record records.now)) }
 {
     let Some(value) = value_at(records, number) else {
         return Ok(None);

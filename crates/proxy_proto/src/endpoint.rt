@@ -83,7 +83,8 @@ fn put_h2(out: &mut List<u8>, h2: bool) -> Result<(), Memory>
 
 #[tactic(auto, using(proto_wire::proofs::Spellings::spellings))]
 fn put_tunnel(alloc: Global, out: &mut List<u8>, tunnel: Option<u16>) -> Result<(), Memory>
-    ensures { OnOk result (out.new ≡ out.old ++ spelling (optional_field 2 (number_field 1) tunnel)) }
+    ensures { OnOk result
+        (out.new ≡ out.old ++ spelling (optional_field 2 (number_field 1) tunnel)) }
 {
     let Some(port) = tunnel else {
         return Ok(());
@@ -106,7 +107,8 @@ fn put_hint(alloc: Global, out: &mut List<u8>, hint: Hint) -> Result<(), Memory>
 
 #[tactic(auto, using(proto_wire::proofs::Spellings::spellings), unfolding(crate::specs::Endpoints::identity_records))]
 fn put_identity(alloc: Global, out: &mut List<u8>, identity: &Option<Text>) -> Result<(), Memory>
-    ensures { OnOk result (out.new ≡ out.old ++ spelling (optional_field 5 identity_records identity.now)) }
+    ensures { OnOk result
+        (out.new ≡ out.old ++ spelling (optional_field 5 identity_records identity.now)) }
 {
     let Some(name) = identity else {
         return Ok(());

@@ -127,7 +127,8 @@ pub fn optional_text_in(
     records: &[RecRef<'_>],
     number: u32,
 ) -> Result<Option<Text>, Memory>
-    ensures { IfOk result (λ text. text ≡ some_string (string_in number (map view_record records.now))) }
+    ensures { IfOk result
+        (λ text. text ≡ some_string (string_in number (map view_record records.now))) }
 {
     let text = text_in(alloc, records, number)?;
     if text.as_bytes().is_empty() {
@@ -163,7 +164,8 @@ pub fn inside<'a>(
     records: &[RecRef<'a>],
     number: u32,
 ) -> Result<Vec<RecRef<'a>>, Memory>
-    ensures { IfOk result (λ v. map view_record v.items ≡ inside number (map view_record records.now)) }
+    ensures { IfOk result
+        (λ v. map view_record v.items ≡ inside number (map view_record records.now)) }
 {
     records_in(alloc, chunk_in(records, number))
 }

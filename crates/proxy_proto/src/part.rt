@@ -25,7 +25,8 @@ pub fn write_in<T: Part>(
     field: u32,
     part: &T,
 ) -> Result<(), Memory>
-    ensures { OnOk result (out.new ≡ out.old ++ spelled (chunk field (spelling (T.records part.now)))) }
+    ensures { OnOk result
+        (out.new ≡ out.old ++ spelled (chunk field (spelling (T.records part.now)))) }
 {
     let mut inside = List::new(alloc);
     part.write(alloc, &mut inside)?;

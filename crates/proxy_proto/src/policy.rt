@@ -77,7 +77,8 @@ fn put_service(
     opaque: bool,
     routes: &List<RouteRow>,
 ) -> Result<(), Memory>
-    ensures { OnOk result (out.new ≡ out.old ++ spelling (service_records ns.now name.now port opaque routes.now)) }
+    ensures { OnOk result
+        (out.new ≡ out.old ++ spelling (service_records ns.now name.now port opaque routes.now)) }
 {
     put_text_field(out, 1, ns.as_bytes())?;
     put_text_field(out, 2, name.as_bytes())?;

@@ -30,7 +30,9 @@ impl Part for RespClass {
 /// Writes the label that names a route.
 #[tactic(auto, using(proto_wire::proofs::Spellings::spellings), unfolding(crate::specs::Endpoints::label_records))]
 fn put_route_name(alloc: Global, out: &mut List<u8>, name: &Text) -> Result<(), Memory>
-    ensures { OnOk result (out.new ≡ out.old ++ spelling (chunk 3 (spelling (label_records (codes "route", name.now))) ∷ [])) }
+    ensures { OnOk result
+        (out.new ≡ out.old
+        ++ spelling (chunk 3 (spelling (label_records (codes "route", name.now))) ∷ [])) }
 {
     let mut inside = List::new(alloc);
     put_chunk(&mut inside, 1, b"route")?;
@@ -67,7 +69,8 @@ fn put_endpoint(
     out: &mut List<u8>,
     endpoint: &Option<EndpointRow>,
 ) -> Result<(), Memory>
-    ensures { OnOk result (out.new ≡ out.old ++ spelling (optional_field 6 row_records endpoint.now)) }
+    ensures { OnOk result
+        (out.new ≡ out.old ++ spelling (optional_field 6 row_records endpoint.now)) }
 {
     match endpoint {
         Some(row) => write_in(alloc, out, 6, row),

@@ -58,7 +58,9 @@ impl FromRecords for (Text, Text) {
 }
 
 fn put_new(labels: &mut Labels, key: Text, value: Text) -> Result<(), Memory>
-    ensures { OnOk result (labels.new ≡ (if is_some (get labels.old key) then labels.old else insert labels.old key value)) }
+    ensures { OnOk result
+        (labels.new
+        ≡ (if is_some (get labels.old key) then labels.old else insert labels.old key value)) }
 {
     if labels.get(key.as_bytes()).is_some() {
         return Ok(());
@@ -74,7 +76,8 @@ fn compare_keys(a: &(Text, Text), b: &(Text, Text)) -> Ordering
 
 /// Puts pairs into the order of their keys, so that labels take each at their end.
 fn put_in_order(pairs: &mut Vec<(Text, Text)>) -> Result<(), Memory>
-    ensures { OnOk result (from_entries {R = slice_cmp nat_cmp} pairs.new.items ≡ from_entries pairs.old.items) }
+    ensures { OnOk result
+        (from_entries {R = slice_cmp nat_cmp} pairs.new.items ≡ from_entries pairs.old.items) }
 {
     pairs.sort_by(|a, b| compare_keys(a, b))?;
     Ok(())

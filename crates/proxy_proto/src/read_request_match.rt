@@ -29,7 +29,8 @@ pub fn read_request_match(alloc: Global, depth: usize, bytes: &[u8]) -> Result<R
 /// The member of the choice that is there.
 #[cycle(read_request)]
 fn choose(alloc: Global, depth: usize, records: &[RecRef<'_>]) -> Result<ReqMatch, Memory>
-    ensures { IfOk result (λ m. m ≡ request_match_from (request_match_in depth) (map view_record records.now)) }
+    ensures { IfOk result
+        (λ m. m ≡ request_match_from (request_match_in depth) (map view_record records.now)) }
 {
     if is_there(records, 1) {
         let seq = inside(alloc, records, 1)?;
@@ -54,7 +55,8 @@ fn choose(alloc: Global, depth: usize, records: &[RecRef<'_>]) -> Result<ReqMatc
 /// The matches of a list.
 #[cycle(read_request)]
 fn read_parts(alloc: Global, depth: usize, records: &[RecRef<'_>]) -> Result<List<ReqMatch>, Memory>
-    ensures { IfOk result (λ parts. parts ≡ each_in 1 (request_match_in depth) (map view_record records.now)) }
+    ensures { IfOk result
+        (λ parts. parts ≡ each_in 1 (request_match_in depth) (map view_record records.now)) }
 {
     let mut parts = List::new(alloc);
     for record in records {

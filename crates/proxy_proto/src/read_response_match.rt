@@ -28,7 +28,8 @@ pub fn read_response_match(alloc: Global, depth: usize, bytes: &[u8]) -> Result<
 /// The member of the choice that is there.
 #[cycle(read_response)]
 fn choose(alloc: Global, depth: usize, records: &[RecRef<'_>]) -> Result<RespMatch, Memory>
-    ensures { IfOk result (λ m. m ≡ response_match_from (response_match_in depth) (map view_record records.now)) }
+    ensures { IfOk result
+        (λ m. m ≡ response_match_from (response_match_in depth) (map view_record records.now)) }
 {
     if is_there(records, 1) {
         let seq = inside(alloc, records, 1)?;
@@ -53,7 +54,8 @@ fn read_parts(
     depth: usize,
     records: &[RecRef<'_>],
 ) -> Result<List<RespMatch>, Memory>
-    ensures { IfOk result (λ parts. parts ≡ each_in 1 (response_match_in depth) (map view_record records.now)) }
+    ensures { IfOk result
+        (λ parts. parts ≡ each_in 1 (response_match_in depth) (map view_record records.now)) }
 {
     let mut parts = List::new(alloc);
     for record in records {

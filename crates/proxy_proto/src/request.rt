@@ -66,7 +66,9 @@ fn read_profile_query(
 }
 
 fn read_port_query(alloc: Global, records: &[RecRef<'_>]) -> Result<Query, ProtoFault>
-    ensures { Gives result (port_query (workload_of (chunk_in 1 (map view_record records.now))) (number_below 65536 2 (map view_record records.now))) }
+    ensures { Gives result
+        (port_query (workload_of (chunk_in 1 (map view_record records.now)))
+        (number_below 65536 2 (map view_record records.now))) }
 {
     let port = u16_in(records, 2);
     match read_workload(alloc, chunk_in(records, 1)) {

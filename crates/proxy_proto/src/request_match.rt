@@ -20,7 +20,8 @@ fn put_text_message(
     field: u32,
     text: &[u8],
 ) -> Result<(), Memory>
-    ensures { OnOk result (out.new ≡ out.old ++ spelling (chunk field (spelling (text_field 1 text.now)) ∷ [])) }
+    ensures { OnOk result
+        (out.new ≡ out.old ++ spelling (chunk field (spelling (text_field 1 text.now)) ∷ [])) }
 {
     let mut inside = List::new(alloc);
     put_text_field(&mut inside, 1, text)?;
@@ -56,7 +57,8 @@ impl Part for ReqMatch {
 #[cycle(write_request)]
 #[tactic(auto, using(proto_wire::proofs::Spellings::spellings))]
 fn write_request_parts(alloc: Global, out: &mut List<u8>, parts: &[ReqMatch]) -> Result<(), Memory>
-    ensures { OnOk result (out.new ≡ out.old ++ spelling (seq_records (map request_match_records parts.now))) }
+    ensures { OnOk result
+        (out.new ≡ out.old ++ spelling (seq_records (map request_match_records parts.now))) }
 {
     for part in parts {
         let mut inside = List::new(alloc);

@@ -47,7 +47,8 @@ fn write_response_parts(
     out: &mut List<u8>,
     parts: &[RespMatch],
 ) -> Result<(), Memory>
-    ensures { OnOk result (out.new ≡ out.old ++ spelling (seq_records (map response_match_records parts.now))) }
+    ensures { OnOk result
+        (out.new ≡ out.old ++ spelling (seq_records (map response_match_records parts.now))) }
 {
     for part in parts {
         let mut inside = List::new(alloc);

@@ -88,7 +88,8 @@ fn put_values(
     field: u32,
     pairs: &[(Text, Text)],
 ) -> Result<(), Memory>
-    ensures { OnOk result (out.new ≡ out.old ++ spelling (each_field field value_records pairs.now)) }
+    ensures { OnOk result
+        (out.new ≡ out.old ++ spelling (each_field field value_records pairs.now)) }
 {
     for pair in pairs {
         let mut inside = List::new(alloc);
@@ -106,7 +107,8 @@ fn put_headers(
     set: &List<(Text, Text)>,
     remove: &List<Text>,
 ) -> Result<(), Memory>
-    ensures { OnOk result (out.new ≡ out.old ++ spelling (headers_records add.now set.now remove.now)) }
+    ensures { OnOk result
+        (out.new ≡ out.old ++ spelling (headers_records add.now set.now remove.now)) }
 {
     put_values(alloc, out, 1, add.as_slice())?;
     put_values(alloc, out, 2, set.as_slice())?;
@@ -121,7 +123,8 @@ fn put_redirect(
     port: Option<u16>,
     status: u16,
 ) -> Result<(), Memory>
-    ensures { OnOk result (out.new ≡ out.old ++ spelling (redirect_records scheme.now host.now port status)) }
+    ensures { OnOk result
+        (out.new ≡ out.old ++ spelling (redirect_records scheme.now host.now port status)) }
 {
     put_optional_text(out, 1, scheme)?;
     put_optional_text(out, 2, host)?;

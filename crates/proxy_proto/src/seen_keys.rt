@@ -21,7 +21,9 @@ pub type Keys<'a> = BTreeSet<(u32, &'a [u8])>;
 /// Adds a key, and answers whether it is new.
 fn add<'a>(keys: &mut Keys<'a>, field: u32, key: &'a [u8]) -> Result<bool, Memory>
     ensures new { IfOk result (λ added. added ≡ not (is_met keys.old field key.now)) }
-    ensures keys { OnOk result ((n : ℕ) (other : List ℕ) → is_met keys.new n other ≡ ((field == n && bytes_eq key.now other) || is_met keys.old n other)) }
+    ensures keys { OnOk result
+        ((n : ℕ) (other : List ℕ) → is_met keys.new n other
+        ≡ ((field == n && bytes_eq key.now other) || is_met keys.old n other)) }
 {
     Ok(keys.insert((field, key))?)
 }
@@ -40,9 +42,14 @@ pub fn meet<'a>(
     label: Label,
     met: &RecRef<'a>,
 ) -> Result<(), ProtoFault>
-    ensures fault { Checks result (fault_if (is_map label && is_met keys.old met.now.number (key_of (view_record met.now).value)) (Repeated met.now.number)) }
+    ensures fault { Checks result
+        (fault_if
+        (is_map label && is_met keys.old met.now.number (key_of (view_record met.now).value))
+        (Repeated met.now.number)) }
     ensures keys { OnOk result ((n : ℕ) (other : List ℕ) → is_met keys.new n other
-        ≡ ((is_map label && (met.now.number == n && bytes_eq (key_of (view_record met.now).value) other)) || is_met keys.old n other)) }
+        ≡ ((is_map label
+        && (met.now.number == n && bytes_eq (key_of (view_record met.now).value) other))
+        || is_met keys.old n other)) }
 {
     if !matches!(label, Label::Map) {
         return Ok(());

@@ -61,7 +61,8 @@ fn bits_of(address: &[RecRef<'_>]) -> u64
 
 /// A network of more bits than its address has.
 fn of_network(alloc: Global, records: &[RecRef<'_>]) -> Result<Option<ProtoFault>, Memory>
-    ensures { IfOk result (λ fault. fault ≡ whole_fault schemas.IpNetwork (map view_record records.now)) }
+    ensures { IfOk result
+        (λ fault. fault ≡ whole_fault schemas.IpNetwork (map view_record records.now)) }
 {
     if !is_there(records, 1) {
         return Ok(None);

@@ -7,21 +7,19 @@ use Rattle.std.specs.declared.option.Option.{Option}
 use Rattle.std.specs.Io.KnownBytes.{Appends}
 use Rattle.mesh_base.specs.declared.limits.Limits.{Limits}
 use Rattle.mesh_outside.specs.Causes.{Unrisen}
-use Rattle.line_run.specs.Rows.{Row, past_of}
+use Rattle.line_run.specs.Rows.{past_of}
 use Rattle.view_types.specs.declared.config.Config.{Config}
 use Rattle.route_match.specs.Matching.{Pat}
 use Rattle.feed_history.specs.MarkCauses.{IsTold}
 use Rattle.feed_history.specs.History.{after, after_end}
 use Rattle.mesh_hub.specs.Hub.{HubState}
-use Rattle.feed_history.specs.Marks.{MarkedRow, unmarked}
+use Rattle.feed_history.specs.Marks.{unmarked}
 use Rattle.feed_history.specs.Optional.{Becomes}
-use Rattle.feed_history.specs.Output.{output_after, refused_after}
-use Rattle.feed_history.specs.Program.{Program, replay_of}
+use Rattle.feed_history.specs.Program.{replay_of}
 use Rattle.mesh_hub.specs.HubAfter.{seen}
 use Rattle.mesh_hub.specs.declared.machine.Reply.{Reply}
-use Rattle.feed_history.specs.Lengths.{LengthsFit}
 use Rattle.feed_step.specs.Transcript.{refused_said, said, text_said}
-use Rattle.feed_history.specs.KnownPatterns.{AreMarked, PatternsNow}
+use Rattle.feed_history.specs.KnownPatterns.{PatternsNow}
 use Rattle.feed_history.specs.Written.{IsFrontOf, IsOutput, IsPlainOutput, IsRefused}
 
 -- What was written is the output of the input.

@@ -1,17 +1,17 @@
 -- Where a replay stands after some rows, while it writes its end, and after that: by what its machine holds, where that is
 -- told, and by its replies, where those are told.
-use Rattle.std.specs.Prelude.{◌≡◌, ◌≤◌, ℕ, ◌+◌, Bool, List, [], ◌++◌, length, map, take, drop, flat_map, reverse}
-use Rattle.std.proofs.Common.{append-nil, refl, sym, ap, subst, ◌∙◌, arith}
+use Rattle.std.specs.Prelude.{◌≡◌, ℕ, ◌+◌, Bool, List, [], ◌++◌, length, map, take, drop, flat_map, reverse}
+use Rattle.std.proofs.Common.{append-nil, sym, ap, subst, ◌∙◌}
 use Rattle.std.specs.List.{AllByRecursion}
 use Rattle.std.specs.declared.option.Option.{Option}
 use Rattle.mesh_base.specs.declared.limits.Limits.{Limits}
 use Rattle.line_run.specs.Rows.{Row}
 use Rattle.view_types.specs.declared.config.Config.{Config}
 use Rattle.route_match.specs.Matching.{Pat}
-use Rattle.feed_history.specs.MarkCauses.{AreFair, IsTold}
-use Rattle.feed_history.specs.History.{Asked, State, after, after_end, id_of, nothing, told_now, ids_of}
+use Rattle.feed_history.specs.MarkCauses.{IsTold}
+use Rattle.feed_history.specs.History.{State, after, after_end, nothing, told_now, ids_of}
 use Rattle.mesh_hub.specs.Hub.{HubState}
-use Rattle.feed_history.specs.Marks.{AreFew, MarkedRow, rows_in, unmarked}
+use Rattle.feed_history.specs.Marks.{MarkedRow, unmarked}
 use Rattle.feed_history.specs.Optional.{Becomes, Becomes-weaker}
 use Rattle.feed_history.specs.Output.{output_after, refused_after, sub_lines, written_after}
 use Rattle.feed_history.specs.Program.{Program, replay_of}

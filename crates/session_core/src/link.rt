@@ -41,8 +41,7 @@ impl Model for Session {
       config = s.config;
       limits = s.limits;
       state = s.state;
-      outbox =
-          s.outbox;
+      outbox = s.outbox;
     } };
 }
 
