@@ -1,21 +1,25 @@
 -- The marks that rows watch: kept for each row, and for each mark the other way round.
-use Rattle.std.specs.Prelude.{◌≡◌, ◌&&◌, ◌||◌, if◌then◌else◌, not, ℕ, Bool, false, nat_eq, List, Option, Some, None}
+use Rattle.std.specs.Prelude.{◌≡◌, ◌<◌, ◌&&◌, ◌||◌, if◌then◌else◌, not, ℕ, Bool, false, nat_eq, List, Option, Some, None}
 use Rattle.std.specs.List.{list_any}
+use Rattle.std.specs.Option.{ForSome}
 use Rattle.std.specs.BTreeMap as tree
 use Rattle.std.specs.BTreeMap.{BTreeMap}
 use Rattle.std.specs.BTreeSet as sorted
 use Rattle.std.specs.BTreeSet.{BTreeSet}
 use Rattle.std.specs.Ordering.{eq_by_cmp, nat_cmp}
 use Rattle.std.specs.declared.cmp.Ordering.{Ordering}
-use Rattle.std.specs.declared.vec.Vec.{Vec}
 
 -- a list of rows contains the row
 abbrev pub has_row : ℕ → List ℕ → Bool
 has_row row rows = list_any (nat_eq row) rows
 
-abbrev pub some_row : {Z : Type 0} → ℕ → Option (Vec ℕ Z) → Bool
+abbrev pub some_row : ℕ → Option (BTreeSet ℕ) → Bool
 some_row row None = false
-some_row row (Some rows) = has_row row rows.items
+some_row row (Some rows) = sorted.contains nat_cmp rows row
+
+-- a mark that is kept has a row
+abbrev pub HasRow : Option (BTreeSet ℕ) → Type 0
+HasRow kept = ForSome kept (λ rows. 0 < sorted.btree_set_len rows)
 
 -- the rows of the set new are those of old and those that are added
 abbrev pub Gathers : (ℕ → Bool) → BTreeSet ℕ → BTreeSet ℕ → Type 0
@@ -31,7 +35,7 @@ module _ {M : Type 0} (cmp : M → M → Ordering) where
   some_mark (Some marks) mark = has_mark marks mark
 
   -- the row stands at the mark
-  abbrev pub row_at : {Z : Type 0} → BTreeMap M (Vec ℕ Z) → M → ℕ → Bool
+  abbrev pub row_at : BTreeMap M (BTreeSet ℕ) → M → ℕ → Bool
   row_at by_mark mark row = some_row row (tree.get cmp by_mark mark)
 
   -- the row watches the mark
@@ -39,11 +43,11 @@ module _ {M : Type 0} (cmp : M → M → Ordering) where
   watches rows row mark = some_mark (tree.get nat_cmp rows row) mark
 
   -- the row is added at the marks of the set, and else each row stands where it stood
-  abbrev pub AddsRow : {Y Z : Type 0} → (M → Bool) → ℕ → BTreeMap M (Vec ℕ Y) → BTreeMap M (Vec ℕ Z) → Type 0
+  abbrev pub AddsRow : (M → Bool) → ℕ → BTreeMap M (BTreeSet ℕ) → BTreeMap M (BTreeSet ℕ) → Type 0
   AddsRow set row old new = (m : M) (r : ℕ) → row_at new m r ≡ ((set m && nat_eq r row) || row_at old m r)
 
   -- the row is removed from the marks of the set, and else each row stands where it stood
-  abbrev pub RemovesRow : {Y Z : Type 0} → (M → Bool) → ℕ → BTreeMap M (Vec ℕ Y) → BTreeMap M (Vec ℕ Z) → Type 0
+  abbrev pub RemovesRow : (M → Bool) → ℕ → BTreeMap M (BTreeSet ℕ) → BTreeMap M (BTreeSet ℕ) → Type 0
   RemovesRow set row old new = (m : M) (r : ℕ) → row_at new m r ≡ (not (set m && nat_eq r row) && row_at old m r)
 
   -- the row watches the marks of the set alone, and each other row what it watched
@@ -51,5 +55,13 @@ module _ {M : Type 0} (cmp : M → M → Ordering) where
   Rewatches set row old new = (r : ℕ) (m : M) → watches new r m ≡ (if nat_eq r row then set m else watches old r m)
 
   -- a row stands at a mark exactly where it watches it
-  abbrev pub Agree : {Z : Type 0} → BTreeMap M (Vec ℕ Z) → BTreeMap ℕ (List M) → Type 0
+  abbrev pub Agree : BTreeMap M (BTreeSet ℕ) → BTreeMap ℕ (List M) → Type 0
   Agree by_mark rows = (m : M) (r : ℕ) → row_at by_mark m r ≡ watches rows r m
+
+  -- each mark that is kept has a row
+  abbrev pub AllHaveRows : BTreeMap M (BTreeSet ℕ) → Type 0
+  AllHaveRows by_mark = (m : M) → HasRow (tree.get cmp by_mark m)
+
+  -- each but this one
+  abbrev pub OthersHaveRows : M → BTreeMap M (BTreeSet ℕ) → Type 0
+  OthersHaveRows mark by_mark = (m : M) → eq_by_cmp cmp mark m ≡ false → HasRow (tree.get cmp by_mark m)

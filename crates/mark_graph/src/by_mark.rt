@@ -1,9 +1,10 @@
 // The rows at each mark.
-ghost use Rattle.std.specs.Prelude.{◌≡◌, not, nat_eq, IfOk, OnOk};
-ghost use Rattle.std.specs.List.{filter, list_any};
+ghost use Rattle.std.specs.Prelude.{◌≡◌, ℕ, true, false, IfOk, OnOk};
+ghost use Rattle.std.specs.BTreeSet.{contains};
+ghost use Rattle.std.specs.List.{list_any};
 ghost use Rattle.std.specs.List.Sorted.{IsStrictlySortedBy};
 ghost use Rattle.std.specs.Ordering.{eq_by_cmp, nat_cmp};
-ghost use Rattle.mark_graph.specs.RowMarks.{AddsRow, Gathers, RemovesRow, has_mark, has_row, row_at};
+ghost use Rattle.mark_graph.specs.RowMarks.{AddsRow, AllHaveRows, Gathers, OthersHaveRows, RemovesRow, has_mark, row_at};
 
 use mesh_base::copied::Copied;
 use mesh_base::list::List;
@@ -14,19 +15,20 @@ use std::collections::{BTreeMap, BTreeSet};
 /// Adds a row at a mark.
 pub fn put_one<M: Ord + Copied>(
     alloc: Global,
-    by: &mut BTreeMap<M, Vec<u64>>,
+    by: &mut BTreeMap<M, BTreeSet<u64>>,
     mark: &M,
     row: u64,
 ) -> Result<(), Memory>
-    ensures { OnOk result (AddsRow M.cmp (eq_by_cmp M.cmp mark.now) row by.old by.new) }
+    ensures added { OnOk result (AddsRow M.cmp (eq_by_cmp M.cmp mark.now) row by.old by.new) }
+    ensures kept { AllHaveRows M.cmp by.old → OnOk result (AllHaveRows M.cmp by.new) }
 {
     match by.get_mut(mark) {
         Some(rows) => {
-            rows.push(row)?;
+            rows.insert(row)?;
         }
         None => {
-            let mut rows = Vec::new(alloc);
-            rows.push(row)?;
+            let mut rows = BTreeSet::new(alloc);
+            rows.insert(row)?;
             by.insert(mark.copy(alloc)?, rows)?;
         }
     }
@@ -34,28 +36,49 @@ pub fn put_one<M: Ord + Copied>(
 }
 
 /// Removes a row from a mark.
-pub fn take_one<M: Ord + Copied>(by: &mut BTreeMap<M, Vec<u64>>, mark: &M, row: u64)
-    ensures { RemovesRow M.cmp (eq_by_cmp M.cmp mark.now) row by.old by.new }
+pub fn take_one<M: Ord + Copied>(by: &mut BTreeMap<M, BTreeSet<u64>>, mark: &M, row: u64)
+    ensures taken { RemovesRow M.cmp (eq_by_cmp M.cmp mark.now) row by.old by.new }
+    ensures kept { AllHaveRows M.cmp by.old → AllHaveRows M.cmp by.new }
 {
-    if let Some(rows) = by.get_mut(mark) {
-        take_row(rows, row);
+    if take_from(by, mark, row) {
+        let_go(by, mark);
     }
 }
 
-fn take_row(rows: &mut Vec<u64>, row: u64)
-    ensures { rows.new.items ≡ filter (λ r. not (nat_eq r row)) rows.old.items }
+/// Removes a row from a mark. Answers whether no row is left there.
+fn take_from<M: Ord + Copied>(by: &mut BTreeMap<M, BTreeSet<u64>>, mark: &M, row: u64) -> bool
+    ensures taken { RemovesRow M.cmp (eq_by_cmp M.cmp mark.now) row by.old by.new }
+    ensures emptied { result ≡ true → (r : ℕ) → row_at M.cmp by.new mark.now r ≡ false }
+    ensures kept { AllHaveRows M.cmp by.old → OthersHaveRows M.cmp mark.now by.new }
+    ensures filled { AllHaveRows M.cmp by.old → result ≡ false → AllHaveRows M.cmp by.new }
 {
-    rows.retain(|r| *r != row);
+    match by.get_mut(mark) {
+        Some(rows) => {
+            rows.remove(&row);
+            rows.is_empty()
+        }
+        None => false,
+    }
+}
+
+/// Drops the set of a mark at which no row stands.
+fn let_go<M: Ord + Copied>(by: &mut BTreeMap<M, BTreeSet<u64>>, mark: &M)
+    requires { (r : ℕ) → row_at M.cmp by.old mark.now r ≡ false }
+    ensures same { (m : M) (r : ℕ) → row_at M.cmp by.new m r ≡ row_at M.cmp by.old m r }
+    ensures kept { OthersHaveRows M.cmp mark.now by.old → AllHaveRows M.cmp by.new }
+{
+    by.remove(mark);
 }
 
 /// Adds a row at each mark.
 pub fn put_all<M: Ord + Copied>(
     alloc: Global,
-    by: &mut BTreeMap<M, Vec<u64>>,
+    by: &mut BTreeMap<M, BTreeSet<u64>>,
     marks: &[M],
     row: u64,
 ) -> Result<(), Memory>
-    ensures { OnOk result (AddsRow M.cmp (has_mark M.cmp marks.now) row by.old by.new) }
+    ensures added { OnOk result (AddsRow M.cmp (has_mark M.cmp marks.now) row by.old by.new) }
+    ensures kept { AllHaveRows M.cmp by.old → OnOk result (AllHaveRows M.cmp by.new) }
 {
     for mark in marks {
         put_one(alloc, by, mark, row)?;
@@ -64,8 +87,9 @@ pub fn put_all<M: Ord + Copied>(
 }
 
 /// Removes a row from each mark.
-pub fn take_all<M: Ord + Copied>(by: &mut BTreeMap<M, Vec<u64>>, marks: &[M], row: u64)
-    ensures { RemovesRow M.cmp (has_mark M.cmp marks.now) row by.old by.new }
+pub fn take_all<M: Ord + Copied>(by: &mut BTreeMap<M, BTreeSet<u64>>, marks: &[M], row: u64)
+    ensures taken { RemovesRow M.cmp (has_mark M.cmp marks.now) row by.old by.new }
+    ensures kept { AllHaveRows M.cmp by.old → AllHaveRows M.cmp by.new }
 {
     for mark in marks {
         take_one(by, mark, row);
@@ -74,7 +98,7 @@ pub fn take_all<M: Ord + Copied>(by: &mut BTreeMap<M, Vec<u64>>, marks: &[M], ro
 
 /// Adds the rows at these marks to a set.
 pub fn gather_all<M: Ord + Copied>(
-    by: &BTreeMap<M, Vec<u64>>,
+    by: &BTreeMap<M, BTreeSet<u64>>,
     marks: &[M],
     set: &mut BTreeSet<u64>,
 ) -> Result<(), Memory>
@@ -88,22 +112,22 @@ pub fn gather_all<M: Ord + Copied>(
 }
 
 fn gather_one<M: Ord + Copied>(
-    by: &BTreeMap<M, Vec<u64>>,
+    by: &BTreeMap<M, BTreeSet<u64>>,
     mark: &M,
     set: &mut BTreeSet<u64>,
 ) -> Result<(), Memory>
     ensures { OnOk result (Gathers (row_at M.cmp by.now mark.now) set.old set.new) }
 {
     match by.get(mark) {
-        Some(rows) => add_rows(set, rows.as_slice()),
+        Some(rows) => add_rows(set, rows),
         None => Ok(()),
     }
 }
 
-fn add_rows(set: &mut BTreeSet<u64>, rows: &[u64]) -> Result<(), Memory>
-    ensures { OnOk result (Gathers (λ r. has_row r rows.now) set.old set.new) }
+fn add_rows(set: &mut BTreeSet<u64>, rows: &BTreeSet<u64>) -> Result<(), Memory>
+    ensures { OnOk result (Gathers (contains nat_cmp rows.now) set.old set.new) }
 {
-    for row in rows {
+    for row in rows.iter() {
         set.insert(*row)?;
     }
     Ok(())

@@ -3,7 +3,7 @@ ghost use Rattle.std.specs.Prelude.{◌≡◌, ℕ, true, false, IsErr, IfOk, On
 ghost use Rattle.std.specs.List.{list_any};
 ghost use Rattle.std.specs.List.Sorted.{IsStrictlySortedBy};
 ghost use Rattle.std.specs.Ordering.{nat_cmp};
-ghost use Rattle.mark_graph.specs.RowMarks.{Agree, Rewatches, has_mark, has_row, watches};
+ghost use Rattle.mark_graph.specs.RowMarks.{Agree, AllHaveRows, Rewatches, has_mark, has_row, watches};
 
 use crate::by_mark::{gather_all, list_of, put_all, take_all};
 use mesh_base::copied::Copied;
@@ -14,11 +14,12 @@ use std::collections::{BTreeMap, BTreeSet};
 
 /// Rows, and the marks that each watches.
 pub struct Graph<M: Ord + Copied> {
-    by_mark: BTreeMap<M, Vec<u64>>,
+    by_mark: BTreeMap<M, BTreeSet<u64>>,
     rows: BTreeMap<u64, List<M>>,
     spent: bool,
     alloc: Global,
     ghost agree: { spent ≡ false → Agree M.cmp by_mark rows },
+    ghost kept: { spent ≡ false → AllHaveRows M.cmp by_mark },
 }
 
 impl<M: Ord + Copied> Graph<M> {
@@ -79,12 +80,13 @@ impl<M: Ord + Copied> Graph<M> {
 }
 
 fn remove_row<M: Ord + Copied>(
-    by: &mut BTreeMap<M, Vec<u64>>,
+    by: &mut BTreeMap<M, BTreeSet<u64>>,
     rows: &mut BTreeMap<u64, List<M>>,
     row: u64,
 )
     ensures watched { Rewatches M.cmp (λ m. false) row rows.old rows.new }
     ensures agree { Agree M.cmp by.old rows.old → Agree M.cmp by.new rows.new }
+    ensures kept { AllHaveRows M.cmp by.old → AllHaveRows M.cmp by.new }
 {
     if let Some(marks) = rows.remove(&row) {
         take_all(by, marks.as_slice(), row);
