@@ -1,0 +1,4 @@
+pub mod EventMarks
+pub mod Lookback
+pub mod NoMessages
+pub mod Unmoved
