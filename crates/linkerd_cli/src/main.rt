@@ -1,18 +1,15 @@
 //! The program: the destination and policy controllers of a Linkerd 2 control plane, over a recorded feed.
 //!
-//! Stands on command_words for the words of the command line, on replay_core, diagnosis, output_fold and cluster_sample for
-//! what the commands do, on mesh_outside for standard input and output, on regex_patterns for the regular expressions of
-//! routes, and on run_report for what standard error is told. `main` hands the words to `top`, whose contract cites
-//! `specs/Commands` of command_words and `specs/Headline` of each crate that does a command.
+//! Stands on command_run for what a command does, on mesh_outside for standard input and output, on regex_patterns for the regular
+//! expressions of routes, and on run_report for what standard error is told. `main` hands the words to `command_run::top::top`,
+//! whose contract is that of the program.
 #![tactic(auto)]
 
-mod command;
 mod exit;
-mod top;
 
-use crate::command::words_of;
 use crate::exit::exit_code;
-use crate::top::{Outcome, top};
+use command_run::top::{Outcome, top};
+use command_run::words::words_of;
 use line_run::Status;
 use mesh_base::limits::Limits;
 use mesh_base::memory::Memory;
@@ -87,6 +84,3 @@ fn main(rt: HostRuntime) -> ExitCode {
     let _ = eprint!(rt; "{}", report.text(rt.stderr().is_terminal()));
     exit_code(report.status)
 }
-
-#[cfg(test)]
-mod tests;

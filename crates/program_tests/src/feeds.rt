@@ -1,121 +1,15 @@
-mod cases;
-mod commands;
-mod drains;
-mod folds;
-mod inbound;
-mod lines;
-mod options;
-mod outbound;
-mod pods;
-mod profiles;
-mod rows;
-mod script;
-mod simulations;
-mod verdicts;
-
+// Feeds and what a replay writes for them.
 ghost use Rattle.std.specs.Prelude.{◌≤◌};
 
-use super::{Outcome, top};
-use crate::top::tests::cases::holds_within;
-use crate::top::tests::lines::{GET, NO_ENDPOINTS, NO_SERVICE, SERVICE, SLICE, named};
-use crate::top::tests::pods::PODS;
-use crate::top::tests::rows::{ACCEPTED, LIMITED, NAMED, REFUSED};
+use crate::cases::holds_within;
+use crate::lines::{GET, NO_ENDPOINTS, NO_SERVICE, SERVICE, SLICE, named};
+use crate::pods::PODS;
+use crate::rows::{ACCEPTED, LIMITED, NAMED, REFUSED};
+use crate::runs::{comes_to, run_of, sink_of, source_of, tried};
 use line_run::Status;
 use mesh_base::limits::Limits;
-use mesh_base::list::List;
-use mesh_base::memory::Memory;
-use mesh_base::text::Text;
-use mesh_hub::hub::Hub;
-use mesh_outside::{MemSink, MemSource, SureSink, SureSource};
-use regex_patterns::RegexPatterns;
 use std::alloc::Global;
 use std::test::Fail;
-use view_types::config::Config;
-
-// A hub that holds nothing.
-fn hub_of(alloc: Global) -> Result<Hub, Memory> {
-    Hub::new(alloc, Config::usual(alloc)?, Limits::usual())
-}
-
-fn source_of(alloc: Global, text: &str, fails: &[u64]) -> Result<MemSource, Fail> {
-    Ok(MemSource {
-        bytes: text.as_bytes().to_vec(alloc)?,
-        fails: List::from_vec(fails.to_vec(alloc)?),
-        calls: 0,
-        count: 0,
-    })
-}
-
-fn sink_of(alloc: Global, fails: &[u64]) -> Result<MemSink, Fail> {
-    Ok(MemSink {
-        bytes: Vec::new(alloc),
-        fails: List::from_vec(fails.to_vec(alloc)?),
-        calls: 0,
-        count: 0,
-    })
-}
-
-// Words that are written with a blank between them; none where nothing is written.
-fn words_of(alloc: Global, line: &str) -> Result<Vec<Text>, Fail> {
-    let mut words = Vec::new(alloc);
-    if line.is_empty() {
-        return Ok(words);
-    }
-    for word in line.split(' ') {
-        words.push(Text::from_str(alloc, word)?)?;
-    }
-    Ok(words)
-}
-
-// What words make of bytes in memory: no read and no write fails, so they are read to their end unless there is no memory.
-fn replayed(
-    alloc: Global,
-    words: &[Text],
-    limits: &Limits,
-    bytes: &[u8],
-    out: &mut SureSink,
-) -> Status
-    requires { 1 ≤ limits.now.frame_addrs }
-{
-    let Ok(mut hub) = hub_of(alloc) else {
-        return Status::Memory;
-    };
-    let mut input = SureSource { bytes };
-    let Outcome::Ended(status) = top(
-        alloc,
-        words,
-        limits,
-        &mut hub,
-        &mut input,
-        out,
-        &mut RegexPatterns::new(alloc),
-    );
-    status
-}
-
-// What a command, written as one line, makes of the text of an input.
-fn run_of(
-    alloc: Global,
-    limits: &Limits,
-    command: &str,
-    text: &str,
-) -> Result<(Status, String), Fail>
-    requires { 1 ≤ limits.now.frame_addrs }
-{
-    let words = words_of(alloc, command)?;
-    let mut out = SureSink {
-        bytes: Vec::new(alloc),
-    };
-    let status = replayed(alloc, &words, limits, text.as_bytes(), &mut out);
-    let written = String::from_utf8(out.bytes)?;
-    Ok((status, written))
-}
-
-// Whether the text of an input comes to this.
-fn comes_to(alloc: Global, text: &str, status: Status, expected: &str) -> Result<bool, Fail> {
-    let (ended, written) = run_of(alloc, &Limits::USUAL, "replay", text)?;
-    Ok(ended == status && written.as_str() == expected)
-}
 
 // The lines of these names, each ended by `end`.
 fn lines_named(alloc: Global, words: &str, end: &str) -> Result<String, Fail> {
@@ -246,30 +140,6 @@ fn long_lines(rt: HostRuntime) -> Result<(), Fail> {
     let expected = format!(in alloc; "refused 1 TooLong\n{NO_SERVICE}")?;
     assert!(rt; padded_comes_to(alloc, 1_048_577, &expected)?);
     Ok(())
-}
-
-// How words end over a source and a sink.
-fn tried(
-    alloc: Global,
-    words: &str,
-    limits: &Limits,
-    input: &mut MemSource,
-    out: &mut MemSink,
-) -> Result<Status, Fail>
-    requires { 1 ≤ limits.now.frame_addrs }
-{
-    let words = words_of(alloc, words)?;
-    let mut hub = hub_of(alloc)?;
-    let Outcome::Ended(status) = top(
-        alloc,
-        &words,
-        limits,
-        &mut hub,
-        input,
-        out,
-        &mut RegexPatterns::new(alloc),
-    );
-    Ok(status)
 }
 
 // How a replay of three lines ends where these reads and writes fail and the input has this limit, and how many bytes are

@@ -1,4 +1,4 @@
-use crate::command::{status_without_words, words_of};
+use command_run::words::{status_without_words, words_of};
 use line_run::Status;
 use std::alloc::Global;
 use std::env::{Env, FillError};

@@ -1,4 +1,4 @@
-use super::comes_to;
+use crate::runs::comes_to;
 use line_run::Status;
 use std::test::Fail;
 

@@ -8,7 +8,7 @@ ghost use Rattle.output_fold.specs.Headline.{WritesFolded, WritesFoldedFront};
 ghost use Rattle.diagnosis.specs.Headline.{WritesDiagnosed, WritesDiagnosedFront};
 ghost use Rattle.cluster_sample.specs.Headline.{WritesSample, WritesSampleFront};
 ghost use Rattle.command_words.specs.Commands.{command_in};
-ghost use Rattle.linkerd_cli.specs.Outcome.{AtEnd, AtStop, EndsWith, IsUnread, OfBytes, OfCommand, OfDiagnose, OfFold, OfReplay, OfSample, read_by};
+ghost use Rattle.command_run.specs.Outcome.{AtEnd, AtStop, EndsWith, IsUnread, OfBytes, OfCommand, OfDiagnose, OfFold, OfReplay, OfSample, read_by};
 
 use cluster_sample::sample::sample;
 use command_words::command::Command;
@@ -183,6 +183,3 @@ pub fn top<H: Machine, S: Source, K: Sink, P: Patterns>(
         Err(WordsFault::Memory) => Outcome::Ended(Status::Memory),
     }
 }
-
-#[cfg(test)]
-mod tests;

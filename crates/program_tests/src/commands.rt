@@ -1,8 +1,8 @@
 ghost use Rattle.std.specs.Prelude.{◌≤◌};
 
-use super::{sink_of, source_of, tried};
-use crate::top::tests::cases::holds_by;
-use crate::top::tests::lines::GET;
+use crate::cases::holds_by;
+use crate::lines::GET;
+use crate::runs::{sink_of, source_of, tried};
 use line_run::Status;
 use mesh_base::limits::Limits;
 use std::alloc::Global;

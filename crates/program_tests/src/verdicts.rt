@@ -1,4 +1,4 @@
-use crate::top::tests::cases::holds;
+use crate::cases::holds;
 use mesh_base::limits::Limits;
 use std::test::Fail;
 

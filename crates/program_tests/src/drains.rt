@@ -1,6 +1,6 @@
-use super::comes_to;
-use crate::top::tests::cases::{holds, holds_within};
-use crate::top::tests::lines::{GET, SERVICE};
+use crate::cases::{holds, holds_within};
+use crate::lines::{GET, SERVICE};
+use crate::runs::comes_to;
 use line_run::Status;
 use mesh_base::limits::Limits;
 use std::alloc::Global;

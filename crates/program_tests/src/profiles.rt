@@ -1,4 +1,4 @@
-use crate::top::tests::cases::{holds, holds_within};
+use crate::cases::{holds, holds_within};
 use mesh_base::limits::Limits;
 use std::test::Fail;
 

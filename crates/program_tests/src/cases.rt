@@ -1,8 +1,8 @@
 //! Tables in one string: lines and frames by name, and cases that say what lines come to.
 ghost use Rattle.std.specs.Prelude.{◌≤◌, IfOk};
 
-use super::run_of;
-use crate::top::tests::lines::named;
+use crate::lines::named;
+use crate::runs::run_of;
 use line_run::Status;
 use mesh_base::limits::Limits;
 use std::alloc::Global;

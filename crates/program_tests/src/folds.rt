@@ -1,7 +1,7 @@
 ghost use Rattle.std.specs.Prelude.{◌≤◌};
 
-use super::run_of;
-use crate::top::tests::cases::{limited, status_of};
+use crate::cases::{limited, status_of};
+use crate::runs::run_of;
 use line_run::Status;
 use mesh_base::limits::Limits;
 use std::alloc::Global;

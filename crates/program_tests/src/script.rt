@@ -1,8 +1,8 @@
 // A machine that answers from a list of replies.
-use crate::top::tests::lines::{GET, SERVICE, SLICE};
-use crate::top::tests::words_of;
-use crate::top::{Outcome, top};
+use crate::lines::{GET, SERVICE, SLICE};
+use crate::runs::words_of;
 use bytes::Bytes;
+use command_run::top::{Outcome, top};
 use line_run::Status;
 use mesh_base::limits::Limits;
 use mesh_base::list::List;

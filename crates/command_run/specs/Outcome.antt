@@ -12,8 +12,8 @@ use Rattle.gen_cluster.specs.Generated.{generated}
 use Rattle.line_run.specs.Run.{OnEnd, OnStop}
 use Rattle.line_run.specs.declared.status.Status.{Status}
 use Rattle.line_run.specs.declared.status.Status.TheVariants as statuses
-use Rattle.linkerd_cli.specs.declared.top.Outcome.{Outcome}
-use Rattle.linkerd_cli.specs.declared.top.Outcome.TheVariants.{Ended}
+use Rattle.command_run.specs.declared.top.Outcome.{Outcome}
+use Rattle.command_run.specs.declared.top.Outcome.TheVariants.{Ended}
 
 -- P of the command that the words ask for
 abbrev pub OfCommand : List (List ℕ) → (Command → Type 0) → Type 0

@@ -2,7 +2,7 @@ use Rattle.feed_history.specs.KnownPatterns.{known_of}
 use Rattle.replay_core.proofs.Fronts.{none_said, nothing_written}
 use Rattle.feed_history.proofs.Marks.{at_most}
 use Rattle.feed_history.proofs.Optional.{extends_same}
-use Rattle.linkerd_cli.proofs.top.top.Goals as goal
+use Rattle.command_run.proofs.top.top.Goals as goal
 
 pub returns-in-Err-Memory-clause-front : goal.returns-in-Err-Memory-clause-front
 returns-in-Err-Memory-clause-front g c =

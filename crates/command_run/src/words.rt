@@ -6,8 +6,8 @@ use std::env;
 use std::env::Env;
 use std::io::ErrorKind;
 
-/// What it comes to that the words can't be had: there was no memory for them, or they are no text.
-pub(crate) fn status_without_words(kind: ErrorKind) -> Status
+/// The status where the arguments cannot be read: they need more memory than there is, or one is not UTF-8.
+pub fn status_without_words(kind: ErrorKind) -> Status
     ensures memory { kind ≡ ErrorKind.OutOfMemory → result ≡ Status.Memory }
     ensures usage { kind ≢ ErrorKind.OutOfMemory → result ≡ Status.Usage }
 {
@@ -19,7 +19,7 @@ pub(crate) fn status_without_words(kind: ErrorKind) -> Status
 }
 
 /// The words of the command line, without the program's name.
-pub(crate) fn words_of<R: Env + AllocGlobal>(rt: &R) -> Result<Vec<Text>, Status> {
+pub fn words_of<R: Env + AllocGlobal>(rt: &R) -> Result<Vec<Text>, Status> {
     let args = match env::args(rt) {
         Ok(args) => args,
         Err(error) => return Err(status_without_words(error.kind())),

@@ -1,0 +1,41 @@
+//! Tests of `top`, over inputs and outputs in memory: whole runs with their bytes, each refusal of a line, the example cluster,
+//! arguments, profiles, inbound and outbound policies, verdicts, drains, folds, samples and options. They stand apart, since a crate with
+//! tests is proved twice.
+//!
+//! Stands on command_run.
+#![tactic(auto)]
+
+#[cfg(test)]
+mod arguments;
+#[cfg(test)]
+mod cases;
+#[cfg(test)]
+mod commands;
+#[cfg(test)]
+mod drains;
+#[cfg(test)]
+mod feeds;
+#[cfg(test)]
+mod folds;
+#[cfg(test)]
+mod inbound;
+#[cfg(test)]
+mod lines;
+#[cfg(test)]
+mod options;
+#[cfg(test)]
+mod outbound;
+#[cfg(test)]
+mod pods;
+#[cfg(test)]
+mod profiles;
+#[cfg(test)]
+mod rows;
+#[cfg(test)]
+mod runs;
+#[cfg(test)]
+mod script;
+#[cfg(test)]
+mod simulations;
+#[cfg(test)]
+mod verdicts;

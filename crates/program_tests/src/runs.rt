@@ -1,0 +1,129 @@
+// Runs of `top` over inputs and outputs in memory.
+ghost use Rattle.std.specs.Prelude.{◌≤◌};
+
+use command_run::top::{Outcome, top};
+use line_run::Status;
+use mesh_base::limits::Limits;
+use mesh_base::list::List;
+use mesh_base::memory::Memory;
+use mesh_base::text::Text;
+use mesh_hub::hub::Hub;
+use mesh_outside::{MemSink, MemSource, SureSink, SureSource};
+use regex_patterns::RegexPatterns;
+use std::alloc::Global;
+use std::test::Fail;
+use view_types::config::Config;
+
+// A hub that holds nothing.
+fn hub_of(alloc: Global) -> Result<Hub, Memory> {
+    Hub::new(alloc, Config::usual(alloc)?, Limits::usual())
+}
+
+pub(crate) fn source_of(alloc: Global, text: &str, fails: &[u64]) -> Result<MemSource, Fail> {
+    Ok(MemSource {
+        bytes: text.as_bytes().to_vec(alloc)?,
+        fails: List::from_vec(fails.to_vec(alloc)?),
+        calls: 0,
+        count: 0,
+    })
+}
+
+pub(crate) fn sink_of(alloc: Global, fails: &[u64]) -> Result<MemSink, Fail> {
+    Ok(MemSink {
+        bytes: Vec::new(alloc),
+        fails: List::from_vec(fails.to_vec(alloc)?),
+        calls: 0,
+        count: 0,
+    })
+}
+
+// Words that are written with a blank between them; none where nothing is written.
+pub(crate) fn words_of(alloc: Global, line: &str) -> Result<Vec<Text>, Fail> {
+    let mut words = Vec::new(alloc);
+    if line.is_empty() {
+        return Ok(words);
+    }
+    for word in line.split(' ') {
+        words.push(Text::from_str(alloc, word)?)?;
+    }
+    Ok(words)
+}
+
+// What words make of bytes in memory: no read and no write fails, so they are read to their end unless there is no memory.
+fn replayed(
+    alloc: Global,
+    words: &[Text],
+    limits: &Limits,
+    bytes: &[u8],
+    out: &mut SureSink,
+) -> Status
+    requires { 1 ≤ limits.now.frame_addrs }
+{
+    let Ok(mut hub) = hub_of(alloc) else {
+        return Status::Memory;
+    };
+    let mut input = SureSource { bytes };
+    let Outcome::Ended(status) = top(
+        alloc,
+        words,
+        limits,
+        &mut hub,
+        &mut input,
+        out,
+        &mut RegexPatterns::new(alloc),
+    );
+    status
+}
+
+// What a command, written as one line, makes of the text of an input.
+pub(crate) fn run_of(
+    alloc: Global,
+    limits: &Limits,
+    command: &str,
+    text: &str,
+) -> Result<(Status, String), Fail>
+    requires { 1 ≤ limits.now.frame_addrs }
+{
+    let words = words_of(alloc, command)?;
+    let mut out = SureSink {
+        bytes: Vec::new(alloc),
+    };
+    let status = replayed(alloc, &words, limits, text.as_bytes(), &mut out);
+    let written = String::from_utf8(out.bytes)?;
+    Ok((status, written))
+}
+
+// Whether the text of an input comes to this.
+pub(crate) fn comes_to(
+    alloc: Global,
+    text: &str,
+    status: Status,
+    expected: &str,
+) -> Result<bool, Fail> {
+    let (ended, written) = run_of(alloc, &Limits::USUAL, "replay", text)?;
+    Ok(ended == status && written.as_str() == expected)
+}
+
+// How words end over a source and a sink.
+pub(crate) fn tried(
+    alloc: Global,
+    words: &str,
+    limits: &Limits,
+    input: &mut MemSource,
+    out: &mut MemSink,
+) -> Result<Status, Fail>
+    requires { 1 ≤ limits.now.frame_addrs }
+{
+    let words = words_of(alloc, words)?;
+    let mut hub = hub_of(alloc)?;
+    let Outcome::Ended(status) = top(
+        alloc,
+        &words,
+        limits,
+        &mut hub,
+        input,
+        out,
+        &mut RegexPatterns::new(alloc),
+    );
+    Ok(status)
+}
