@@ -2,6 +2,7 @@
 
 import json
 import pathlib
+import re
 import subprocess
 import sys
 import tempfile
@@ -82,6 +83,11 @@ class Answers:
         return self.views.get(number, [])
 
 
+# Warnings that are left out: mesh names the refused lines of the feed itself, the program counts the questions among them, and
+# the first run over a feed asks nothing.
+SAID_BY_MESH = re.compile(r"linkerd_cli: (warning: \d+ lines? (was|were) refused, |no line subscribed or simulated, )")
+
+
 class Program:
     """The program linkerd_cli with its configuration."""
 
@@ -89,7 +95,7 @@ class Program:
         self.path, self.options, self.lines_on_error = path, options, set()
 
     def replay(self, lines: list[bytes]) -> list[str]:
-        """What `replay` writes for these lines. What it says on standard error is passed on, each line once."""
+        """What `replay` writes for these lines. What else it says on standard error is passed on, each line once."""
         with tempfile.TemporaryFile() as source, tempfile.TemporaryFile() as output:
             source.writelines(line + b"\n" for line in lines)
             source.seek(0)
@@ -109,7 +115,7 @@ class Program:
             with subprocess.Popen(command, stdin=source, stdout=output, stderr=subprocess.PIPE, text=True, errors="replace") as run:
                 for line in run.stderr:
                     last = line.strip()
-                    if line not in self.lines_on_error:
+                    if line not in self.lines_on_error and not SAID_BY_MESH.match(line):
                         self.lines_on_error.add(line)
                         print(line, end="", file=sys.stderr, flush=True)
         except OSError as error:

@@ -1,5 +1,7 @@
 """`mesh endpoints`."""
 
+import json
+
 from mesh_tests.support import EXAMPLES, Case
 
 
@@ -46,6 +48,18 @@ class Endpoints(Case):
             SERVICE PORT   ADDRESS     PORT   POD     ACCOUNT   MESHED   HINT
             80             10.42.0.3   8080   web-1   web       no       -
         """)
+
+    def test_a_page_of_a_list(self):
+        """The second page replaces the first. The program's warning is passed on."""
+        service = {"metadata": {"name": "web", "namespace": "app"}, "spec": {"ports": [{"name": "http", "port": 80}]}}
+        pages = [
+            {"apiVersion": "v1", "kind": "ServiceList", "metadata": {"continue": "abc"}, "items": [service]},
+            {"apiVersion": "v1", "kind": "ServiceList", "metadata": {}, "items": [service]},
+        ]
+        run = self.mesh("endpoints", b"".join(json.dumps(page).encode() + b"\n" for page in pages), "web.app:80")
+        self.assertEqual("linkerd_cli: warning: line 1 is one page of a list of kind Service: it counts as the whole list and "
+                         "replaces all objects of the kind\n", run.error_output)
+        self.assertEqual(0, run.status)
 
     def test_what_kubernetes_own_controller_found(self):
         """The ready addresses that examples/README.md has from the Endpoints objects."""

@@ -18,7 +18,8 @@ pub fn status_without_words(kind: ErrorKind) -> Status
     }
 }
 
-/// The words of the command line, without the program's name.
+/// The words of the command line, without the program's name. The error is Memory where there is no memory for them, and Usage
+/// where one is not UTF-8.
 pub fn words_of<R: Env + AllocGlobal>(rt: &R) -> Result<Vec<Text>, Status> {
     let args = match env::args(rt) {
         Ok(args) => args,

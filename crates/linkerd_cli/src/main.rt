@@ -6,18 +6,25 @@
 #![tactic(auto)]
 
 mod exit;
+mod reader;
 
 use crate::exit::exit_code;
+use crate::reader::Reader;
 use command_run::top::{Outcome, top};
 use command_run::words::words_of;
 use line_run::Status;
 use mesh_base::limits::Limits;
 use mesh_base::memory::Memory;
+use mesh_base::text::Text;
 use mesh_hub::hub::Hub;
 use mesh_outside::{ReadSource, WriteSink};
 use regex_patterns::RegexPatterns;
-use run_report::{InputTally, OutputTally, Progress, Report, Run, StartTime};
+use run_report::{
+    Asked, Command, ErrorKeeper, HeldObjects, InputTally, LastError, OutputTally, Progress, Report,
+    Run, StartTime, WrongWords,
+};
 use std::alloc::Global;
+use std::io;
 use std::io::{IsTerminal, Stderr};
 use std::process::ExitCode;
 use view_types::config::Config;
@@ -35,8 +42,13 @@ fn screen(rt: &HostRuntime) -> Option<Stderr> {
     Some(rt.stderr())
 }
 
-fn progress(rt: &HostRuntime, start: StartTime) -> Option<Progress<&HostRuntime, Stderr>> {
-    Some(Progress::new(rt, start, screen(rt)?))
+fn progress<'a>(
+    rt: &'a HostRuntime,
+    start: StartTime,
+    words: &[Text],
+) -> Option<Progress<&'a HostRuntime, Stderr>> {
+    let command = Command::named(words.first()?.as_str())?;
+    Some(Progress::new(rt, start, command, screen(rt)?))
 }
 
 // The same terminal, where the output goes there, too.
@@ -48,39 +60,89 @@ fn output_screen(rt: &HostRuntime) -> Option<Stderr> {
     }
 }
 
-// What the words of the command line come to.
-fn run(rt: &HostRuntime) -> Report {
-    let start = StartTime::now(rt);
-    let words = match words_of(rt) {
-        Ok(words) => words,
-        Err(status) => return Report::of(status),
+// The objects that a hub holds, by their kinds.
+fn held_in(hub: &Hub) -> HeldObjects {
+    let mut held = HeldObjects::NONE;
+    for object in hub.objects() {
+        held.add(object.kind());
+    }
+    held
+}
+
+// Tells standard error how the program ended.
+fn tell(
+    rt: &HostRuntime,
+    status: Status,
+    error: Option<io::Error>,
+    run: Option<Run<'_>>,
+) -> Status {
+    let report = Report {
+        status,
+        error,
+        run,
+        is_terminal: rt.stderr().is_terminal(),
     };
+    let _ = eprint!(rt; "{report}");
+    status
+}
+
+fn tell_usage(rt: &HostRuntime, words: WrongWords<'_>) -> Status {
+    let _ = eprint!(rt; "{words}");
+    Status::Usage
+}
+
+// Does what the words of the command line ask for, and tells standard error of it.
+fn run<'a>(
+    rt: &'a HostRuntime,
+    start: StartTime,
+    words: &'a [Text],
+    last: &'a LastError,
+) -> Status {
     let Ok(mut hub) = new_hub(rt.alloc()) else {
-        return Report::of(Status::Memory);
+        return tell(rt, Status::Memory, None, None);
     };
-    let mut input = InputTally::new(ReadSource::new(rt.stdin()), progress(rt, start));
-    let mut out = OutputTally::new(WriteSink::new(rt.stdout()), output_screen(rt));
+    let stdin = ReadSource::new(ErrorKeeper::new(rt.stdin(), last));
+    let stdout = WriteSink::new(ErrorKeeper::new(rt.stdout(), last));
+    let mut input = InputTally::new(rt.alloc(), stdin, progress(rt, start, words));
+    let mut out = OutputTally::new(rt.alloc(), stdout, output_screen(rt));
     let Outcome::Ended(status) = top(
         rt.alloc(),
-        &words,
+        words,
         &Limits::usual(),
         &mut hub,
         &mut input,
         &mut out,
         &mut RegexPatterns::new(rt.alloc()),
     );
-    Report::after(
-        status,
-        Run {
-            read: input.end(),
-            written: out.counts,
-            elapsed: start.elapsed(rt),
-        },
-    )
+    if status == Status::Usage {
+        let reader = Reader { alloc: rt.alloc() };
+        return tell_usage(rt, WrongWords::of(rt.alloc(), words, &reader));
+    }
+    let read = input.end();
+    let held = held_in(&hub);
+    let elapsed = start.elapsed(rt);
+    let Some(asked) = Asked::by(words) else {
+        return tell(rt, status, last.get(), None);
+    };
+    let run = Run {
+        asked,
+        read,
+        feed: &input.feed,
+        written: out.counts,
+        output: &out.notes,
+        held,
+        elapsed,
+    };
+    tell(rt, status, last.get(), Some(run))
 }
 
 fn main(rt: HostRuntime) -> ExitCode {
-    let report = run(&rt);
-    let _ = eprint!(rt; "{}", report.text(rt.stderr().is_terminal()));
-    exit_code(report.status)
+    let start = StartTime::now(&rt);
+    let last = LastError::new(None);
+    let status = match words_of(&rt) {
+        Ok(words) => run(&rt, start, &words, &last),
+        Err(Status::Usage) => tell_usage(&rt, WrongWords::not_utf8()),
+        Err(status) => tell(&rt, status, None, None),
+    };
+    exit_code(status)
 }

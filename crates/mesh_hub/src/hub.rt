@@ -1,4 +1,5 @@
 ghost use Rattle.std.specs.Prelude.{◌≡◌, ◌==◌, ◌≤◌, ◌<◌, false, None, IfOk, MatchOption, Some, length};
+ghost use Rattle.std.specs.FinMap.{values};
 ghost use Rattle.std.specs.List.{position_from};
 ghost use Rattle.view_types.specs.Objects.{IsListOf};
 ghost use Rattle.view_rules.specs.Fold.{IsOrderlyIfShown};
@@ -259,6 +260,13 @@ impl Hub {
             return Err(SimFault::Memory);
         };
         decide(self.alloc, &view, request, &self.config, patterns)
+    }
+
+    /// The objects that are held, in the order of their keys.
+    pub fn objects(&self) -> &[Object]
+        ensures { result.now ≡ values (state_of self.now).objects }
+    {
+        self.store.all()
     }
 
     /// Whether a subscription is live under the id.

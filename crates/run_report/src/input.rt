@@ -5,9 +5,11 @@ ghost use Rattle.std.specs.Io.KnownBytes.{ReadConsumes};
 ghost use Rattle.mesh_outside.specs.Causes.{HasCause};
 ghost use Rattle.run_report.specs.Counts.{AreCounts};
 
+use crate::feed::FeedNotes;
 use crate::lines::LineCount;
 use crate::progress::Progress;
 use mesh_outside::{Failed, Source};
+use std::alloc::Global;
 use std::io::Write;
 use std::time::Clock;
 
@@ -36,7 +38,8 @@ impl InputCounts {
     }
 
     fn take(&mut self, piece: &[u8])
-        ensures counts { (bytes : List ℕ) → AreCounts self.old bytes → AreCounts self.new (bytes ++ piece.now) }
+        ensures counts { (bytes : List ℕ) → AreCounts self.old bytes
+            → AreCounts self.new (bytes ++ piece.now) }
         ensures asked { self.new.was_asked ≡ true }
     {
         self.was_asked = true;
@@ -50,11 +53,13 @@ impl InputCounts {
 pub struct InputTally<S, C, W> {
     source: S,
     counts: InputCounts,
-    pub(crate) progress: Option<Progress<C, W>>,
+    /// What is noted of the input if it is a feed.
+    pub feed: FeedNotes,
+    pub progress: Option<Progress<C, W>>,
 }
 
 impl<S: Source, C: Clock, W: Write> InputTally<S, C, W> {
-    pub fn new(source: S, progress: Option<Progress<C, W>>) -> InputTally<S, C, W>
+    pub fn new(alloc: Global, source: S, progress: Option<Progress<C, W>>) -> InputTally<S, C, W>
         ensures source { result.source ≡ source }
         ensures counts { AreCounts result.counts [] }
         ensures unasked { result.counts.was_asked ≡ false }
@@ -62,6 +67,7 @@ impl<S: Source, C: Clock, W: Write> InputTally<S, C, W> {
         InputTally {
             source,
             counts: InputCounts::new(),
+            feed: FeedNotes::new(alloc),
             progress,
         }
     }
@@ -71,6 +77,7 @@ impl<S: Source, C: Clock, W: Write> InputTally<S, C, W> {
         ensures source { self.new.source ≡ self.old.source }
         ensures counts { result ≡ self.old.counts }
     {
+        self.feed.end();
         if let Some(progress) = &mut self.progress {
             progress.clear();
         }
@@ -91,17 +98,20 @@ impl<S: Source, C: Clock, W: Write> Source for InputTally<S, C, W> {
 
     fn read(&mut self, buf: &mut [u8]) -> Result<usize, Failed>
         ensures bound { ReadsAtMost result buf.new }
-        ensures bytes { ReadConsumes (S.left self.old.source) (S.left self.new.source) result buf.new }
+        ensures bytes { ReadConsumes (S.left self.old.source)
+            (S.left self.new.source) result buf.new }
         ensures cause { HasCause (S.faults self.old.source) (S.faults self.new.source) result }
 
         // What is given is counted.
-        ensures counts { (bytes : List ℕ) → AreCounts self.old.counts bytes → IfOk result (λ n. AreCounts self.new.counts (bytes ++ take n buf.new)) }
+        ensures counts { (bytes : List ℕ) → AreCounts self.old.counts bytes
+            → IfOk result (λ n. AreCounts self.new.counts (bytes ++ take n buf.new)) }
         ensures asked { IfOk result (λ n. self.new.counts.was_asked ≡ true) }
         ensures same { OnErr result (self.new.counts ≡ self.old.counts) }
     {
         match self.source.read(buf) {
             Ok(n) => {
                 self.counts.take(&buf[..n]);
+                self.feed.take(&buf[..n]);
                 show(&mut self.progress, self.counts.bytes);
                 Ok(n)
             }

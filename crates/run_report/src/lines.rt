@@ -9,7 +9,8 @@ const LINE_FEED: u8 = b'\n';
 // Where the first LF stands.
 pub(crate) fn first_break(bytes: &[u8]) -> Option<usize>
     ensures within { IfSome result (λ at. at < length bytes.now) }
-    ensures cut { IfSome result (λ at. bytes.now ≡ take at bytes.now ++ 10 ∷ drop (at + 1) bytes.now) }
+    ensures cut { IfSome result
+        (λ at. bytes.now ≡ take at bytes.now ++ 10 ∷ drop (at + 1) bytes.now) }
     ensures line { IfSome result (λ at. NoBreak (take at bytes.now)) }
     ensures none { IfNone result (NoBreak bytes.now) }
 {
@@ -36,7 +37,8 @@ impl LineCount {
     #[tactic(auto, using(crate::proofs::Growth::part_begins, crate::proofs::Growth::part_goes_on, crate::proofs::Growth::ends_open_part))]
     fn take_part(&mut self, part: &[u8])
         requires { NoBreak part.now }
-        ensures { (bytes : List ℕ) → AreLines self.old bytes → AreLines self.new (bytes ++ part.now) }
+        ensures { (bytes : List ℕ) → AreLines self.old bytes
+            → AreLines self.new (bytes ++ part.now) }
     {
         if part.is_empty() {
             return;
@@ -50,7 +52,8 @@ impl LineCount {
     // Adds the LF of a line.
     #[tactic(auto, using(crate::proofs::Growth::line_begins, crate::proofs::Growth::line_goes_on, crate::proofs::Growth::ends_open_more))]
     fn end_line(&mut self)
-        ensures { (bytes : List ℕ) → AreLines self.old bytes → AreLines self.new (bytes ++ 10 ∷ []) }
+        ensures { (bytes : List ℕ) → AreLines self.old bytes
+            → AreLines self.new (bytes ++ 10 ∷ []) }
     {
         if !self.is_open {
             self.count = self.count.saturating_add(1);
@@ -60,7 +63,8 @@ impl LineCount {
 
     /// Adds the lines of a piece, which may begin and end within a line.
     pub(crate) fn take(&mut self, piece: &[u8])
-        ensures { (bytes : List ℕ) → AreLines self.old bytes → AreLines self.new (bytes ++ piece.now) }
+        ensures { (bytes : List ℕ) → AreLines self.old bytes
+            → AreLines self.new (bytes ++ piece.now) }
     {
         let mut rest = piece;
         while let Some(at) = first_break(rest) {
@@ -70,4 +74,23 @@ impl LineCount {
         }
         self.take_part(rest);
     }
+}
+
+/// Reads lines that come in parts.
+pub(crate) trait LineParts {
+    /// Adds bytes of a line that goes on behind them.
+    fn take_part(&mut self, part: &[u8]);
+
+    /// Adds the last bytes of a line, which may be none.
+    fn end_line(&mut self, part: &[u8]);
+}
+
+/// Adds the lines of a piece, which may begin and end within a line.
+pub(crate) fn take_parts<L: LineParts>(lines: &mut L, piece: &[u8]) {
+    let mut rest = piece;
+    while let Some(at) = first_break(rest) {
+        lines.end_line(&rest[..at]);
+        rest = &rest[at + 1..];
+    }
+    lines.take_part(rest);
 }

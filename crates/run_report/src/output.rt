@@ -9,7 +9,9 @@ ghost use Rattle.run_report.specs.Written.{AreWritten, IsAt, IsFault, IsNumber, 
 
 use crate::lines::first_break;
 use crate::progress::clear_line;
+use crate::refusals::OutputNotes;
 use mesh_outside::{Sink, SinkFault};
+use std::alloc::Global;
 use std::io::Write;
 
 // The first word of a line that is counted.
@@ -74,7 +76,8 @@ impl Word {
 
     // Where a line is that is so many bytes of the word.
     fn front(self, matched: usize) -> Place
-        ensures { 0 < matched → matched ≤ length (word_text self) → IsAt result (take matched (word_text self)) }
+        ensures { 0 < matched → matched ≤ length (word_text self)
+            → IsAt result (take matched (word_text self)) }
     {
         if matched < self.text().len() {
             Place::Word(self, matched)
@@ -85,7 +88,8 @@ impl Word {
 
     #[tactic(auto, using(crate::proofs::Places::word_next, crate::proofs::Places::word_stops))]
     fn after(self, matched: usize, byte: u8) -> Place
-        ensures { (line : List ℕ) → IsWithin (word_text self) matched line → IsAt result (line ++ byte ∷ []) }
+        ensures { (line : List ℕ) → IsWithin (word_text self) matched line
+            → IsAt result (line ++ byte ∷ []) }
     {
         if is_next(self.text(), matched, byte) {
             self.front(matched.saturating_add(1))
@@ -265,14 +269,16 @@ impl OutputCounts {
 
     /// The lines that say that a line was refused. A last one without LF counts.
     pub fn refused(&self) -> u64
-        ensures { (written : List ℕ) → AreWritten self.now written → result ≡ counted (count_by says_refused (lines_of written)) }
+        ensures { (written : List ℕ) → AreWritten self.now written
+            → result ≡ counted (count_by says_refused (lines_of written)) }
     {
         count_with(self.ended_refused, self.place.is_refused())
     }
 
     /// The lines with a frame. A last one without LF counts.
     pub fn frames(&self) -> u64
-        ensures { (written : List ℕ) → AreWritten self.now written → result ≡ counted (count_by has_frame (lines_of written)) }
+        ensures { (written : List ℕ) → AreWritten self.now written
+            → result ≡ counted (count_by has_frame (lines_of written)) }
     {
         count_with(self.ended_frames, self.place.is_frame())
     }
@@ -281,14 +287,16 @@ impl OutputCounts {
     #[tactic(auto, using(crate::proofs::Written::part_written))]
     fn take_part(&mut self, part: &[u8])
         requires { NoBreak part.now }
-        ensures { (written : List ℕ) → AreWritten self.old written → AreWritten self.new (written ++ part.now) }
+        ensures { (written : List ℕ) → AreWritten self.old written
+            → AreWritten self.new (written ++ part.now) }
     {
         self.place = self.place.after_part(part);
     }
 
     // Adds the LF of a line.
     fn end_line(&mut self)
-        ensures { (written : List ℕ) → AreWritten self.old written → AreWritten self.new (written ++ 10 ∷ []) }
+        ensures { (written : List ℕ) → AreWritten self.old written
+            → AreWritten self.new (written ++ 10 ∷ []) }
     {
         let place = self.place;
         *self = OutputCounts {
@@ -300,7 +308,8 @@ impl OutputCounts {
     }
 
     fn take(&mut self, piece: &[u8])
-        ensures { (written : List ℕ) → AreWritten self.old written → AreWritten self.new (written ++ piece.now) }
+        ensures { (written : List ℕ) → AreWritten self.old written
+            → AreWritten self.new (written ++ piece.now) }
     {
         let mut rest = piece;
         while let Some(at) = first_break(rest) {
@@ -318,17 +327,19 @@ impl OutputCounts {
 pub struct OutputTally<K, W> {
     sink: K,
     pub counts: OutputCounts,
-    pub(crate) screen: Option<W>,
+    pub notes: OutputNotes,
+    pub screen: Option<W>,
 }
 
 impl<K: Sink, W: Write> OutputTally<K, W> {
-    pub fn new(sink: K, screen: Option<W>) -> OutputTally<K, W>
+    pub fn new(alloc: Global, sink: K, screen: Option<W>) -> OutputTally<K, W>
         ensures sink { result.sink ≡ sink }
         ensures counts { AreWritten result.counts [] }
     {
         OutputTally {
             sink,
             counts: OutputCounts::new(),
+            notes: OutputNotes::new(alloc),
             screen,
         }
     }
@@ -347,12 +358,16 @@ impl<K: Sink, W: Write> Sink for OutputTally<K, W> {
 
     fn write(&mut self, piece: &[u8]) -> Result<usize, SinkFault>
         ensures bound { WritesAtMost result piece.now }
-        ensures bytes { WriteAppends (K.held self.old.sink) (K.held self.new.sink) result piece.now }
-        ensures cause { WriteHasCause (K.faults self.old.sink) (K.faults self.new.sink) piece.now result }
-        ensures memory { IsErrOf result SinkFault.Memory → K.held self.new.sink ≡ K.held self.old.sink }
+        ensures bytes { WriteAppends (K.held self.old.sink)
+            (K.held self.new.sink) result piece.now }
+        ensures cause { WriteHasCause (K.faults self.old.sink)
+            (K.faults self.new.sink) piece.now result }
+        ensures memory { IsErrOf result SinkFault.Memory
+            → K.held self.new.sink ≡ K.held self.old.sink }
 
         // What the sink accepts is counted.
-        ensures counts { (written : List ℕ) → AreWritten self.old.counts written → IfOk result (λ n. AreWritten self.new.counts (written ++ take n piece.now)) }
+        ensures counts { (written : List ℕ) → AreWritten self.old.counts written
+            → IfOk result (λ n. AreWritten self.new.counts (written ++ take n piece.now)) }
         ensures same { OnErr result (self.new.counts ≡ self.old.counts) }
     {
         if self.counts.place.is_start() {
@@ -361,6 +376,7 @@ impl<K: Sink, W: Write> Sink for OutputTally<K, W> {
         match self.sink.write(piece) {
             Ok(n) => {
                 self.counts.take(&piece[..n]);
+                self.notes.take(&piece[..n]);
                 Ok(n)
             }
             Err(fault) => Err(fault),

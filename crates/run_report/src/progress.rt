@@ -1,16 +1,29 @@
 // How much was read, shown in one line of a terminal that is written again and again.
 use crate::clock::StartTime;
+use crate::command::Command;
 use std::fmt;
 use std::fmt::{Display, Formatter};
-use std::io::Write;
+use std::io::{Cursor, Write};
 use std::time::Clock;
 
-// As many spaces as the longest line has bytes.
-const BLANK: &str = "                                     ";
+// Spaces over the whole of the longest line, between two carriage returns.
+const CLEARED: &[u8] = b"\r                                     \r";
 
 // Leaves the line of a terminal empty.
 pub(crate) fn clear_line<W: Write>(screen: &mut W) {
-    let _ = write!(screen, "\r{BLANK}\r");
+    let _ = screen.write_all(CLEARED);
+}
+
+// Shows how much was read, with one write.
+fn show_line<W: Write>(screen: &mut W, command: Command, bytes: u64) {
+    let mut line = [0; 64];
+    let mut cursor = Cursor::new(line.as_mut_slice());
+    let name = command.name();
+    if write!(cursor, "\rlinkerd_cli {name}: {} read", Megabytes(bytes)).is_err() {
+        return;
+    }
+    let len = cursor.position() as usize;
+    let _ = screen.write_all(line.get(..len).unwrap_or(b""));
 }
 
 /// A line of a terminal that shows, at most once in each second after the first, how much was read.
@@ -18,35 +31,37 @@ pub(crate) fn clear_line<W: Write>(screen: &mut W) {
 pub struct Progress<C, W> {
     clock: C,
     start: StartTime,
-    pub(crate) screen: W,
+    command: Command,
+    pub screen: W,
     // The seconds that had passed when it was last shown.
     shown: u64,
 }
 
 impl<C: Clock, W: Write> Progress<C, W> {
-    pub fn new(clock: C, start: StartTime, screen: W) -> Progress<C, W> {
+    pub fn new(clock: C, start: StartTime, command: Command, screen: W) -> Progress<C, W> {
         Progress {
             clock,
             start,
+            command,
             screen,
             shown: 0,
         }
     }
 
     /// So many bytes have been read.
-    pub(crate) fn show(&mut self, bytes: u64) {
+    pub fn show(&mut self, bytes: u64) {
         let Some(elapsed) = self.start.elapsed(&self.clock) else {
             return;
         };
         let seconds = elapsed.as_secs();
         if seconds > self.shown {
             self.shown = seconds;
-            let _ = write!(self.screen, "\rlinkerd_cli: {} read", Megabytes(bytes));
+            show_line(&mut self.screen, self.command, bytes);
         }
     }
 
     /// Leaves the line empty.
-    pub(crate) fn clear(&mut self) {
+    pub fn clear(&mut self) {
         if self.shown > 0 {
             clear_line(&mut self.screen);
         }

@@ -1,71 +1,72 @@
 // What standard error is told at the end.
+use crate::cause::Hint;
+use crate::command::{Asked, Command};
+use crate::feed::FeedNotes;
+use crate::held::HeldObjects;
 use crate::input::InputCounts;
+use crate::needs::Lacking;
 use crate::output::OutputCounts;
-use crate::usage::USAGE;
+use crate::refusals::OutputNotes;
 use line_run::Status;
 use mesh_base::limits::Limits;
-use std::fmt;
 use std::fmt::{Display, Formatter};
+use std::io::ErrorKind;
 use std::time::Duration;
+use std::{fmt, io};
 
 /// What a run has read and written, and how long it took.
 #[derive(Clone, Copy)]
-pub struct Run {
+pub struct Run<'a> {
+    pub asked: Asked<'a>,
     pub read: InputCounts,
+    pub feed: &'a FeedNotes,
     pub written: OutputCounts,
+    pub output: &'a OutputNotes,
+    /// What a replay holds at its end.
+    pub held: HeldObjects,
     /// None where the clock told nothing.
     pub elapsed: Option<Duration>,
 }
 
-/// How the program ended.
-#[derive(Clone, Copy)]
-pub struct Report {
+/// What standard error is told at the end: what failed, warnings, and on a terminal one line of counts.
+#[derive(Clone, Copy, Drop)]
+pub struct Report<'a> {
     pub status: Status,
-    // None where nothing was run.
-    run: Option<Run>,
+    /// The system's reason, if reading or writing failed.
+    pub error: Option<io::Error>,
+    /// None if no command was run.
+    pub run: Option<Run<'a>>,
+    /// Standard error is a terminal.
+    pub is_terminal: bool,
 }
 
-impl Report {
-    /// A program that has run nothing.
-    pub fn of(status: Status) -> Report {
-        Report { status, run: None }
-    }
-
-    /// A program that has run what it was asked for. Words that are no command ask for nothing.
-    pub fn after(status: Status, run: Run) -> Report {
-        let run = if status == Status::Usage {
-            None
-        } else {
-            Some(run)
-        };
-        Report { status, run }
-    }
-
-    /// What standard error is told, where it is a terminal or isn't.
-    pub fn text(self, is_terminal: bool) -> ReportText {
-        ReportText {
-            report: self,
-            is_terminal,
+impl Report<'_> {
+    // The reader of standard output has closed it.
+    fn is_closed(&self) -> bool {
+        match self.error {
+            Some(error) => {
+                self.status == Status::WriteFault && error.kind() == ErrorKind::BrokenPipe
+            }
+            None => false,
         }
     }
-}
 
-/// The lines that tell how the program ended: the usage or what failed, and to a terminal what was run.
-#[derive(Clone, Copy, Drop)]
-pub struct ReportText {
-    report: Report,
-    is_terminal: bool,
-}
+    fn write_failure<W: fmt::Write>(&self, what: &str, f: &mut Formatter<W>) -> fmt::Result {
+        match self.error {
+            Some(error) => write!(f, "linkerd_cli: {what} failed: {error}\n"),
+            None => write!(f, "linkerd_cli: {what} failed\n"),
+        }
+    }
 
-impl ReportText {
     fn write_cause<W: fmt::Write>(&self, f: &mut Formatter<W>) -> fmt::Result {
-        match self.report.status {
-            Status::Done => Ok(()),
-            Status::SomeRefused => Ok(()),
-            Status::Usage => f.write_str(USAGE),
+        match self.status {
+            Status::Done | Status::SomeRefused | Status::Usage => Ok(()),
             Status::Memory => f.write_str("linkerd_cli: out of memory\n"),
-            Status::ReadFault => f.write_str("linkerd_cli: reading standard input failed\n"),
-            Status::WriteFault => f.write_str("linkerd_cli: writing standard output failed\n"),
+            Status::ReadFault => self.write_failure("reading standard input", f),
+            Status::WriteFault if self.is_closed() => {
+                f.write_str("linkerd_cli: standard output was closed\n")
+            }
+            Status::WriteFault => self.write_failure("writing standard output", f),
             Status::InputTooLong => {
                 let limit = Limits::USUAL.input;
                 write!(
@@ -77,35 +78,114 @@ impl ReportText {
     }
 }
 
-impl Display for ReportText {
+impl Display for Report<'_> {
     fn fmt<W: fmt::Write>(&self, f: &mut Formatter<W>) -> fmt::Result {
         self.write_cause(f)?;
-        match self.report.run {
-            Some(run) if self.is_terminal => run.write_whole(f),
-            _ => Ok(()),
+        let Some(run) = &self.run else {
+            return Ok(());
+        };
+        if self.is_closed() {
+            return Ok(());
         }
+        run.write_refused(f)?;
+        run.write_feed(self.status, f)?;
+        if self.is_terminal {
+            run.write_whole(f)?;
+        }
+        Ok(())
     }
 }
 
-impl Run {
+impl Run<'_> {
+    fn write_refused<W: fmt::Write>(&self, f: &mut Formatter<W>) -> fmt::Result {
+        let Some(first) = self.output.first_refused() else {
+            return Ok(());
+        };
+        let refused = self.written.refused();
+        f.write_str("linkerd_cli: warning: ")?;
+        write_number(f, refused, "line")?;
+        f.write_str(if refused == 1 {
+            " was refused"
+        } else {
+            " were refused"
+        })?;
+        if refused > 1 && self.written.not_json > 0 {
+            write!(f, ", {} as NotJson", self.written.not_json)?;
+        }
+        write!(f, ", the first is {first}\n")
+    }
+
+    // The hint on the first line that was refused.
+    fn hint(&self) -> Option<Hint<'_>> {
+        let first = self.output.first_refused()?;
+        self.feed.lines.hint(&first)
+    }
+
+    // Warns of what is missing in a feed or was recorded wrongly.
+    fn write_feed<W: fmt::Write>(&self, status: Status, f: &mut Formatter<W>) -> fmt::Result {
+        if !self.asked.command.reads_feed() {
+            return Ok(());
+        }
+        if let Some(hint) = self.hint() {
+            return write!(f, "{hint}");
+        }
+        if let Some(list) = &self.feed.lines.list {
+            write!(f, "{list}")?;
+        }
+        let is_whole = status == Status::Done || status == Status::SomeRefused;
+        if !is_whole || self.feed.lines.is_unsure {
+            return Ok(());
+        }
+        if self.asked.command == Command::Replay {
+            self.write_unasked(f)
+        } else {
+            self.write_lacking(f)
+        }
+    }
+
+    // Says that a feed has no subscriptions and no simulations.
+    fn write_unasked<W: fmt::Write>(&self, f: &mut Formatter<W>) -> fmt::Result {
+        if self.feed.lines.has_request {
+            return Ok(());
+        }
+        f.write_str("linkerd_cli: no line subscribed or simulated, so nothing was sent: ")?;
+        if self.held.total() == 0 {
+            f.write_str("no object is held\n")
+        } else {
+            write!(f, "held are {}\n", self.held)
+        }
+    }
+
+    fn write_lacking<W: fmt::Write>(&self, f: &mut Formatter<W>) -> fmt::Result {
+        let lacking = Lacking::of(self.asked, &self.feed.lines.kinds);
+        if lacking.is_some() {
+            write!(f, "{lacking}")
+        } else {
+            Ok(())
+        }
+    }
+
     fn write_whole<W: fmt::Write>(&self, f: &mut Formatter<W>) -> fmt::Result {
-        f.write_str("linkerd_cli: ")?;
+        write!(f, "linkerd_cli {}: ", self.asked.command.name())?;
         if self.read.was_asked {
             self.write_counts(f)?;
         }
-        self.write_time(f)?;
-        if self.written.not_json > self.written.refused() / 2 {
-            f.write_str(
-                "linkerd_cli: indented JSON must be put on one line first, as by jq -c .\n",
-            )?;
-        }
-        Ok(())
+        self.write_time(f)
     }
 
     fn write_counts<W: fmt::Write>(&self, f: &mut Formatter<W>) -> fmt::Result {
         write_number(f, self.read.lines.count, "line")?;
         write!(f, ", {} refused, ", self.written.refused())?;
-        write_number(f, self.written.frames(), "frame")?;
+        if self.asked.command == Command::Replay {
+            write_number(f, self.written.frames(), "frame")?;
+            f.write_str(", ")?;
+            write_number(f, self.output.verdicts, "verdict")?;
+            f.write_str(", ")?;
+            write_number(f, self.held.total(), "object")?;
+            f.write_str(" held")?;
+        } else {
+            write_number(f, self.written.frames(), "view")?;
+        }
         f.write_str(", ")
     }
 

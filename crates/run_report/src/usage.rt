@@ -1,7 +1,8 @@
-/// What is told for words that are no command, `--help` among them.
-pub(crate) const USAGE: &str = "\
-usage: linkerd_cli replay|diagnose|fold|sample
+/// The first line of the message for a command line that is refused.
+pub const USAGE_LINE: &str = "usage: linkerd_cli replay|diagnose|fold|sample\n";
 
+/// The rest of the usage, which is written if there are no words or they ask for help.
+pub const USAGE: &str = "
   replay      reads a feed, and writes the frames that its subscribers are sent
   diagnose    reads a feed, and writes the view of one query at its end
   fold        reads what replay wrote, and writes the view of one subscriber

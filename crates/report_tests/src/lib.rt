@@ -1,0 +1,14 @@
+//! Tests of what standard error is told: of words that are no command, of what failed, of the input, and at a terminal. They
+//! stand apart, since a crate with tests is proved twice.
+//!
+//! Stands on run_report.
+#![tactic(auto)]
+
+#[cfg(test)]
+mod end;
+#[cfg(test)]
+mod feed;
+#[cfg(test)]
+mod tally;
+#[cfg(test)]
+mod words;

@@ -1,0 +1,203 @@
+use crate::tally::words_of;
+use mesh_base::text::Text;
+use run_report::{CommandReader, USAGE, USAGE_LINE, WrongWords};
+use std::test::Fail;
+
+// A reader that refuses words among which is one of these.
+#[derive(Clone, Copy)]
+struct Refusing<'a> {
+    words: &'a [&'a str],
+}
+
+impl CommandReader for Refusing<'_> {
+    fn refuses(&self, words: &[Text]) -> bool {
+        for word in words {
+            if self.words.contains(&word.as_str()) {
+                return true;
+            }
+        }
+        false
+    }
+}
+
+const PATH: &str =
+    "NAME.NAMESPACE.svc.DOMAIN[:PORT] with the cluster domain, or for GetProfile and Watch also IP[:PORT]";
+
+const CONFIGURATION: &str =
+    "--cluster-domain, --trust-domain, --control-plane-namespace, --cluster-networks, --default-policy";
+
+// Which word is wrong, what is accepted, and what may have been meant.
+#[test]
+fn wrong_words(rt: HostRuntime) -> Result<(), Fail> {
+    let alloc = rt.alloc();
+    let refused = [
+        "--id=x",
+        "--method=get",
+        "--port=http",
+        "--workload=web",
+        "--default-policy=open",
+        "5000",
+    ];
+    let reader = Refusing {
+        words: refused.as_slice(),
+    };
+    for (words, wrong) in [
+        (
+            "replya",
+            "\"replya\" is not a command: the first word is replay, diagnose, fold or sample (did you mean replay?)",
+        ),
+        (
+            "listen --port 80",
+            "\"listen\" is not a command: the first word is replay, diagnose, fold or sample",
+        ),
+        (
+            "diagnose --id 1 --method get --path a.b.svc.cluster.local",
+            "--method \"get\" is not accepted: it is Get, GetProfile, WatchPort or Watch (did you mean Get?)",
+        ),
+        (
+            "diagnose --id 1 --method WatchPort --workload a:b --port http",
+            "--port \"http\" is not accepted: it is a number from 1 to 65535",
+        ),
+        (
+            "diagnose --id=x --method Get --port http",
+            "--id \"x\" is not accepted: it is a number from 0 to 4294967295",
+        ),
+        (
+            "diagnose --method Get --path a.b.svc.cluster.local",
+            "diagnose needs --id: a number from 0 to 4294967295",
+        ),
+        (
+            "diagnose --id 1 --method WatchPort --port 80",
+            "diagnose needs --workload: NAMESPACE:POD",
+        ),
+        ("sample", "sample needs NUMBER: from 0 to 1000"),
+        (
+            "sample -- 5000",
+            "NUMBER \"5000\" is not accepted: it is from 0 to 1000",
+        ),
+        (
+            "fold --id 1 --id=2 --method Get",
+            "--id is given twice: each option is given once",
+        ),
+        (
+            "fold --id --method Get",
+            "--id has no value: it is a number from 0 to 4294967295",
+        ),
+        (
+            "fold --method Get --id",
+            "--id has no value: it is a number from 0 to 4294967295",
+        ),
+        (
+            "fold --id 1 --method Get out.txt",
+            "\"out.txt\" is neither an option nor a value: options are written --name VALUE or --name=VALUE, and the input is standard input",
+        ),
+        (
+            "fold --id 1 --metod=Get",
+            "fold has no option \"--metod\": its options are --id, --method (did you mean --method?)",
+        ),
+        (
+            "fold --id 1 --method Get --path x",
+            "fold has no option --path, an option of diagnose: its options are --id, --method",
+        ),
+    ] {
+        let texts = words_of(alloc, words)?;
+        let text = format!(in alloc; "{}", WrongWords::of(alloc, &texts, &reader))?;
+        let expected = format!(in alloc; "{USAGE_LINE}linkerd_cli: {wrong}\n")?;
+        assert_eq!(rt; text.as_str(), expected.as_str());
+    }
+    Ok(())
+}
+
+// The wrong words that are told at length: a target, whose words depend on other options, and options of a configuration.
+#[test]
+fn long_lines(rt: HostRuntime) -> Result<(), Fail> {
+    let alloc = rt.alloc();
+    let reader = Refusing {
+        words: ["--default-policy=open"].as_slice(),
+    };
+    for (words, wrong, accepted) in [
+        (
+            "diagnose --id 1 --method Get --path web.app",
+            "--path \"web.app\" is not accepted: it is ",
+            PATH,
+        ),
+        (
+            "diagnose --id 1 --method Get",
+            "diagnose needs --path: ",
+            PATH,
+        ),
+        (
+            "replay -v",
+            "replay has no option \"-v\": its options are ",
+            CONFIGURATION,
+        ),
+        (
+            "sample 5 --id=1",
+            "sample has no option --id, an option of diagnose and fold: its options are ",
+            CONFIGURATION,
+        ),
+        (
+            "replay --default-policy=open",
+            "--default-policy \"open\" is not accepted: it is ",
+            "all-unauthenticated, all-authenticated, cluster-unauthenticated, cluster-authenticated, deny or audit",
+        ),
+    ] {
+        let texts = words_of(alloc, words)?;
+        let text = format!(in alloc; "{}", WrongWords::of(alloc, &texts, &reader))?;
+        let expected = format!(in alloc; "{USAGE_LINE}linkerd_cli: {wrong}{accepted}\n")?;
+        assert_eq!(rt; text.as_str(), expected.as_str());
+    }
+    Ok(())
+}
+
+// The usage is told whole where there are no words, where they ask for help, and where nothing is found wrong. It begins as scripts
+// expect it, names all words, and fits a terminal of 80 columns.
+#[test]
+fn usage(rt: HostRuntime) -> Result<(), Fail> {
+    let alloc = rt.alloc();
+    let reader = Refusing { words: &[] };
+    let none = Vec::new(alloc);
+    let help = words_of(alloc, "replay --help")?;
+    let right = words_of(alloc, "fold --id 1 --method Get")?;
+    for words in [&none, &help, &right] {
+        let text = format!(in alloc; "{}", WrongWords::of(alloc, words, &reader))?;
+        assert_eq!(rt;
+            text.strip_prefix("usage: linkerd_cli replay|diagnose|fold|sample\n"),
+            Some(USAGE)
+        );
+    }
+    let text = format!(in alloc; "{}", WrongWords::not_utf8())?;
+    assert_eq!(rt;
+        text.strip_prefix(USAGE_LINE),
+        Some("linkerd_cli: a word is not UTF-8\n")
+    );
+    for line in USAGE.lines() {
+        assert!(rt; line.len() <= 80, "{line}");
+    }
+    for word in [
+        "--cluster-domain",
+        "--trust-domain",
+        "--control-plane-namespace",
+        "--cluster-networks",
+        "--default-policy",
+        "all-unauthenticated\n",
+        "all-authenticated,",
+        "cluster-unauthenticated,",
+        "cluster-authenticated,",
+        "deny,",
+        "audit\n",
+        "--id",
+        "--method",
+        "Get,",
+        "GetProfile,",
+        "WatchPort or Watch\n",
+        "--path",
+        "--workload",
+        "--port",
+        "--token",
+        "10.0.0.0/8,100.64.0.0/10,172.16.0.0/12,192.168.0.0/16\n",
+    ] {
+        assert!(rt; USAGE.contains(word), "{word}");
+    }
+    Ok(())
+}

@@ -1,0 +1,76 @@
+use mesh_base::text::Text;
+
+/// A command of the program.
+#[derive(Clone, Copy, Debug, PartialEq, Eq)]
+pub enum Command {
+    Replay,
+    Diagnose,
+    Fold,
+    Sample,
+}
+
+pub(crate) static COMMANDS: [&str; 4] = ["replay", "diagnose", "fold", "sample"];
+
+impl Command {
+    /// The command that a word names.
+    pub fn named(word: &str) -> Option<Command> {
+        match word {
+            "replay" => Some(Command::Replay),
+            "diagnose" => Some(Command::Diagnose),
+            "fold" => Some(Command::Fold),
+            "sample" => Some(Command::Sample),
+            _ => None,
+        }
+    }
+
+    pub(crate) fn name(self) -> &'static str {
+        match self {
+            Command::Replay => "replay",
+            Command::Diagnose => "diagnose",
+            Command::Fold => "fold",
+            Command::Sample => "sample",
+        }
+    }
+
+    /// The input of the command is a feed.
+    pub(crate) fn reads_feed(self) -> bool {
+        self == Command::Replay || self == Command::Diagnose
+    }
+}
+
+/// The value of an option among words in which each option has one, as `--name VALUE` or `--name=VALUE`.
+pub(crate) fn value_of<'a>(words: &'a [Text], option: &str) -> Option<&'a str> {
+    let mut is_next = false;
+    for word in words {
+        if is_next {
+            return Some(word.as_str());
+        }
+        if let Some(rest) = word.as_str().strip_prefix(option) {
+            match rest.strip_prefix("=") {
+                Some(value) => return Some(value),
+                None => is_next = rest.is_empty(),
+            }
+        }
+    }
+    None
+}
+
+/// What a command line asks for.
+#[derive(Clone, Copy)]
+pub struct Asked<'a> {
+    pub(crate) command: Command,
+    pub(crate) method: &'a str,
+    pub(crate) path: &'a str,
+}
+
+impl<'a> Asked<'a> {
+    /// Reads a command line that is accepted. None if its first word is not a command.
+    pub fn by(words: &'a [Text]) -> Option<Asked<'a>> {
+        let (first, options) = words.split_first()?;
+        Some(Asked {
+            command: Command::named(first.as_str())?,
+            method: value_of(options, "--method").unwrap_or(""),
+            path: value_of(options, "--path").unwrap_or(""),
+        })
+    }
+}

@@ -1,0 +1,45 @@
+use std::alloc::Global;
+use strsim::osa_distance;
+
+// A word with more typing errors than these has no nearest name.
+const MOST_EDITS: usize = 2;
+
+const LONGEST_WORD: usize = 64;
+
+/// Finds the name that is nearest to a word, among those that are offered.
+#[derive(Clone, Copy)]
+pub(crate) struct Nearest<'w> {
+    alloc: Global,
+    word: &'w str,
+    edits: usize,
+    pub(crate) name: Option<&'static str>,
+}
+
+impl<'w> Nearest<'w> {
+    pub(crate) fn to(alloc: Global, word: &'w str) -> Nearest<'w> {
+        Nearest {
+            alloc,
+            word,
+            edits: MOST_EDITS + 1,
+            name: None,
+        }
+    }
+
+    pub(crate) fn offer(&mut self, name: &'static str) {
+        if self.word.len() > LONGEST_WORD {
+            return;
+        }
+        if let Ok(edits) = osa_distance(self.alloc, self.word, name) {
+            if edits < self.edits {
+                self.edits = edits;
+                self.name = Some(name);
+            }
+        }
+    }
+
+    pub(crate) fn offer_all(&mut self, names: &'static [&'static str]) {
+        for name in names {
+            self.offer(name);
+        }
+    }
+}

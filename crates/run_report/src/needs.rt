@@ -1,0 +1,86 @@
+// The kinds of objects that the view of a query is made from.
+use crate::command::Asked;
+use crate::kinds::KindTable;
+use std::fmt;
+use std::fmt::{Display, Formatter};
+
+static GET_KINDS: [&str; 3] = ["Service", "EndpointSlice", "Pod"];
+
+static PROFILE_KINDS: [&str; 3] = ["Service", "Pod", "ServiceProfile"];
+
+static PORT_KINDS: [&str; 5] = [
+    "Pod",
+    "Server",
+    "ServerAuthorization",
+    "AuthorizationPolicy",
+    "HTTPRoute",
+];
+
+static TRAFFIC_KINDS: [&str; 3] = ["Service", "Pod", "HTTPRoute"];
+
+fn kinds_of(method: &str) -> &'static [&'static str] {
+    match method {
+        "Get" => &GET_KINDS,
+        "GetProfile" => &PROFILE_KINDS,
+        "WatchPort" => &PORT_KINDS,
+        _ => &TRAFFIC_KINDS,
+    }
+}
+
+// How many of the kinds, from the first, the query needs. The others may be absent from a cluster.
+fn needed_of(asked: &Asked<'_>) -> usize {
+    if asked.method == "Get" { 2 } else { 1 }
+}
+
+fn is_address(path: &str) -> bool {
+    match path.as_bytes() {
+        [b'0'..=b'9' | b'[', ..] => true,
+        _ => false,
+    }
+}
+
+/// The kinds that a query asks for and a feed does not have.
+#[derive(Clone, Copy, Drop)]
+pub(crate) struct Lacking<'a> {
+    asked: Asked<'a>,
+    kinds: &'a KindTable,
+}
+
+impl<'a> Lacking<'a> {
+    pub(crate) fn of(asked: Asked<'a>, kinds: &'a KindTable) -> Lacking<'a> {
+        Lacking { asked, kinds }
+    }
+
+    /// The feed lacks a kind that the query needs. An address may be that of a Pod, without any Service.
+    pub(crate) fn is_some(&self) -> bool {
+        if is_address(self.asked.path) && self.kinds.has(b"Pod") {
+            return false;
+        }
+        let needed = needed_of(&self.asked);
+        kinds_of(self.asked.method)
+            .iter()
+            .take(needed)
+            .any(|kind| !self.kinds.has(kind.as_bytes()))
+    }
+}
+
+impl Display for Lacking<'_> {
+    fn fmt<W: fmt::Write>(&self, f: &mut Formatter<W>) -> fmt::Result {
+        let mut is_first = true;
+        for kind in kinds_of(self.asked.method) {
+            if self.kinds.has(kind.as_bytes()) {
+                continue;
+            }
+            if is_first {
+                write!(
+                    f,
+                    "linkerd_cli: warning: nothing of kind {kind} was in the feed"
+                )?;
+            } else {
+                write!(f, ", nor of kind {kind}")?;
+            }
+            is_first = false;
+        }
+        f.write_str("\n")
+    }
+}

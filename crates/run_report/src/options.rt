@@ -1,0 +1,164 @@
+// The options of the commands, and the values that they accept.
+use crate::command::Command;
+
+/// An option, or the number of the command `sample`.
+#[derive(Clone, Copy, PartialEq, Eq)]
+pub(crate) enum Argument {
+    ClusterDomain,
+    TrustDomain,
+    ControlPlaneNamespace,
+    ClusterNetworks,
+    DefaultPolicy,
+    Id,
+    Method,
+    Path,
+    Workload,
+    Port,
+    Token,
+    Number,
+}
+
+/// All arguments, in the order of the usage.
+pub(crate) static ARGUMENTS: [Argument; 12] = [
+    Argument::ClusterDomain,
+    Argument::TrustDomain,
+    Argument::ControlPlaneNamespace,
+    Argument::ClusterNetworks,
+    Argument::DefaultPolicy,
+    Argument::Id,
+    Argument::Method,
+    Argument::Path,
+    Argument::Workload,
+    Argument::Port,
+    Argument::Token,
+    Argument::Number,
+];
+
+pub(crate) static METHODS: [&str; 4] = ["Get", "GetProfile", "WatchPort", "Watch"];
+
+pub(crate) static POLICIES: [&str; 6] = [
+    "all-unauthenticated",
+    "all-authenticated",
+    "cluster-unauthenticated",
+    "cluster-authenticated",
+    "deny",
+    "audit",
+];
+
+impl Argument {
+    /// The option of this name.
+    pub(crate) fn named(name: &str) -> Option<Argument> {
+        ARGUMENTS
+            .iter()
+            .copied()
+            .find(|option| option.name() == name)
+    }
+
+    pub(crate) fn name(self) -> &'static str {
+        match self {
+            Argument::ClusterDomain => "--cluster-domain",
+            Argument::TrustDomain => "--trust-domain",
+            Argument::ControlPlaneNamespace => "--control-plane-namespace",
+            Argument::ClusterNetworks => "--cluster-networks",
+            Argument::DefaultPolicy => "--default-policy",
+            Argument::Id => "--id",
+            Argument::Method => "--method",
+            Argument::Path => "--path",
+            Argument::Workload => "--workload",
+            Argument::Port => "--port",
+            Argument::Token => "--token",
+            Argument::Number => "NUMBER",
+        }
+    }
+
+    /// The values that are accepted.
+    pub(crate) fn value(self) -> &'static str {
+        match self {
+            Argument::ClusterDomain | Argument::TrustDomain | Argument::ControlPlaneNamespace => {
+                "1 to 253 bytes of a-z, 0-9, - and ."
+            }
+            Argument::ClusterNetworks => {
+                "networks with commas between them, as 10.0.0.0/8,fd00::/8"
+            }
+            Argument::DefaultPolicy => {
+                "all-unauthenticated, all-authenticated, cluster-unauthenticated, cluster-authenticated, deny or audit"
+            }
+            Argument::Id => "a number from 0 to 4294967295",
+            Argument::Method => "Get, GetProfile, WatchPort or Watch",
+            Argument::Path => {
+                "NAME.NAMESPACE.svc.DOMAIN[:PORT] with the cluster domain, or for GetProfile and Watch also IP[:PORT]"
+            }
+            Argument::Workload => "NAMESPACE:POD",
+            Argument::Port => "a number from 1 to 65535",
+            Argument::Token => "any string",
+            Argument::Number => "from 0 to 1000",
+        }
+    }
+
+    /// The values that are accepted, if they are words that can be listed.
+    pub(crate) fn choices(self) -> &'static [&'static str] {
+        match self {
+            Argument::Method => &METHODS,
+            Argument::DefaultPolicy => &POLICIES,
+            _ => &[],
+        }
+    }
+
+    pub(crate) fn is_of(self, command: Command) -> bool {
+        match self {
+            Argument::Id | Argument::Method => {
+                command == Command::Diagnose || command == Command::Fold
+            }
+            Argument::Path | Argument::Workload | Argument::Port | Argument::Token => {
+                command == Command::Diagnose
+            }
+            Argument::Number => command == Command::Sample,
+            _ => command != Command::Fold,
+        }
+    }
+
+    /// The names of the commands that have it.
+    pub(crate) fn commands(self) -> &'static str {
+        match self {
+            Argument::Id | Argument::Method => "diagnose and fold",
+            Argument::Path | Argument::Workload | Argument::Port | Argument::Token => "diagnose",
+            Argument::Number => "sample",
+            _ => "replay, diagnose and sample",
+        }
+    }
+
+    /// The argument is read for some methods only.
+    pub(crate) fn is_of_method(self) -> bool {
+        match self {
+            Argument::Path | Argument::Workload | Argument::Port => true,
+            _ => false,
+        }
+    }
+
+    /// The command needs the argument for this method.
+    pub(crate) fn is_needed(self, command: Command, method: &str) -> bool {
+        match self {
+            Argument::Id | Argument::Method => self.is_of(command),
+            Argument::Path => command == Command::Diagnose && method != "WatchPort",
+            Argument::Workload | Argument::Port => {
+                command == Command::Diagnose && method == "WatchPort"
+            }
+            Argument::Number => command == Command::Sample,
+            _ => false,
+        }
+    }
+
+    /// A command line that is accepted if the argument is added with an accepted value. There is none if the values depend on other
+    /// options, or if every value is accepted.
+    pub(crate) fn probe(self) -> Option<&'static str> {
+        match self {
+            Argument::Id => Some("fold --method=Get"),
+            Argument::Method => Some("fold --id=0"),
+            Argument::Workload => Some("diagnose --id=0 --method=WatchPort --port=1"),
+            Argument::Port => Some("diagnose --id=0 --method=WatchPort --workload=a:b"),
+            Argument::Number => Some("sample"),
+            Argument::Path | Argument::Token => None,
+            _ => Some("replay"),
+        }
+    }
+}
