@@ -20,8 +20,8 @@ use mesh_hub::hub::Hub;
 use mesh_outside::{ReadSource, WriteSink};
 use regex_patterns::RegexPatterns;
 use run_report::{
-    Asked, Command, ErrorKeeper, HeldObjects, InputTally, LastError, OutputTally, Progress, Report,
-    Run, StartTime, WrongWords,
+    Command, CommandLine, ErrorKeeper, HeldObjects, InputTally, LastError, OutputTally, Progress,
+    Report, Run, StartTime, WrongWords,
 };
 use std::alloc::Global;
 use std::io;
@@ -121,11 +121,11 @@ fn run<'a>(
     let read = input.end();
     let held = held_in(&hub);
     let elapsed = start.elapsed(rt);
-    let Some(asked) = Asked::by(words) else {
+    let Some(command_line) = CommandLine::of(words) else {
         return tell(rt, status, last.get(), None);
     };
     let run = Run {
-        asked,
+        command_line,
         read,
         feed: &input.feed,
         written: out.counts,

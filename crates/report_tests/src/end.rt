@@ -1,7 +1,7 @@
 use crate::tally::{read_in_pieces, words_of, write_in_parts, write_in_pieces};
 use line_run::Status;
 use mesh_base::key::Kind;
-use run_report::{Asked, HeldObjects, InputCounts, Report, Run};
+use run_report::{CommandLine, HeldObjects, InputCounts, Report, Run};
 use std::alloc::Global;
 use std::io;
 use std::test::Fail;
@@ -18,7 +18,7 @@ pub(crate) struct Case<'a> {
 }
 
 // What standard error is told of a run that was read and written in pieces of this size.
-pub(crate) fn told(
+pub(crate) fn report_text(
     alloc: Global,
     case: Case<'_>,
     size: usize,
@@ -32,7 +32,7 @@ pub(crate) fn told(
         status: case.status,
         error: None,
         run: Some(Run {
-            asked: Asked::by(&words).ok_or("no command")?,
+            command_line: CommandLine::of(&words).ok_or("no command")?,
             read,
             feed: &input.feed,
             written: output.counts,
@@ -94,9 +94,9 @@ fn runs(rt: HostRuntime) -> Result<(), Fail> {
                 output,
                 held: HeldObjects::NONE,
             };
-            let text = told(alloc, case, size, false)?;
+            let text = report_text(alloc, case, size, false)?;
             assert_eq!(rt; text.as_str(), warned);
-            let text = told(alloc, case, size, true)?;
+            let text = report_text(alloc, case, size, true)?;
             assert_eq!(rt; text.strip_prefix(warned), Some(counts));
             let parts = write_in_parts(alloc, output, size);
             let whole = write_in_pieces(alloc, output, 9);
@@ -172,7 +172,7 @@ fn causes(rt: HostRuntime) -> Result<(), Fail> {
             status,
             error,
             run: Some(Run {
-                asked: Asked::by(&words).ok_or("no command")?,
+                command_line: CommandLine::of(&words).ok_or("no command")?,
                 read: InputCounts::NONE,
                 feed: &input.feed,
                 written: output.counts,
@@ -214,7 +214,7 @@ fn held_objects(rt: HostRuntime) -> Result<(), Fail> {
         output: "",
         held,
     };
-    let text = told(alloc, case, 9, true)?;
+    let text = report_text(alloc, case, 9, true)?;
     assert_eq!(rt;
         text.as_str(),
         "linkerd_cli: no line subscribed or simulated, so nothing was sent: held are Pod (1), Service (2), HTTPRoute of gateway.networking.k8s.io (1)\nlinkerd_cli replay: 0 lines, 0 refused, 0 frames, 0 verdicts, 4 objects held, 61.07 s\n"

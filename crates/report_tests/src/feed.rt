@@ -1,4 +1,4 @@
-use crate::end::{Case, told};
+use crate::end::{Case, report_text};
 use line_run::Status;
 use run_report::HeldObjects;
 use std::alloc::{AllocError, Global};
@@ -30,9 +30,14 @@ fn case_of<'a>(words: &'a str, input: &'a [u8], output: &'a str) -> Case<'a> {
 }
 
 // What is told where there is no terminal, of an input in pieces of several lengths.
-fn assert_told(rt: &impl Abort, alloc: Global, case: Case<'_>, expected: &str) -> Result<(), Fail> {
+fn assert_report(
+    rt: &impl Abort,
+    alloc: Global,
+    case: Case<'_>,
+    expected: &str,
+) -> Result<(), Fail> {
     for size in [1, 7, 9] {
-        let text = told(alloc, case, size, false)?;
+        let text = report_text(alloc, case, size, false)?;
         assert_eq!(rt; text.as_str(), expected);
     }
     Ok(())
@@ -107,7 +112,7 @@ fn hints(rt: HostRuntime) -> Result<(), Fail> {
             "linkerd_cli: warning: 1 line was refused, the first is line 1: {fault}\nlinkerd_cli: line 1 {hint}\n"
         )?;
         let case = case_of("replay", input, &output);
-        assert_told(&rt, alloc, case, &expected)?;
+        assert_report(&rt, alloc, case, &expected)?;
     }
     Ok(())
 }
@@ -215,7 +220,7 @@ fn output_of(alloc: Global, cell: &str) -> Result<String, Fail> {
     Ok(output)
 }
 
-fn told_of(alloc: Global, cell: &str) -> Result<String, Fail> {
+fn message_of(alloc: Global, cell: &str) -> Result<String, Fail> {
     if cell == "-" {
         return Ok(String::new(alloc));
     }
@@ -226,8 +231,8 @@ fn told_of(alloc: Global, cell: &str) -> Result<String, Fail> {
 fn cells_of(row: &str) -> Result<(&str, &str, &str, &str), Fail> {
     let (words, rest) = row.split_once('\n').ok_or("a row has one line")?;
     let (names, rest) = rest.split_once('\n').ok_or("a row has two lines")?;
-    let (output, told) = rest.split_once('\n').ok_or("a row has three lines")?;
-    Ok((words, names, output, told))
+    let (output, message) = rest.split_once('\n').ok_or("a row has three lines")?;
+    Ok((words, names, output, message))
 }
 
 // Kinds that a query asks for and that are not in the feed, and feeds in which nobody subscribes.
@@ -235,12 +240,12 @@ fn cells_of(row: &str) -> Result<(&str, &str, &str, &str), Fail> {
 fn kinds_and_requests(rt: HostRuntime) -> Result<(), Fail> {
     let alloc = rt.alloc();
     for row in KINDS.split("\n\n") {
-        let (words, names, written, told) = cells_of(row)?;
+        let (words, names, written, message) = cells_of(row)?;
         let input = input_of(alloc, names)?;
         let output = output_of(alloc, written)?;
-        let expected = told_of(alloc, told)?;
+        let expected = message_of(alloc, message)?;
         let case = case_of(words, input.as_bytes(), &output);
-        assert_told(&rt, alloc, case, &expected)?;
+        assert_report(&rt, alloc, case, &expected)?;
     }
     Ok(())
 }
@@ -304,11 +309,11 @@ fn lists(rt: HostRuntime) -> Result<(), Fail> {
     ] {
         let input = joined(alloc, &lines)?;
         let case = case_of("replay", input.as_bytes(), "");
-        assert_told(&rt, alloc, case, expected)?;
+        assert_report(&rt, alloc, case, expected)?;
     }
     let input = joined(alloc, &[PODS, POD, PODS, SUBSCRIBE])?;
     let case = case_of("replay", input.as_bytes(), "");
-    assert_told(&rt, alloc, case, "")
+    assert_report(&rt, alloc, case, "")
 }
 
 // Pages and second lists of a custom resource.
@@ -317,7 +322,7 @@ fn custom_lists(rt: HostRuntime) -> Result<(), Fail> {
     let alloc = rt.alloc();
     let mut input = servers(alloc, "ab")?;
     input.push_str(SUBSCRIBE)?;
-    assert_told(
+    assert_report(
         &rt,
         alloc,
         case_of("replay", input.as_bytes(), ""),
@@ -327,7 +332,7 @@ fn custom_lists(rt: HostRuntime) -> Result<(), Fail> {
     for _ in 0..2 {
         input.push_str(&servers(alloc, "")?)?;
     }
-    assert_told(
+    assert_report(
         &rt,
         alloc,
         case_of("replay", input.as_bytes(), ""),

@@ -57,17 +57,17 @@ pub(crate) fn value_of<'a>(words: &'a [Text], option: &str) -> Option<&'a str> {
 
 /// What a command line asks for.
 #[derive(Clone, Copy)]
-pub struct Asked<'a> {
+pub struct CommandLine<'a> {
     pub(crate) command: Command,
     pub(crate) method: &'a str,
     pub(crate) path: &'a str,
 }
 
-impl<'a> Asked<'a> {
+impl<'a> CommandLine<'a> {
     /// Reads a command line that is accepted. None if its first word is not a command.
-    pub fn by(words: &'a [Text]) -> Option<Asked<'a>> {
+    pub fn of(words: &'a [Text]) -> Option<CommandLine<'a>> {
         let (first, options) = words.split_first()?;
-        Some(Asked {
+        Some(CommandLine {
             command: Command::named(first.as_str())?,
             method: value_of(options, "--method").unwrap_or(""),
             path: value_of(options, "--path").unwrap_or(""),

@@ -2,9 +2,9 @@
 use crate::cause::{Cause, Hint};
 use crate::front::Front;
 use crate::json::after_space;
-use crate::kept::{OpenLine, first_of, last_of};
 use crate::kinds::KindTable;
 use crate::lines::{LineParts, take_parts};
+use crate::open_line::{OpenLine, first_of, last_of};
 use crate::printable::Printable;
 use crate::refusals::RefusedLine;
 use memchr::memmem;

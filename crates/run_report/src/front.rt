@@ -3,7 +3,7 @@ use crate::json::{after_empty_list, after_scalar, eat, key, next_member, string}
 use memchr::{memchr, memmem};
 
 // How many members of a line are read. API servers and jq write the members that are looked for before longer ones.
-const MOST_MEMBERS: usize = 12;
+const MAX_MEMBERS: usize = 12;
 
 /// What a line is, as far as its first and last bytes show it.
 #[derive(Clone, Copy)]
@@ -64,7 +64,7 @@ impl<'a> Front<'a> {
     fn with_members(self, members: &'a [u8]) -> Front<'a> {
         let mut front = self;
         let mut rest = members;
-        for _ in 0..MOST_MEMBERS {
+        for _ in 0..MAX_MEMBERS {
             let Some(after) = front.take_member(rest) else {
                 return front;
             };

@@ -2,9 +2,9 @@
 use std::alloc::{AllocError, Global};
 
 // How many kinds are noted. The program reads 11.
-const MOST_KINDS: usize = 24;
+const MAX_KINDS: usize = 24;
 
-const LONGEST_NAME: usize = 64;
+const MAX_NAME_LENGTH: usize = 64;
 
 /// A kind, and its last list.
 #[derive(Drop)]
@@ -77,7 +77,7 @@ impl KindTable {
 
     fn add(&mut self, name: &[u8]) -> Option<usize> {
         let at = self.kinds.len();
-        if at >= MOST_KINDS || name.len() > LONGEST_NAME {
+        if at >= MAX_KINDS || name.len() > MAX_NAME_LENGTH {
             return None;
         }
         let Ok(()) = self.push(name) else {

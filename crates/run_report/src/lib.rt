@@ -6,21 +6,21 @@
 //! `specs/Counts`, and what was written as in `specs/Written`.
 #![tactic(auto)]
 
+mod argument_words;
 mod cause;
 mod clock;
 mod command;
 mod errors;
 mod feed;
 mod front;
-mod given;
 mod held;
 mod input;
 mod json;
-mod kept;
 mod kinds;
 mod lines;
+mod missing_kinds;
 mod nearest;
-mod needs;
+mod open_line;
 mod options;
 mod output;
 mod printable;
@@ -31,7 +31,7 @@ mod usage;
 mod words;
 
 pub use clock::StartTime;
-pub use command::{Asked, Command};
+pub use command::{Command, CommandLine};
 pub use errors::{ErrorKeeper, LastError};
 pub use feed::FeedNotes;
 pub use held::HeldObjects;

@@ -2,9 +2,9 @@ use std::alloc::Global;
 use strsim::osa_distance;
 
 // A word with more typing errors than these has no nearest name.
-const MOST_EDITS: usize = 2;
+const MAX_EDITS: usize = 2;
 
-const LONGEST_WORD: usize = 64;
+const MAX_WORD_LENGTH: usize = 64;
 
 /// Finds the name that is nearest to a word, among those that are offered.
 #[derive(Clone, Copy)]
@@ -20,13 +20,13 @@ impl<'w> Nearest<'w> {
         Nearest {
             alloc,
             word,
-            edits: MOST_EDITS + 1,
+            edits: MAX_EDITS + 1,
             name: None,
         }
     }
 
     pub(crate) fn offer(&mut self, name: &'static str) {
-        if self.word.len() > LONGEST_WORD {
+        if self.word.len() > MAX_WORD_LENGTH {
             return;
         }
         if let Ok(edits) = osa_distance(self.alloc, self.word, name) {

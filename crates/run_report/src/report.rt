@@ -1,10 +1,10 @@
 // What standard error is told at the end.
 use crate::cause::Hint;
-use crate::command::{Asked, Command};
+use crate::command::{Command, CommandLine};
 use crate::feed::FeedNotes;
 use crate::held::HeldObjects;
 use crate::input::InputCounts;
-use crate::needs::Lacking;
+use crate::missing_kinds::MissingKinds;
 use crate::output::OutputCounts;
 use crate::refusals::OutputNotes;
 use line_run::Status;
@@ -17,7 +17,7 @@ use std::{fmt, io};
 /// What a run has read and written, and how long it took.
 #[derive(Clone, Copy)]
 pub struct Run<'a> {
-    pub asked: Asked<'a>,
+    pub command_line: CommandLine<'a>,
     pub read: InputCounts,
     pub feed: &'a FeedNotes,
     pub written: OutputCounts,
@@ -123,7 +123,7 @@ impl Run<'_> {
 
     // Warns of what is missing in a feed or was recorded wrongly.
     fn write_feed<W: fmt::Write>(&self, status: Status, f: &mut Formatter<W>) -> fmt::Result {
-        if !self.asked.command.reads_feed() {
+        if !self.command_line.command.reads_feed() {
             return Ok(());
         }
         if let Some(hint) = self.hint() {
@@ -136,15 +136,15 @@ impl Run<'_> {
         if !is_whole || self.feed.lines.is_unsure {
             return Ok(());
         }
-        if self.asked.command == Command::Replay {
-            self.write_unasked(f)
+        if self.command_line.command == Command::Replay {
+            self.write_unsubscribed(f)
         } else {
-            self.write_lacking(f)
+            self.write_missing_kinds(f)
         }
     }
 
     // Says that a feed has no subscriptions and no simulations.
-    fn write_unasked<W: fmt::Write>(&self, f: &mut Formatter<W>) -> fmt::Result {
+    fn write_unsubscribed<W: fmt::Write>(&self, f: &mut Formatter<W>) -> fmt::Result {
         if self.feed.lines.has_request {
             return Ok(());
         }
@@ -156,17 +156,17 @@ impl Run<'_> {
         }
     }
 
-    fn write_lacking<W: fmt::Write>(&self, f: &mut Formatter<W>) -> fmt::Result {
-        let lacking = Lacking::of(self.asked, &self.feed.lines.kinds);
-        if lacking.is_some() {
-            write!(f, "{lacking}")
+    fn write_missing_kinds<W: fmt::Write>(&self, f: &mut Formatter<W>) -> fmt::Result {
+        let missing = MissingKinds::of(self.command_line, &self.feed.lines.kinds);
+        if missing.is_some() {
+            write!(f, "{missing}")
         } else {
             Ok(())
         }
     }
 
     fn write_whole<W: fmt::Write>(&self, f: &mut Formatter<W>) -> fmt::Result {
-        write!(f, "linkerd_cli {}: ", self.asked.command.name())?;
+        write!(f, "linkerd_cli {}: ", self.command_line.command.name())?;
         if self.read.was_asked {
             self.write_counts(f)?;
         }
@@ -176,7 +176,7 @@ impl Run<'_> {
     fn write_counts<W: fmt::Write>(&self, f: &mut Formatter<W>) -> fmt::Result {
         write_number(f, self.read.lines.count, "line")?;
         write!(f, ", {} refused, ", self.written.refused())?;
-        if self.asked.command == Command::Replay {
+        if self.command_line.command == Command::Replay {
             write_number(f, self.written.frames(), "frame")?;
             f.write_str(", ")?;
             write_number(f, self.output.verdicts, "verdict")?;

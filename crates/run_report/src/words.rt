@@ -1,6 +1,6 @@
 // Says what is wrong with a command line that is refused.
+use crate::argument_words::wrong_after;
 use crate::command::{COMMANDS, Command};
-use crate::given::wrong_after;
 use crate::nearest::Nearest;
 use crate::options::{ARGUMENTS, Argument};
 use crate::usage::{USAGE, USAGE_LINE};
@@ -19,7 +19,7 @@ pub trait CommandReader {
 #[derive(Clone, Copy, PartialEq, Eq)]
 pub(crate) enum Wrong {
     /// Nothing, or it is not known: there are no words, or they ask for help.
-    Untold,
+    Unknown,
     NotUtf8,
     Command,
     /// The command does not have the option. Other commands may have it.
@@ -62,10 +62,10 @@ impl<'a> WrongWords<'a> {
     /// Finds what is wrong with words that the reader refuses.
     pub fn of<R: CommandReader>(alloc: Global, words: &'a [Text], reader: &R) -> WrongWords<'a> {
         let Some((first, rest)) = words.split_first() else {
-            return WrongWords::as_whole(Wrong::Untold);
+            return WrongWords::as_whole(Wrong::Unknown);
         };
         if words.iter().any(|word| is_help(word.as_str())) {
-            return WrongWords::as_whole(Wrong::Untold);
+            return WrongWords::as_whole(Wrong::Unknown);
         }
         let named = Command::named(first.as_str());
         let (wrong, word) = match named {
@@ -141,7 +141,7 @@ impl WrongWords<'_> {
         let command = self.command.unwrap_or(Command::Replay);
         let word = self.word;
         match self.wrong {
-            Wrong::Untold => Ok(()),
+            Wrong::Unknown => Ok(()),
             Wrong::NotUtf8 => f.write_str("a word is not UTF-8"),
             Wrong::Command => write!(
                 f,
@@ -183,7 +183,7 @@ impl WrongWords<'_> {
 impl Display for WrongWords<'_> {
     fn fmt<W: fmt::Write>(&self, f: &mut Formatter<W>) -> fmt::Result {
         f.write_str(USAGE_LINE)?;
-        if self.wrong == Wrong::Untold {
+        if self.wrong == Wrong::Unknown {
             return f.write_str(USAGE);
         }
         f.write_str("linkerd_cli: ")?;

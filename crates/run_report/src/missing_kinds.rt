@@ -1,5 +1,5 @@
 // The kinds of objects that the view of a query is made from.
-use crate::command::Asked;
+use crate::command::CommandLine;
 use crate::kinds::KindTable;
 use std::fmt;
 use std::fmt::{Display, Formatter};
@@ -28,8 +28,8 @@ fn kinds_of(method: &str) -> &'static [&'static str] {
 }
 
 // How many of the kinds, from the first, the query needs. The others may be absent from a cluster.
-fn needed_of(asked: &Asked<'_>) -> usize {
-    if asked.method == "Get" { 2 } else { 1 }
+fn needed_of(line: &CommandLine<'_>) -> usize {
+    if line.method == "Get" { 2 } else { 1 }
 }
 
 fn is_address(path: &str) -> bool {
@@ -41,33 +41,33 @@ fn is_address(path: &str) -> bool {
 
 /// The kinds that a query asks for and a feed does not have.
 #[derive(Clone, Copy, Drop)]
-pub(crate) struct Lacking<'a> {
-    asked: Asked<'a>,
+pub(crate) struct MissingKinds<'a> {
+    line: CommandLine<'a>,
     kinds: &'a KindTable,
 }
 
-impl<'a> Lacking<'a> {
-    pub(crate) fn of(asked: Asked<'a>, kinds: &'a KindTable) -> Lacking<'a> {
-        Lacking { asked, kinds }
+impl<'a> MissingKinds<'a> {
+    pub(crate) fn of(line: CommandLine<'a>, kinds: &'a KindTable) -> MissingKinds<'a> {
+        MissingKinds { line, kinds }
     }
 
     /// The feed lacks a kind that the query needs. An address may be that of a Pod, without any Service.
     pub(crate) fn is_some(&self) -> bool {
-        if is_address(self.asked.path) && self.kinds.has(b"Pod") {
+        if is_address(self.line.path) && self.kinds.has(b"Pod") {
             return false;
         }
-        let needed = needed_of(&self.asked);
-        kinds_of(self.asked.method)
+        let needed = needed_of(&self.line);
+        kinds_of(self.line.method)
             .iter()
             .take(needed)
             .any(|kind| !self.kinds.has(kind.as_bytes()))
     }
 }
 
-impl Display for Lacking<'_> {
+impl Display for MissingKinds<'_> {
     fn fmt<W: fmt::Write>(&self, f: &mut Formatter<W>) -> fmt::Result {
         let mut is_first = true;
-        for kind in kinds_of(self.asked.method) {
+        for kind in kinds_of(self.line.method) {
             if self.kinds.has(kind.as_bytes()) {
                 continue;
             }

@@ -64,14 +64,17 @@ impl<'a> Walk<'a> {
 
 // The words of a command that has all their options, each with a value.
 #[derive(Clone, Copy)]
-struct Given<'a> {
+struct ArgumentWords<'a> {
     command: Command,
     words: &'a [Text],
     number: Option<&'a str>,
 }
 
 // Reads the options and the number, and not yet their values.
-fn read_form<'a>(command: Command, words: &'a [Text]) -> Result<Given<'a>, (Wrong, &'a str)> {
+fn read_form<'a>(
+    command: Command,
+    words: &'a [Text],
+) -> Result<ArgumentWords<'a>, (Wrong, &'a str)> {
     let mut walk = Walk {
         command,
         pending: None,
@@ -85,7 +88,7 @@ fn read_form<'a>(command: Command, words: &'a [Text]) -> Result<Given<'a>, (Wron
     }
     match walk.pending {
         Some(option) => Err((Wrong::NoValue(option), "")),
-        None => Ok(Given {
+        None => Ok(ArgumentWords {
             command,
             words,
             number: walk.number,
@@ -120,7 +123,7 @@ fn probe_words(
     Ok(words)
 }
 
-impl<'a> Given<'a> {
+impl<'a> ArgumentWords<'a> {
     fn value(&self, argument: Argument) -> Option<&'a str> {
         if argument == Argument::Number {
             self.number
@@ -189,7 +192,7 @@ impl<'a> Given<'a> {
             Some(path) if Argument::Path.is_needed(self.command, self.method()) => {
                 (Wrong::Value(Argument::Path), path)
             }
-            _ => (Wrong::Untold, ""),
+            _ => (Wrong::Unknown, ""),
         }
     }
 }
