@@ -13,6 +13,7 @@ use std::alloc::Global;
 use std::collections::{BTreeMap, BTreeSet};
 
 /// Rows, and the marks that each watches.
+#[derive(Drop)]
 pub struct Graph<M: Ord + Copied> {
     by_mark: BTreeMap<M, BTreeSet<u64>>,
     rows: BTreeMap<u64, List<M>>,
