@@ -1,4 +1,5 @@
-ghost use Rattle.std.specs.Prelude.{◌≡◌, ◌≢◌};
+ghost use Rattle.std.specs.Prelude.{◌≡◌, ◌≢◌, IfErr};
+ghost use Rattle.command_run.specs.Outcome.{IsUnread};
 
 use line_run::Status;
 use mesh_base::text::Text;
@@ -10,6 +11,7 @@ use std::io::ErrorKind;
 pub fn status_without_words(kind: ErrorKind) -> Status
     ensures memory { kind ≡ ErrorKind.OutOfMemory → result ≡ Status.Memory }
     ensures usage { kind ≢ ErrorKind.OutOfMemory → result ≡ Status.Usage }
+    ensures unread { IsUnread result }
 {
     if kind == ErrorKind::OutOfMemory {
         Status::Memory
@@ -20,7 +22,9 @@ pub fn status_without_words(kind: ErrorKind) -> Status
 
 /// The words of the command line, without the program's name. The error is Memory where there is no memory for them, and Usage
 /// where one is not UTF-8.
-pub fn words_of<R: Env + AllocGlobal>(rt: &R) -> Result<Vec<Text>, Status> {
+pub fn words_of<R: Env + AllocGlobal>(rt: &R) -> Result<Vec<Text>, Status>
+    ensures { IfErr result IsUnread }
+{
     let args = match env::args(rt) {
         Ok(args) => args,
         Err(error) => return Err(status_without_words(error.kind())),
