@@ -1,0 +1,26 @@
+use mark_graph::graph::Graph;
+use mesh_base::list::List;
+use std::alloc::Global;
+use std::test::Fail;
+
+fn list(alloc: Global, marks: &[u32]) -> Result<List<u32>, Fail> {
+    Ok(List::from_vec(marks.to_vec(alloc)?))
+}
+
+// Two rows at one mark. A row that watches other marks leaves those that it had, and one that watches none is never due.
+#[test]
+fn rows_at_marks(rt: HostRuntime) -> Result<(), Fail> {
+    let alloc = rt.alloc();
+    let mut graph: Graph<u32> = Graph::new(alloc);
+    graph.watch(7, list(alloc, &[1, 2])?)?;
+    graph.watch(3, list(alloc, &[2, 2])?)?;
+    assert_eq!(rt; graph.due(&[2])?.as_slice(), [3, 7].as_slice());
+    assert_eq!(rt; graph.due(&[1, 2])?.as_slice(), [3, 7].as_slice());
+    assert_eq!(rt; graph.due(&[1])?.as_slice(), [7].as_slice());
+    graph.watch(7, list(alloc, &[9])?)?;
+    assert_eq!(rt; graph.due(&[1, 2, 9])?.as_slice(), [3, 7].as_slice());
+    assert_eq!(rt; graph.due(&[1])?.len(), 0);
+    graph.unwatch(3);
+    assert_eq!(rt; graph.due(&[2])?.len(), 0);
+    Ok(())
+}

@@ -1,0 +1,3 @@
+pub mod AtKeys
+pub mod Needs
+pub mod Refer
