@@ -76,7 +76,6 @@ impl Reader<'_> {
     }
 
     /// The marks that a row of endpoints reads: of its Service, its EndpointSlices, and the Pods that these target.
-
     pub fn endpoint_reads<L>(
         &self,
         key: &EndpointKey,
