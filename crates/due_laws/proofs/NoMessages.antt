@@ -1,5 +1,5 @@
 -- No message leads from a view to itself.
-use Rattle.std.proofs.Common.{◌≡◌, ◌||◌, ◌∷◌, ℕ, Bool, true, false, not, List, [], Some, refl, ap, ◌∙◌}
+use Rattle.std.proofs.Common.{◌≡◌, ◌∷◌, ℕ, Bool, true, false, not, List, [], Some, refl, ap, ◌∙◌}
 use Rattle.std.specs.Prelude.{map}
 use Rattle.std.specs.Bool.{Decides, beq}
 use Rattle.std.specs.List.{AllByRecursion, filter, list_any}
@@ -17,6 +17,7 @@ use Rattle.view_rules.specs.Laws.{SameOutboundDecides, SameProfileDecides, SameR
 use Rattle.view_rules.specs.Same.{same_row}
 use Rattle.view_rules.specs.Views.{view_of}
 use Rattle.view_rules.proofs.Pairs.{pairs_total}
+use Rattle.mark_rules.proofs.MarkTests.{either_second}
 use Rattle.feed_history.specs.History.{after}
 use Rattle.feed_history.specs.Program.{Program}
 use Rattle.due_laws.specs.Due.{OnlyDueAreOwed, OnlyDueAreSent}
@@ -27,13 +28,9 @@ module _ {X Y : Type 0} (test : Y → X → Bool) where
   abbrev AreFound : List X → List Y → Type 0
   AreFound xs ys = AllByRecursion (λ y. list_any (test y) xs ≡ true) ys
 
-  or_right : (a b : Bool) → b ≡ true → (a || b) ≡ true
-  or_right true b is = refl
-  or_right false b is = is
-
   found_in_more : (x : X) (xs : List X) (ys : List Y) → AreFound xs ys → AreFound (x ∷ xs) ys
   found_in_more x xs [] all = tt
-  found_in_more x xs (y ∷ ys) all = (or_right (test y x) (list_any (test y) xs) all.0, found_in_more x xs ys all.1)
+  found_in_more x xs (y ∷ ys) all = (either_second (test y x) (list_any (test y) xs) all.0, found_in_more x xs ys all.1)
 
   none_left : (xs : List X) (ys : List Y) → AreFound xs ys → filter (λ y. not (list_any (test y) xs)) ys ≡ []
   none_left xs [] all = refl

@@ -1,6 +1,6 @@
 -- Which subscriptions are due: one that was never drained, and one for which an accepted event since its last drain had a mark
 -- that its query read before the event.
-use Rattle.std.specs.Prelude.{◌≡◌, ◌++◌, ◌||◌, ℕ, ◌==◌, Bool, true, false, List, [], ◌∷◌, Option, Some, None, Result, Ok, Err, if◌then◌else◌, filter, is_some}
+use Rattle.std.specs.Prelude.{◌≡◌, ◌++◌, ◌||◌, ℕ, ◌==◌, Bool, true, false, List, [], ◌∷◌, Option, Some, None, Result, Ok, Err, if◌then◌else◌, is_some}
 use Rattle.std.specs.FinMap.{get}
 use Rattle.std.specs.Option.{option_to_list}
 use Rattle.view_types.specs.Objects.{AtKeys, ObjectMap, key_of}
@@ -20,7 +20,7 @@ use Rattle.watch_events.specs.declared.line.Line.TheVariants as lines
 use Rattle.watch_events.specs.declared.line.LineFault.{LineFault}
 use Rattle.feed_history.specs.Deliveries.{IsOwedNothing}
 use Rattle.feed_history.specs.Events.{objects_after}
-use Rattle.feed_history.specs.History.{Asked, after, asked_at, ids_of, messages_due, refusal_after}
+use Rattle.feed_history.specs.History.{Asked, after, asked_at, messages_due, refusal_after}
 use Rattle.feed_history.specs.Live.{live_at}
 use Rattle.feed_history.specs.LookBack.{last_told}
 use Rattle.feed_history.specs.Marks.{MarkedRow}
@@ -64,10 +64,6 @@ due_by program past (Err fault) id = None
 abbrev pub is_due : Program → List MarkedRow → ℕ → Bool
 is_due program [] id = false
 is_due program (row ∷ past) id = last_told (refusal_after program past row) (due_by program past (reading program row) id) (is_due program past id)
-
--- the ids that are due, in the order of the live ones
-abbrev pub due_ids : Program → List MarkedRow → List ℕ
-due_ids program past = filter (is_due program past) (ids_of (after program past).subs)
 
 -- ---- laws
 

@@ -2,6 +2,7 @@
 use Rattle.std.proofs.Common.{◌≡◌, ◌++◌, ◌&&◌, ◌||◌, Bool, true, false, cond, List, [], ◌∷◌, refl, sym, ap, ◌∙◌, append_assoc}
 use Rattle.std.specs.FinMap.{values}
 use Rattle.std.specs.List.{filter, flat_map, list_any}
+use Rattle.std.proofs.Math.Bool.{or-false}
 use Rattle.std.proofs.lemmas.List.Folds.{list_any-append}
 use Rattle.mesh_base.specs.declared.key.Kind.{Kind}
 use Rattle.mesh_base.specs.declared.key.Kind.TheVariants as kind
@@ -52,10 +53,6 @@ any_in : (f : Object → List Mark) (mark : Mark) (os : List Object) → has_mar
 any_in f mark [] = refl
 any_in f mark (o ∷ os) = list_any-append (same_mark mark) (f o) (flat_map f os) ∙ ap (λ b. has_mark (f o) mark || b) (any_in f mark os)
 
-either_false : (b : Bool) → (b || false) ≡ b
-either_false true = refl
-either_false false = refl
-
 same_filter : (a b : Object → Bool) → ((o : Object) → a o ≡ b o) → (os : List Object) → filter a os ≡ filter b os
 same_filter a b same [] = refl
 same_filter a b same (o ∷ os) = (λ i. cond (same o i) (o ∷ same_filter a b same os i) (same_filter a b same os i))
@@ -66,7 +63,7 @@ module _ (held : ObjectMap) (mark : Mark) where
   needed_more one marks =
       any_of_both (λ o. has_mark (marks_of o) one) (λ o. meets marks (marks_of o)) (λ o. has_mark (needs_of o) mark) (values held)
       ∙ ap (λ os. list_any (λ o. has_mark (needs_of o) mark) os || needed held mark marks)
-      (same_filter (λ o. has_mark (marks_of o) one) (λ o. meets (one ∷ []) (marks_of o)) (λ o. sym (either_false (has_mark (marks_of o) one))) (values held))
+      (same_filter (λ o. has_mark (marks_of o) one) (λ o. meets (one ∷ []) (marks_of o)) (λ o. sym (or-false (has_mark (marks_of o) one))) (values held))
 
   has_read : (one : Mark) → has_mark (read_at held Authentications one) mark ≡ (same_mark mark one || needed held mark (one ∷ []))
   has_read one = ap (λ b. same_mark mark one || b) (any_in needs_of mark (objects_with held (one ∷ [])))
@@ -97,7 +94,7 @@ module _ (held : ObjectMap) (mark : Mark) where
       ∙ sym (has_all (a ∷ b ∷ c ∷ []))
 
   one_alone : (a : Mark) → has_mark (read_at held Authentications a) mark ≡ has_mark (with_needs held (a ∷ [])) mark
-  one_alone a = has_read a ∙ ap (λ b. b || needed held mark (a ∷ [])) (sym (either_false (same_mark mark a))) ∙ sym (has_all (a ∷ []))
+  one_alone a = has_read a ∙ ap (λ b. b || needed held mark (a ∷ [])) (sym (or-false (same_mark mark a))) ∙ sym (has_all (a ∷ []))
 
   same_by_kind : (key : ObjKey) (kind : Kind) → has_mark (authz_at held key kind) mark ≡ has_mark (authz_reads_of held key kind) mark
   same_by_kind key kind.Server = ap (λ b. same_mark mark (Obj key) || b) (all_three (ServerAuthzIn key.ns) (PolicyOn key.ns ref.Server key.name) (PolicyOn key.ns ref.Namespace key.ns))

@@ -1,12 +1,11 @@
 -- What the objects with a mark refer to, and what a row reads.
-use Rattle.std.proofs.Common.{◌≡◌, ◌++◌, ◌&&◌, ◌||◌, ℕ, Bool, true, false, cond, List, [], ◌∷◌, Option, Some, None, Ordering, refl, sym, ap, subst, ◌∙◌, append_assoc}
+use Rattle.std.proofs.Common.{◌≡◌, ◌++◌, ◌&&◌, ℕ, Bool, true, false, cond, List, [], ◌∷◌, Option, Some, None, refl, sym, ap, subst, ◌∙◌, append_assoc}
 use Rattle.std.specs.Bool.{Decides, one_answer}
 use Rattle.std.specs.Cmp.Lexicographic.{bytes_decides}
 use Rattle.std.specs.FinMap.{values}
 use Rattle.std.specs.List.{cons_option, filter, filter_map, flat_map}
-use Rattle.std.specs.Ordering.{is_eq}
 use Rattle.std.specs.Str.{bytes_eq}
-use Rattle.std.specs.declared.cmp.Ordering.TheVariants.{Less, Equal, Greater}
+use Rattle.std.proofs.Math.Bool.{and-false, or-false}
 use Rattle.view_types.specs.Objects.{ObjectMap}
 use Rattle.view_types.specs.declared.mark.Mark.{Mark}
 use Rattle.view_types.specs.declared.mark.Mark.TheVariants.{Obj, SlicesOf, RouteOn}
@@ -16,6 +15,8 @@ use Rattle.view_types.specs.declared.route.ParentKind.TheVariants as parent
 use Rattle.view_types.specs.declared.slice.Slice.{Slice}
 use Rattle.view_rules.specs.Endpoints.{is_text, service_key, service_of, slice_in}
 use Rattle.view_rules.specs.Routes.{as_route}
+use Rattle.view_rules.proofs.Entries.{equal}
+use Rattle.view_rules.proofs.Given.{both_hold}
 use Rattle.mark_rules.specs.Marks.{has_mark, label_marks, marks_of, meets, objects_with, same_mark}
 use Rattle.mark_rules.specs.Reads.{backends_of, endpoint_reads, pods_of, service_outbound_reads}
 use Rattle.mark_rules.specs.declared.keys.EndpointKey.{EndpointKey}
@@ -52,23 +53,6 @@ module _ (held : ObjectMap) (ns name : List ℕ) (before with_key : List Mark) (
 
 -- ---- slices
 
-either_false : (b : Bool) → (b || false) ≡ b
-either_false true = refl
-either_false false = refl
-
-never_both : (b : Bool) → false ≡ (b && false)
-never_both true = refl
-never_both false = refl
-
-equal : (r : Ordering) → is_eq r ≡ true → r ≡ Equal
-equal Less is = cc
-equal Equal is = refl
-equal Greater is = cc
-
-both_hold : (a b : Bool) → (a && b) ≡ true → (a ≡ true) × (b ≡ true)
-both_hold true b is = (refl, is)
-both_hold false b is = absurd (cc is)
-
 -- the names that the mark of a Service's slices has
 abbrev ns_in : Mark → List ℕ
 ns_in (SlicesOf ns name) = ns
@@ -90,8 +74,8 @@ module _ (ns name : List ℕ) where
     )
 
   labelled : (own : List ℕ) (label : Option (List ℕ)) → has_mark (label_marks own label) (SlicesOf ns name) ≡ (bytes_eq own ns && is_text name label)
-  labelled own None = never_both (bytes_eq own ns)
-  labelled own (Some found) = either_false _ ∙ one_answer _ _ (by_mark own found) (by_names own found)
+  labelled own None = sym (and-false (bytes_eq own ns))
+  labelled own (Some found) = or-false _ ∙ one_answer _ _ (by_mark own found) (by_names own found)
 
   -- the objects that have the mark
   abbrev with_mark : List Object → List Object
@@ -113,7 +97,7 @@ module _ (ns name : List ℕ) where
   slices_refer : (objects : List Object) → flat_map pods_of (filter_map (slice_in ns name) objects) ≡ flat_map (references Pods) (with_mark objects)
   slices_refer [] = refl
   slices_refer (object.EndpointSlice slice ∷ os) =
-      one_slice slice os (bytes_eq slice.meta.ns ns && is_text name (service_of slice)) (either_false _ ∙ labelled slice.meta.ns (service_of slice)) (slices_refer os)
+      one_slice slice os (bytes_eq slice.meta.ns ns && is_text name (service_of slice)) (or-false _ ∙ labelled slice.meta.ns (service_of slice)) (slices_refer os)
   slices_refer (object.Pod o ∷ os) = others (object.Pod o) os _ refl (slices_refer os)
   slices_refer (object.Service o ∷ os) = others (object.Service o) os _ refl (slices_refer os)
   slices_refer (object.ServiceProfile o ∷ os) = others (object.ServiceProfile o) os _ refl (slices_refer os)
