@@ -25,10 +25,6 @@ listed None = []
 listed (Some keys) = keys
 
 module _ {M : Type 0} (cmp : M → M → Ordering) where
-  -- a mark stands in a list
-  abbrev pub has_mark : List M → M → Bool
-  has_mark marks m = list_any (eq_by_cmp cmp m) marks
-
   -- the keys at the mark
   abbrev pub keys_at : BTreeMap M (List ObjKey) → M → List ObjKey
   keys_at by m = listed (tree.get cmp by m)
@@ -36,3 +32,35 @@ module _ {M : Type 0} (cmp : M → M → Ordering) where
   -- the key stands at the mark
   abbrev pub key_at : BTreeMap M (List ObjKey) → M → ObjKey → Bool
   key_at by m k = has_key k (keys_at by m)
+
+-- lists at marks, by a part of the mark and the rest of it
+abbrev pub Nested : Type 0 → Type 0 → Type 0
+Nested A B = BTreeMap A (BTreeMap B (List ObjKey))
+
+-- the keys at a mark in what is kept for a part, if anything is
+abbrev pub keys_within : {B : Type 0} → (B → B → Ordering) → Option (BTreeMap B (List ObjKey)) → B → List ObjKey
+keys_within cmp None b = []
+keys_within cmp (Some by) b = keys_at cmp by b
+
+module _ {A B : Type 0} (cmp_a : A → A → Ordering) (cmp_b : B → B → Ordering) where
+  -- the keys at the two parts of a mark
+  abbrev pub nested_keys : Nested A B → A → B → List ObjKey
+  nested_keys by a b = keys_within cmp_b (tree.get cmp_a by a) b
+
+  -- the key stands at the two parts of a mark
+  abbrev pub nested_at : Nested A B → A → B → ObjKey → Bool
+  nested_at by a b k = has_key k (nested_keys by a b)
+
+  -- the keys at two parts of a mark in what is kept for its kind, if anything is
+  abbrev pub keys_among : Option (Nested A B) → A → B → List ObjKey
+  keys_among None a b = []
+  keys_among (Some by) a b = nested_keys by a b
+
+module _ {K A B : Type 0} (cmp_k : K → K → Ordering) (cmp_a : A → A → Ordering) (cmp_b : B → B → Ordering) where
+  -- the keys at the kind and the two parts of a mark
+  abbrev pub keys_by_kind : BTreeMap K (Nested A B) → K → A → B → List ObjKey
+  keys_by_kind by kind a b = keys_among cmp_a cmp_b (tree.get cmp_k by kind) a b
+
+  -- the key stands at the kind and the two parts of a mark
+  abbrev pub key_by_kind : BTreeMap K (Nested A B) → K → A → B → ObjKey → Bool
+  key_by_kind by kind a b k = has_key k (keys_by_kind by kind a b)

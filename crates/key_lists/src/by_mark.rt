@@ -1,7 +1,7 @@
 ghost use Rattle.std.specs.Prelude.{◌≡◌, ◌&&◌, ◌||◌, not, true, [], IfOk, OnOk, List};
 ghost use Rattle.std.specs.Ordering.{eq_by_cmp};
 ghost use Rattle.mesh_base.specs.declared.key.ObjKey.{ObjKey};
-ghost use Rattle.key_lists.specs.Keys.{has_mark, is_key, key_at, keys_at, Rises};
+ghost use Rattle.key_lists.specs.Keys.{is_key, key_at, keys_at, Rises};
 
 use crate::key_list::KeyList;
 use mesh_base::copied::Copied;
@@ -79,32 +79,4 @@ fn let_go<M: Ord + Copied>(by: &mut BTreeMap<M, KeyList>, mark: &M)
     ensures { (m : M) (k : ObjKey) → key_at M.cmp by.new m k ≡ key_at M.cmp by.old m k }
 {
     by.remove(mark);
-}
-
-/// Puts a key to each mark.
-pub fn put_all<M: Ord + Copied>(
-    alloc: Global,
-    by: &mut BTreeMap<M, KeyList>,
-    marks: &[M],
-    key: &ObjKey,
-) -> Result<(), Memory>
-    ensures { OnOk result ((m : M) (k : ObjKey)
-        → key_at M.cmp by.new m k
-        ≡ ((has_mark M.cmp marks.now m && is_key k key.now) || key_at M.cmp by.old m k)) }
-{
-    for mark in marks {
-        put_one(alloc, by, mark, key)?;
-    }
-    Ok(())
-}
-
-/// Takes a key from each mark.
-pub fn take_all<M: Ord + Copied>(by: &mut BTreeMap<M, KeyList>, marks: &[M], key: &ObjKey)
-    ensures { (m : M) (k : ObjKey)
-        → key_at M.cmp by.new m k
-        ≡ (not (has_mark M.cmp marks.now m && is_key k key.now) && key_at M.cmp by.old m k) }
-{
-    for mark in marks {
-        take_one(by, mark, key);
-    }
 }

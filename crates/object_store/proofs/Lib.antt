@@ -2,6 +2,7 @@ pub mod Arranged
 pub mod AtKeys
 pub mod ByCmp
 pub mod Kept
+pub mod KeptAt
 pub mod Leading
 pub mod OneMore
 pub mod PutAll

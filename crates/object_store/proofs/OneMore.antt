@@ -30,7 +30,7 @@ taken_before p xs i n x after mid start next lt at is so_far =
     swapped false false = refl
 
 module _ {X : Type 0} (p : X → Bool) (xs : List X) (i : ℕ) (x : X) (after mid start : Bool) (lt : i < length xs) (at : x ≡ get_or xs i x) where
-  any_more : list_any p (take (i + 1) xs) ≡ (list_any p (take i xs) || p x)
+  pub any_more : list_any p (take (i + 1) xs) ≡ (list_any p (take i xs) || p x)
   any_more = list_any_more p xs i x lt ∙ ap (λ y. list_any p (take i xs) || p y) (sym at)
 
   pub put_more : after ≡ (p x || mid) → mid ≡ (list_any p (take i xs) || start) → after ≡ (list_any p (take (i + 1) xs) || start)

@@ -1,28 +1,54 @@
 -- The keys that a store keeps for marks, beside its objects. None are kept for the mark of a key, which tells the key itself.
-use Rattle.std.specs.Prelude.{◌≡◌, ◌&&◌, ◌||◌, not, Bool, true, false, List, Option, Some, None, slice_get}
+use Rattle.std.specs.Prelude.{◌≡◌, ◌&&◌, ◌||◌, not, ℕ, Bool, true, false, List, [], Option, Some, None, slice_get}
+use Rattle.std.specs.Cmp.Lexicographic.{slice_cmp}
 use Rattle.std.specs.FinMap.{get}
 use Rattle.std.specs.List.{list_any}
-use Rattle.key_lists.specs.Keys.{is_key, key_at, keys_at}
+use Rattle.std.specs.Ordering.{nat_cmp}
+use Rattle.std.specs.declared.cmp.Ordering.{Ordering}
+use Rattle.key_lists.specs.Keys.{has_key, is_key, keys_at, keys_by_kind, nested_keys}
 use Rattle.mark_rules.specs.MarkLookups.{keys_at as keys_of}
-use Rattle.mark_rules.specs.Marks.{has_mark, mark_cmp, other_marks}
+use Rattle.mark_rules.specs.Marks.{has_mark, other_marks, parent_place, ref_place, same_mark}
 use Rattle.mesh_base.specs.declared.key.ObjKey.{ObjKey}
+use Rattle.net_cidr.specs.Address.{ip_cmp}
 use Rattle.object_store.specs.declared.change.Change.{Change}
 use Rattle.object_store.specs.declared.change.StoreFault.{StoreFault}
 use Rattle.object_store.specs.declared.change.StoreFault.TheVariants.{Memory, Full}
 use Rattle.object_store.specs.declared.mark_keys.MarkKeys.{MarkKeys}
 use Rattle.object_store.specs.Held.{Held}
 use Rattle.view_types.specs.Objects.{ObjectMap, key_of}
+use Rattle.view_types.specs.declared.authn.RefKind.{RefKind}
 use Rattle.view_types.specs.declared.mark.Mark.{Mark}
-use Rattle.view_types.specs.declared.mark.Mark.TheVariants.{Obj}
+use Rattle.view_types.specs.declared.mark.Mark.TheVariants.{Obj, SlicesOf, ServersIn, ServerAuthzIn, PolicyOn, RouteOn, IpService, IpPod}
 use Rattle.view_types.specs.declared.object.Object.{Object}
+use Rattle.view_types.specs.declared.route.ParentKind.{ParentKind}
+
+-- ---- the orders of the parts of marks
+
+abbrev pub text_cmp : List ℕ → List ℕ → Ordering
+text_cmp = slice_cmp nat_cmp
+
+abbrev pub ref_cmp : RefKind → RefKind → Ordering
+ref_cmp kind other = nat_cmp (ref_place kind) (ref_place other)
+
+abbrev pub parent_cmp : ParentKind → ParentKind → Ordering
+parent_cmp kind other = nat_cmp (parent_place kind) (parent_place other)
+
+-- ---- the keys of marks
 
 -- the keys that are kept for the mark, in order
 abbrev pub kept_at : MarkKeys → Mark → List ObjKey
-kept_at keys mark = keys_at mark_cmp keys.by mark
+kept_at keys (Obj key) = []
+kept_at keys (SlicesOf ns service) = nested_keys text_cmp text_cmp keys.slices ns service
+kept_at keys (ServersIn ns) = keys_at text_cmp keys.servers ns
+kept_at keys (ServerAuthzIn ns) = keys_at text_cmp keys.server_authz ns
+kept_at keys (PolicyOn ns kind name) = keys_by_kind ref_cmp text_cmp text_cmp keys.policies kind ns name
+kept_at keys (RouteOn ns kind name) = keys_by_kind parent_cmp text_cmp text_cmp keys.routes kind ns name
+kept_at keys (IpService ip) = keys_at ip_cmp keys.services ip
+kept_at keys (IpPod ip) = keys_at ip_cmp keys.pods ip
 
 -- the key is kept for the mark
 abbrev pub is_kept : MarkKeys → Mark → ObjKey → Bool
-is_kept keys mark key = key_at mark_cmp keys.by mark key
+is_kept keys mark key = has_key key (kept_at keys mark)
 
 -- an object is held, and the mark is one of its marks besides that of its key
 abbrev pub has_other : Mark → Option Object → Bool
@@ -37,6 +63,14 @@ AreKeysOf objects keys = (mark : Mark) (key : ObjKey) → is_kept keys mark key 
 abbrev pub is_of_key : Mark → Bool
 is_of_key (Obj key) = true
 is_of_key mark = false
+
+-- the marks are the same, and none is that of a key
+abbrev pub is_for : Mark → Mark → Bool
+is_for asked mark = not (is_of_key mark) && same_mark mark asked
+
+-- the mark is one of these, and is not that of a key
+abbrev pub is_among : List Mark → Mark → Bool
+is_among marks mark = not (is_of_key mark) && has_mark marks mark
 
 -- the object had the mark, and stood at the key
 abbrev pub is_old : Mark → ObjKey → Object → Bool

@@ -1,22 +1,36 @@
 ghost use Rattle.std.specs.Prelude.{◌≡◌, ◌&&◌, ◌||◌, not, false, OnOk};
 ghost use Rattle.key_lists.specs.Keys.{is_key, Rises};
-ghost use Rattle.mark_rules.specs.Marks.{has_mark};
 ghost use Rattle.mesh_base.specs.declared.key.ObjKey.{ObjKey};
 ghost use Rattle.view_types.specs.declared.mark.Mark.{Mark};
-ghost use Rattle.object_store.specs.KeyLists.{is_kept, kept_at};
+ghost use Rattle.view_types.specs.declared.mark.Mark.TheVariants.{IpPod, IpService, PolicyOn, RouteOn, ServerAuthzIn, ServersIn, SlicesOf};
+ghost use Rattle.object_store.specs.KeyLists.{is_among, is_for, is_kept, kept_at};
 
-use key_lists::by_mark::{keys_at, put_all, take_all};
 use key_lists::key_list::KeyList;
+use key_lists::{by_kind, by_mark, nested};
 use mesh_base::key::ObjKey;
 use mesh_base::memory::Memory;
+use mesh_base::text::Text;
+use net_cidr::ip::Ip;
 use std::alloc::Global;
 use std::collections::BTreeMap;
+use view_types::authn::RefKind;
 use view_types::mark::Mark;
+use view_types::route::ParentKind;
 
-/// Keys of objects, by their marks.
+/// Keys of objects, by their marks. None are kept for the mark of a key. The parts of a mark are looked up one by one, so
+/// that no mark has to be put together.
 #[derive(Drop)]
 pub struct MarkKeys {
-    by: BTreeMap<Mark, KeyList>,
+    /// By the namespace and the name of the Service.
+    slices: BTreeMap<Text, BTreeMap<Text, KeyList>>,
+    servers: BTreeMap<Text, KeyList>,
+    server_authz: BTreeMap<Text, KeyList>,
+    /// By the kind, the namespace and the name of the target.
+    policies: BTreeMap<RefKind, BTreeMap<Text, BTreeMap<Text, KeyList>>>,
+    /// By the kind, the namespace and the name of the parent.
+    routes: BTreeMap<ParentKind, BTreeMap<Text, BTreeMap<Text, KeyList>>>,
+    services: BTreeMap<Ip, KeyList>,
+    pods: BTreeMap<Ip, KeyList>,
 }
 
 impl MarkKeys {
@@ -24,7 +38,13 @@ impl MarkKeys {
         ensures { (m : Mark) (k : ObjKey) → is_kept result m k ≡ false }
     {
         MarkKeys {
-            by: BTreeMap::new(alloc),
+            slices: BTreeMap::new(alloc),
+            servers: BTreeMap::new(alloc),
+            server_authz: BTreeMap::new(alloc),
+            policies: BTreeMap::new(alloc),
+            routes: BTreeMap::new(alloc),
+            services: BTreeMap::new(alloc),
+            pods: BTreeMap::new(alloc),
         }
     }
 
@@ -33,24 +53,138 @@ impl MarkKeys {
         ensures value { result.now ≡ kept_at self.now mark.now }
         ensures rise { Rises (kept_at self.now mark.now) }
     {
-        keys_at(&self.by, mark)
+        match mark {
+            Mark::Obj(_) => &[],
+            Mark::SlicesOf(ns, service) => self.slices_of(ns, service),
+            Mark::ServersIn(ns) => self.servers_in(ns),
+            Mark::ServerAuthzIn(ns) => self.server_authz_in(ns),
+            Mark::PolicyOn(ns, kind, name) => self.policies_on(ns, *kind, name),
+            Mark::RouteOn(ns, kind, name) => self.routes_on(ns, *kind, name),
+            Mark::IpService(ip) => self.services_at(*ip),
+            Mark::IpPod(ip) => self.pods_at(*ip),
+        }
+    }
+
+    /// The keys of the EndpointSlices of the Service, in order.
+    pub fn slices_of(&self, ns: &Text, service: &Text) -> &[ObjKey]
+        ensures value { result.now ≡ kept_at self.now (SlicesOf ns.now service.now) }
+        ensures rise { Rises (kept_at self.now (SlicesOf ns.now service.now)) }
+    {
+        nested::keys_at(&self.slices, ns, service)
+    }
+
+    /// The keys of the Servers of the namespace, in order.
+    pub fn servers_in(&self, ns: &Text) -> &[ObjKey]
+        ensures value { result.now ≡ kept_at self.now (ServersIn ns.now) }
+        ensures rise { Rises (kept_at self.now (ServersIn ns.now)) }
+    {
+        by_mark::keys_at(&self.servers, ns)
+    }
+
+    /// The keys of the ServerAuthorizations of the namespace, in order.
+    pub fn server_authz_in(&self, ns: &Text) -> &[ObjKey]
+        ensures value { result.now ≡ kept_at self.now (ServerAuthzIn ns.now) }
+        ensures rise { Rises (kept_at self.now (ServerAuthzIn ns.now)) }
+    {
+        by_mark::keys_at(&self.server_authz, ns)
+    }
+
+    /// The keys of the AuthorizationPolicies of the namespace with this target, in order.
+    pub fn policies_on(&self, ns: &Text, kind: RefKind, name: &Text) -> &[ObjKey]
+        ensures value { result.now ≡ kept_at self.now (PolicyOn ns.now kind name.now) }
+        ensures rise { Rises (kept_at self.now (PolicyOn ns.now kind name.now)) }
+    {
+        by_kind::keys_at(&self.policies, kind, ns, name)
+    }
+
+    /// The keys of the routes of the namespace with this parent, in order.
+    pub fn routes_on(&self, ns: &Text, kind: ParentKind, name: &Text) -> &[ObjKey]
+        ensures value { result.now ≡ kept_at self.now (RouteOn ns.now kind name.now) }
+        ensures rise { Rises (kept_at self.now (RouteOn ns.now kind name.now)) }
+    {
+        by_kind::keys_at(&self.routes, kind, ns, name)
+    }
+
+    /// The keys of the Services at the address, in order.
+    pub fn services_at(&self, ip: Ip) -> &[ObjKey]
+        ensures value { result.now ≡ kept_at self.now (IpService ip) }
+        ensures rise { Rises (kept_at self.now (IpService ip)) }
+    {
+        by_mark::keys_at(&self.services, &ip)
+    }
+
+    /// The keys of the Pods with the address, in order.
+    pub fn pods_at(&self, ip: Ip) -> &[ObjKey]
+        ensures value { result.now ≡ kept_at self.now (IpPod ip) }
+        ensures rise { Rises (kept_at self.now (IpPod ip)) }
+    {
+        by_mark::keys_at(&self.pods, &ip)
     }
 
     /// Puts the key to each mark.
     pub fn put(&mut self, alloc: Global, marks: &[Mark], key: &ObjKey) -> Result<(), Memory>
         ensures { OnOk result ((m : Mark) (k : ObjKey)
             → is_kept self.new m k
-            ≡ ((has_mark marks.now m && is_key k key.now) || is_kept self.old m k)) }
+            ≡ ((is_among marks.now m && is_key k key.now) || is_kept self.old m k)) }
     {
-        put_all(alloc, &mut self.by, marks, key)
+        for mark in marks {
+            self.put_one(alloc, mark, key)?;
+        }
+        Ok(())
     }
 
     /// Takes the key from each mark.
     pub fn take(&mut self, marks: &[Mark], key: &ObjKey)
         ensures { (m : Mark) (k : ObjKey)
             → is_kept self.new m k
-            ≡ (not (has_mark marks.now m && is_key k key.now) && is_kept self.old m k) }
+            ≡ (not (is_among marks.now m && is_key k key.now) && is_kept self.old m k) }
     {
-        take_all(&mut self.by, marks, key);
+        for mark in marks {
+            self.take_one(mark, key);
+        }
+    }
+
+    fn put_one(&mut self, alloc: Global, mark: &Mark, key: &ObjKey) -> Result<(), Memory>
+        ensures { OnOk result ((m : Mark) (k : ObjKey)
+            → is_kept self.new m k
+            ≡ ((is_for mark.now m && is_key k key.now) || is_kept self.old m k)) }
+    {
+        match mark {
+            Mark::Obj(_) => Ok(()),
+            Mark::SlicesOf(ns, service) => {
+                nested::put_one(alloc, &mut self.slices, ns, service, key)
+            }
+            Mark::ServersIn(ns) => by_mark::put_one(alloc, &mut self.servers, ns, key),
+            Mark::ServerAuthzIn(ns) => by_mark::put_one(alloc, &mut self.server_authz, ns, key),
+            Mark::PolicyOn(ns, kind, name) => {
+                by_kind::put_one(alloc, &mut self.policies, *kind, ns, name, key)
+            }
+            Mark::RouteOn(ns, kind, name) => {
+                by_kind::put_one(alloc, &mut self.routes, *kind, ns, name, key)
+            }
+            Mark::IpService(ip) => by_mark::put_one(alloc, &mut self.services, ip, key),
+            Mark::IpPod(ip) => by_mark::put_one(alloc, &mut self.pods, ip, key),
+        }
+    }
+
+    fn take_one(&mut self, mark: &Mark, key: &ObjKey)
+        ensures { (m : Mark) (k : ObjKey)
+            → is_kept self.new m k
+            ≡ (not (is_for mark.now m && is_key k key.now) && is_kept self.old m k) }
+    {
+        match mark {
+            Mark::Obj(_) => {}
+            Mark::SlicesOf(ns, service) => nested::take_one(&mut self.slices, ns, service, key),
+            Mark::ServersIn(ns) => by_mark::take_one(&mut self.servers, ns, key),
+            Mark::ServerAuthzIn(ns) => by_mark::take_one(&mut self.server_authz, ns, key),
+            Mark::PolicyOn(ns, kind, name) => {
+                by_kind::take_one(&mut self.policies, *kind, ns, name, key)
+            }
+            Mark::RouteOn(ns, kind, name) => {
+                by_kind::take_one(&mut self.routes, *kind, ns, name, key)
+            }
+            Mark::IpService(ip) => by_mark::take_one(&mut self.services, ip, key),
+            Mark::IpPod(ip) => by_mark::take_one(&mut self.pods, ip, key),
+        }
     }
 }

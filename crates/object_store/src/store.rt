@@ -140,59 +140,71 @@ impl Store {
     }
 
     /// The keys of the EndpointSlices of the Service, in order.
-    pub fn slices_of(&self, ns: &Text, service: &Text) -> Result<&[ObjKey], Memory>
-        ensures { IfOk result (λ keys. FindsKeys self.now (SlicesOf ns.now service.now) keys.now) }
+    pub fn slices_of(&self, ns: &Text, service: &Text) -> &[ObjKey]
+        ensures { FindsKeys self.now (SlicesOf ns.now service.now) result.now }
     {
-        let mark = Mark::SlicesOf(ns.copy()?, service.copy()?);
-        Ok(self.keys_with(&mark))
+        self.objects.stand_at_keys();
+        self.keys.slices_of(ns, service)
     }
 
     /// The keys of the Servers of the namespace, in order.
-    pub fn servers_in(&self, ns: &Text) -> Result<&[ObjKey], Memory>
-        ensures { IfOk result (λ keys. FindsKeys self.now (ServersIn ns.now) keys.now) }
+    pub fn servers_in(&self, ns: &Text) -> &[ObjKey]
+        ensures { FindsKeys self.now (ServersIn ns.now) result.now }
     {
-        let mark = Mark::ServersIn(ns.copy()?);
-        Ok(self.keys_with(&mark))
+        self.objects.stand_at_keys();
+        self.keys.servers_in(ns)
     }
 
     /// The keys of the ServerAuthorizations of the namespace, in order.
-    pub fn server_authz_in(&self, ns: &Text) -> Result<&[ObjKey], Memory>
-        ensures { IfOk result (λ keys. FindsKeys self.now (ServerAuthzIn ns.now) keys.now) }
+    pub fn server_authz_in(&self, ns: &Text) -> &[ObjKey]
+        ensures { FindsKeys self.now (ServerAuthzIn ns.now) result.now }
     {
-        let mark = Mark::ServerAuthzIn(ns.copy()?);
-        Ok(self.keys_with(&mark))
+        self.objects.stand_at_keys();
+        self.keys.server_authz_in(ns)
     }
 
     /// The keys of the AuthorizationPolicies of the namespace with this target, in order.
-    pub fn policies_on(&self, ns: &Text, kind: RefKind, name: &Text) -> Result<&[ObjKey], Memory>
-        ensures { IfOk result (λ keys. FindsKeys self.now (PolicyOn ns.now kind name.now) keys.now) }
+    pub fn policies_on(&self, ns: &Text, kind: RefKind, name: &Text) -> &[ObjKey]
+        ensures { FindsKeys self.now (PolicyOn ns.now kind name.now) result.now }
     {
-        let mark = Mark::PolicyOn(ns.copy()?, kind, name.copy()?);
-        Ok(self.keys_with(&mark))
+        self.objects.stand_at_keys();
+        self.keys.policies_on(ns, kind, name)
     }
 
     /// The keys of the routes of the namespace with this parent, in order.
-    pub fn routes_on(&self, ns: &Text, kind: ParentKind, name: &Text) -> Result<&[ObjKey], Memory>
-        ensures { IfOk result (λ keys. FindsKeys self.now (RouteOn ns.now kind name.now) keys.now) }
+    pub fn routes_on(&self, ns: &Text, kind: ParentKind, name: &Text) -> &[ObjKey]
+        ensures { FindsKeys self.now (RouteOn ns.now kind name.now) result.now }
     {
-        let mark = Mark::RouteOn(ns.copy()?, kind, name.copy()?);
-        Ok(self.keys_with(&mark))
+        self.objects.stand_at_keys();
+        self.keys.routes_on(ns, kind, name)
     }
 
     /// The first key of the Services at the address.
     pub fn service_at(&self, ip: Ip) -> Option<&ObjKey>
         ensures { FindsFirst self.now (IpService ip) (option_copied result) }
     {
-        let mark = Mark::IpService(ip);
-        self.keys_with(&mark).first()
+        self.services_at(ip).first()
     }
 
     /// The first key of the Pods with the address.
     pub fn pod_at(&self, ip: Ip) -> Option<&ObjKey>
         ensures { FindsFirst self.now (IpPod ip) (option_copied result) }
     {
-        let mark = Mark::IpPod(ip);
-        self.keys_with(&mark).first()
+        self.pods_at(ip).first()
+    }
+
+    fn services_at(&self, ip: Ip) -> &[ObjKey]
+        ensures { FindsKeys self.now (IpService ip) result.now }
+    {
+        self.objects.stand_at_keys();
+        self.keys.services_at(ip)
+    }
+
+    fn pods_at(&self, ip: Ip) -> &[ObjKey]
+        ensures { FindsKeys self.now (IpPod ip) result.now }
+    {
+        self.objects.stand_at_keys();
+        self.keys.pods_at(ip)
     }
 
     /// Puts the object at its key. `Full` comes where the key is new and as many objects are held as may be.

@@ -1,7 +1,6 @@
-use Rattle.std.proofs.Common.{◌≡◌, ◌&&◌, ◌||◌, OnOk}
-use Rattle.key_lists.specs.Keys.{has_mark, is_key, key_at}
-use Rattle.object_store.proofs.ByCmp.{by_mark_cmp}
+use Rattle.key_lists.specs.Keys.{is_key}
+use Rattle.object_store.proofs.KeptAt.{put_mark}
 use Rattle.object_store.proofs.mark_keys.MarkKeys.put.Goals as goal
 
-pub returns : goal.returns
-returns c = by_mark_cmp (λ cmp. OnOk c.put_all.result ((m : _) (k : _) → key_at cmp c.put_all.new.by m k ≡ ((has_mark cmp c.args.marks.now m && is_key k c.args.key.now) || key_at cmp c.args.self.now.by m k))) c.put_all.ensures
+pub loop-mark-preserved : goal.loop-mark-preserved
+loop-mark-preserved c = λ m k. put_mark c.args.marks.now c.loop-mark.mark-index c.mark-item.result c.loop-mark-test.true c.mark-item.is m (is_key k c.args.key.now) _ _ _ (c.in_ok-put_one.ensures m k) (c.loop-mark.invariant m k)

@@ -1,0 +1,77 @@
+//! Lists of keys at marks of a kind and two parts. The kinds are few: one with no list left stays, empty.
+ghost use Rattle.std.specs.Prelude.{◌≡◌, ◌&&◌, ◌||◌, not, OnOk};
+ghost use Rattle.std.specs.Ordering.{eq_by_cmp};
+ghost use Rattle.mesh_base.specs.declared.key.ObjKey.{ObjKey};
+ghost use Rattle.key_lists.specs.Keys.{is_key, key_by_kind, keys_by_kind, Rises};
+
+use crate::key_list::KeyList;
+use crate::nested;
+use mesh_base::copied::Copied;
+use mesh_base::key::ObjKey;
+use mesh_base::memory::Memory;
+use std::alloc::Global;
+use std::collections::BTreeMap;
+
+/// The keys at the kind and the two parts of a mark.
+pub fn keys_at<'a, K: Ord + Copy, A: Ord + Copied, B: Ord + Copied>(
+    by: &'a BTreeMap<K, BTreeMap<A, BTreeMap<B, KeyList>>>,
+    kind: K,
+    a: &A,
+    b: &B,
+) -> &'a [ObjKey]
+    ensures value { result.now ≡ keys_by_kind K.cmp A.cmp B.cmp by.now kind a.now b.now }
+    ensures rise { Rises (keys_by_kind K.cmp A.cmp B.cmp by.now kind a.now b.now) }
+{
+    match by.get(&kind) {
+        Some(inner) => nested::keys_at(inner, a, b),
+        None => &[],
+    }
+}
+
+/// Puts a key to the kind and the two parts of a mark.
+pub fn put_one<K: Ord + Copy, A: Ord + Copied, B: Ord + Copied>(
+    alloc: Global,
+    by: &mut BTreeMap<K, BTreeMap<A, BTreeMap<B, KeyList>>>,
+    kind: K,
+    a: &A,
+    b: &B,
+    key: &ObjKey,
+) -> Result<(), Memory>
+    ensures { OnOk result ((q : K) (x : A) (y : B) (k : ObjKey)
+        → key_by_kind K.cmp A.cmp B.cmp by.new q x y k
+        ≡ ((eq_by_cmp K.cmp kind q
+        && (eq_by_cmp A.cmp a.now x && (eq_by_cmp B.cmp b.now y && is_key k key.now)))
+        || key_by_kind K.cmp A.cmp B.cmp by.old q x y k)) }
+{
+    match by.get_mut(&kind) {
+        Some(inner) => {
+            nested::put_one(alloc, inner, a, b, key)?;
+        }
+        None => {
+            let mut inner = BTreeMap::new(alloc);
+            nested::put_one(alloc, &mut inner, a, b, key)?;
+            by.insert(kind, inner)?;
+        }
+    }
+    Ok(())
+}
+
+/// Takes a key from the kind and the two parts of a mark.
+pub fn take_one<K: Ord + Copy, A: Ord + Copied, B: Ord + Copied>(
+    by: &mut BTreeMap<K, BTreeMap<A, BTreeMap<B, KeyList>>>,
+    kind: K,
+    a: &A,
+    b: &B,
+    key: &ObjKey,
+)
+    ensures { (q : K) (x : A) (y : B) (k : ObjKey)
+        → key_by_kind K.cmp A.cmp B.cmp by.new q x y k
+        ≡ (not (eq_by_cmp K.cmp kind q
+        && (eq_by_cmp A.cmp a.now x && (eq_by_cmp B.cmp b.now y && is_key k key.now)))
+        && key_by_kind K.cmp A.cmp B.cmp by.old q x y k) }
+{
+    match by.get_mut(&kind) {
+        Some(inner) => nested::take_one(inner, a, b, key),
+        None => {}
+    }
+}

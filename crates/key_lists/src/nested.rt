@@ -1,0 +1,102 @@
+//! Lists of keys at marks of two parts. A part with no list left is dropped.
+ghost use Rattle.std.specs.Prelude.{◌≡◌, ◌&&◌, ◌||◌, not, true, [], OnOk};
+ghost use Rattle.std.specs.Ordering.{eq_by_cmp};
+ghost use Rattle.mesh_base.specs.declared.key.ObjKey.{ObjKey};
+ghost use Rattle.key_lists.specs.Keys.{is_key, nested_at, nested_keys, Rises};
+
+use crate::by_mark;
+use crate::key_list::KeyList;
+use mesh_base::copied::Copied;
+use mesh_base::key::ObjKey;
+use mesh_base::memory::Memory;
+use std::alloc::Global;
+use std::collections::BTreeMap;
+
+/// The keys at the two parts of a mark.
+pub fn keys_at<'a, A: Ord + Copied, B: Ord + Copied>(
+    by: &'a BTreeMap<A, BTreeMap<B, KeyList>>,
+    a: &A,
+    b: &B,
+) -> &'a [ObjKey]
+    ensures value { result.now ≡ nested_keys A.cmp B.cmp by.now a.now b.now }
+    ensures rise { Rises (nested_keys A.cmp B.cmp by.now a.now b.now) }
+{
+    match by.get(a) {
+        Some(inner) => by_mark::keys_at(inner, b),
+        None => &[],
+    }
+}
+
+/// Puts a key to the two parts of a mark.
+pub fn put_one<A: Ord + Copied, B: Ord + Copied>(
+    alloc: Global,
+    by: &mut BTreeMap<A, BTreeMap<B, KeyList>>,
+    a: &A,
+    b: &B,
+    key: &ObjKey,
+) -> Result<(), Memory>
+    ensures { OnOk result ((x : A) (y : B) (k : ObjKey)
+        → nested_at A.cmp B.cmp by.new x y k
+        ≡ ((eq_by_cmp A.cmp a.now x && (eq_by_cmp B.cmp b.now y && is_key k key.now))
+        || nested_at A.cmp B.cmp by.old x y k)) }
+{
+    match by.get_mut(a) {
+        Some(inner) => {
+            by_mark::put_one(alloc, inner, b, key)?;
+        }
+        None => {
+            let mut inner = BTreeMap::new(alloc);
+            by_mark::put_one(alloc, &mut inner, b, key)?;
+            by.insert(a.copy(alloc)?, inner)?;
+        }
+    }
+    Ok(())
+}
+
+/// Takes a key from the two parts of a mark.
+pub fn take_one<A: Ord + Copied, B: Ord + Copied>(
+    by: &mut BTreeMap<A, BTreeMap<B, KeyList>>,
+    a: &A,
+    b: &B,
+    key: &ObjKey,
+)
+    ensures { (x : A) (y : B) (k : ObjKey)
+        → nested_at A.cmp B.cmp by.new x y k
+        ≡ (not (eq_by_cmp A.cmp a.now x && (eq_by_cmp B.cmp b.now y && is_key k key.now))
+        && nested_at A.cmp B.cmp by.old x y k) }
+{
+    if take_from(by, a, b, key) {
+        let_go(by, a);
+    }
+}
+
+/// Takes a key from the lists of a part. Answers whether no list is left there.
+fn take_from<A: Ord + Copied, B: Ord + Copied>(
+    by: &mut BTreeMap<A, BTreeMap<B, KeyList>>,
+    a: &A,
+    b: &B,
+    key: &ObjKey,
+) -> bool
+    ensures taken { (x : A) (y : B) (k : ObjKey)
+        → nested_at A.cmp B.cmp by.new x y k
+        ≡ (not (eq_by_cmp A.cmp a.now x && (eq_by_cmp B.cmp b.now y && is_key k key.now))
+        && nested_at A.cmp B.cmp by.old x y k) }
+    ensures emptied { result ≡ true → (y : B) → nested_keys A.cmp B.cmp by.new a.now y ≡ [] }
+{
+    match by.get_mut(a) {
+        Some(inner) => {
+            by_mark::take_one(inner, b, key);
+            inner.is_empty()
+        }
+        None => false,
+    }
+}
+
+/// Drops a part without keys.
+fn let_go<A: Ord + Copied, B: Ord + Copied>(by: &mut BTreeMap<A, BTreeMap<B, KeyList>>, a: &A)
+    requires { (y : B) → nested_keys A.cmp B.cmp by.old a.now y ≡ [] }
+    ensures { (x : A) (y : B) (k : ObjKey)
+        → nested_at A.cmp B.cmp by.new x y k ≡ nested_at A.cmp B.cmp by.old x y k }
+{
+    by.remove(a);
+}

@@ -1,0 +1,7 @@
+use Rattle.std.proofs.Common.{refl, ◌∙◌}
+use Rattle.object_store.proofs.SameKeys.{kept_is}
+use Rattle.object_store.proofs.store.Store.services_at.Goals as goal
+use Rattle.view_types.specs.declared.mark.Mark.TheVariants.{IpService}
+
+pub returns : goal.returns
+returns c = rw (← c.self.view_is) (λ going. c.services_at.ensures.value ∙ kept_is c.self.inside.objects c.stand_at_keys.ensures c.self.inside.keys (c.self.invariant.1 going) (IpService c.args.ip) refl c.services_at.ensures.rise)
