@@ -85,6 +85,13 @@ impl Store {
         self.objects.len()
     }
 
+    /// Whether memory ran out.
+    pub fn is_spent(&self) -> bool
+        ensures { result ≡ self.now.spent }
+    {
+        self.spent
+    }
+
     /// The objects in the order of their keys.
     pub fn all(&self) -> &[Object]
         ensures value { result.now ≡ map.values self.now.objects }
