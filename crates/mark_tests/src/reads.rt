@@ -10,12 +10,13 @@ use row_reads::at_mark::Reader;
 use std::alloc::Global;
 use std::test::Fail;
 use view_types::config::Config;
-use view_types::query::Target;
+use view_types::query::{Query, Target};
 use watch_events::event::Event;
 use watch_events::line::Line;
 use watch_events::read::read_line;
 
-// A Service with two slices, one of them of host names; a Server with a policy, a route and its policy; a route of the Service.
+// A Service with two slices, one of them of host names; a Server with a policy, a route and its policy, and a route with none; a
+// route of the Service. Two Pods, one of them selected by the Server, by one with a greater name, and by one of another port.
 const FEED: &str =
     r#"{"type":"ADDED","object":{"apiVersion":"v1","kind":"Service","metadata":{"name":"web","namespace":"app"},"spec":{"clusterIP":"10.96.0.10","ports":[{"name":"http","port":80}]}}}
 {"type":"ADDED","object":{"apiVersion":"discovery.k8s.io/v1","kind":"EndpointSlice","metadata":{"name":"web-a","namespace":"app","labels":{"kubernetes.io/service-name":"web"}},"addressType":"IPv4","endpoints":[{"addresses":["10.1.2.3"],"targetRef":{"kind":"Pod","name":"web-1"}},{"addresses":["10.1.2.4"],"conditions":{"ready":false},"targetRef":{"kind":"Pod","name":"web-2"}}],"ports":[{"name":"http","port":8080}]}}
@@ -24,7 +25,12 @@ const FEED: &str =
 {"type":"ADDED","object":{"apiVersion":"policy.linkerd.io/v1alpha1","kind":"AuthorizationPolicy","metadata":{"name":"clients","namespace":"app"},"spec":{"targetRef":{"group":"policy.linkerd.io","kind":"Server","name":"http"},"requiredAuthenticationRefs":[{"group":"policy.linkerd.io","kind":"MeshTLSAuthentication","name":"cli"},{"group":"policy.linkerd.io","kind":"NetworkAuthentication","name":"net","namespace":"edge"}]}}}
 {"type":"ADDED","object":{"apiVersion":"policy.linkerd.io/v1beta3","kind":"HTTPRoute","metadata":{"name":"admin","namespace":"app"},"spec":{"parentRefs":[{"group":"policy.linkerd.io","kind":"Server","name":"http"}],"rules":[]}}}
 {"type":"ADDED","object":{"apiVersion":"policy.linkerd.io/v1alpha1","kind":"AuthorizationPolicy","metadata":{"name":"admins","namespace":"app"},"spec":{"targetRef":{"group":"policy.linkerd.io","kind":"HTTPRoute","name":"admin"},"requiredAuthenticationRefs":[{"group":"policy.linkerd.io","kind":"MeshTLSAuthentication","name":"ops"}]}}}
-{"type":"ADDED","object":{"apiVersion":"gateway.networking.k8s.io/v1","kind":"HTTPRoute","metadata":{"name":"split","namespace":"app"},"spec":{"parentRefs":[{"group":"","kind":"Service","name":"web"}],"rules":[{"backendRefs":[{"name":"web","port":80},{"name":"web-new","namespace":"next","port":80}]}]}}}"#;
+{"type":"ADDED","object":{"apiVersion":"gateway.networking.k8s.io/v1","kind":"HTTPRoute","metadata":{"name":"split","namespace":"app"},"spec":{"parentRefs":[{"group":"","kind":"Service","name":"web"}],"rules":[{"backendRefs":[{"name":"web","port":80},{"name":"web-new","namespace":"next","port":80}]}]}}}
+{"type":"ADDED","object":{"apiVersion":"gateway.networking.k8s.io/v1","kind":"HTTPRoute","metadata":{"name":"open","namespace":"app"},"spec":{"parentRefs":[{"group":"policy.linkerd.io","kind":"Server","name":"http"}],"rules":[]}}}
+{"type":"ADDED","object":{"apiVersion":"v1","kind":"Pod","metadata":{"name":"web-1","namespace":"app","labels":{"app":"web"}},"spec":{"containers":[{"ports":[{"name":"http","containerPort":8080}]}]},"status":{"podIP":"10.1.2.3"}}}
+{"type":"ADDED","object":{"apiVersion":"v1","kind":"Pod","metadata":{"name":"db-1","namespace":"app"},"spec":{"containers":[]},"status":{"podIP":"10.1.2.9"}}}
+{"type":"ADDED","object":{"apiVersion":"policy.linkerd.io/v1beta3","kind":"Server","metadata":{"name":"debug","namespace":"app"},"spec":{"podSelector":{"matchLabels":{"app":"web"}},"port":9990}}}
+{"type":"ADDED","object":{"apiVersion":"policy.linkerd.io/v1beta3","kind":"Server","metadata":{"name":"web","namespace":"app"},"spec":{"podSelector":{"matchLabels":{"app":"web"}},"port":"http"}}}"#;
 
 // The row, and the marks that it reads.
 const ROWS: &str = "\
@@ -44,6 +50,12 @@ outbound app web => Service app/web, RouteOn Service app/web, Service app/web, S
 outbound app web-new => Service app/web-new, RouteOn Service app/web-new
 outbound_at 10.96.0.10 => IpService 10.96.0.10, Service app/web, RouteOn Service app/web, Service app/web, Service next/web-new
 outbound_at 10.1.2.3 => IpService 10.1.2.3, IpPod 10.1.2.3";
+
+// A Pod of the namespace app, and the marks that the rows of its port 8080 read.
+const PORTS: &str = "\
+web-1 => Pod app/web-1, ServersIn app, RouteOn Server app/http, Server app/http, ServerAuthzIn app, PolicyOn Server app/http, MeshTLSAuthentication app/cli, NetworkAuthentication edge/net, PolicyOn Namespace app/app, PolicyOn LinkerdRoute app/admin, MeshTLSAuthentication app/ops, PolicyOn GatewayRoute app/open
+db-1 => Pod app/db-1, ServersIn app
+none => Pod app/none, ServersIn app";
 
 fn store_of(alloc: Global, config: &Config) -> Result<Store, Fail> {
     let mut store = Store::new(alloc, 100);
@@ -175,6 +187,31 @@ fn rows_read_their_marks(rt: HostRuntime) -> Result<(), Fail> {
         let (words, expected) = row.split_once(" => ").ok_or("a row has no marks")?;
         let key = key_of(alloc, words)?;
         let marks = reader.reads(&key, &mut steps)?;
+        let text = marks_text(alloc, marks.as_slice())?;
+        assert_eq!(rt; text.as_str(), expected);
+    }
+    Ok(())
+}
+
+#[test]
+fn ports_read_their_marks(rt: HostRuntime) -> Result<(), Fail> {
+    let alloc = rt.alloc();
+    let config = Config::usual(alloc)?;
+    let store = store_of(alloc, &config)?;
+    let reader = Reader {
+        alloc,
+        config: &config,
+        store: &store,
+    };
+    let mut steps = Steps::<Store>::new();
+    for row in PORTS.lines() {
+        let (pod, expected) = row.split_once(" => ").ok_or("a row has no marks")?;
+        let query = Query::Port {
+            ns: Text::from_str(alloc, "app")?,
+            pod: Text::from_str(alloc, pod)?,
+            port: 8080,
+        };
+        let marks = reader.query_reads(&query, &mut steps)?;
         let text = marks_text(alloc, marks.as_slice())?;
         assert_eq!(rt; text.as_str(), expected);
     }

@@ -49,9 +49,9 @@ any_of_both a b h (o ∷ os) =
 abbrev needed : ObjectMap → Mark → List Mark → Bool
 needed held mark marks = list_any (λ o. has_mark (needs_of o) mark) (filter (λ o. meets marks (marks_of o)) (values held))
 
-any_in : (f : Object → List Mark) (mark : Mark) (os : List Object) → has_mark (flat_map f os) mark ≡ list_any (λ o. has_mark (f o) mark) os
+pub any_in : {X : Type 0} (f : X → List Mark) (mark : Mark) (xs : List X) → has_mark (flat_map f xs) mark ≡ list_any (λ x. has_mark (f x) mark) xs
 any_in f mark [] = refl
-any_in f mark (o ∷ os) = list_any-append (same_mark mark) (f o) (flat_map f os) ∙ ap (λ b. has_mark (f o) mark || b) (any_in f mark os)
+any_in f mark (x ∷ xs) = list_any-append (same_mark mark) (f x) (flat_map f xs) ∙ ap (λ b. has_mark (f x) mark || b) (any_in f mark xs)
 
 same_filter : (a b : Object → Bool) → ((o : Object) → a o ≡ b o) → (os : List Object) → filter a os ≡ filter b os
 same_filter a b same [] = refl
@@ -96,7 +96,7 @@ module _ (held : ObjectMap) (mark : Mark) where
   one_alone : (a : Mark) → has_mark (read_at held Authentications a) mark ≡ has_mark (with_needs held (a ∷ [])) mark
   one_alone a = has_read a ∙ ap (λ b. b || needed held mark (a ∷ [])) (sym (or-false (same_mark mark a))) ∙ sym (has_all (a ∷ []))
 
-  same_by_kind : (key : ObjKey) (kind : Kind) → has_mark (authz_at held key kind) mark ≡ has_mark (authz_reads_of held key kind) mark
+  pub same_by_kind : (key : ObjKey) (kind : Kind) → has_mark (authz_at held key kind) mark ≡ has_mark (authz_reads_of held key kind) mark
   same_by_kind key kind.Server = ap (λ b. same_mark mark (Obj key) || b) (all_three (ServerAuthzIn key.ns) (PolicyOn key.ns ref.Server key.name) (PolicyOn key.ns ref.Namespace key.ns))
   same_by_kind key kind.LinkerdRoute = one_alone (PolicyOn key.ns ref.LinkerdRoute key.name)
   same_by_kind key kind.GatewayRoute = one_alone (PolicyOn key.ns ref.GatewayRoute key.name)

@@ -1,1 +1,2 @@
+pub mod QueryRows
 pub mod References

@@ -251,7 +251,7 @@ impl Reader<'_> {
         Ok(marks)
     }
 
-    fn add_authz<L>(
+    pub(crate) fn add_authz<L>(
         &self,
         key: &ObjKey,
         marks: &mut List<Mark>,

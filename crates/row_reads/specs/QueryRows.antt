@@ -1,0 +1,71 @@
+-- The rows of a query: the first of them, and what those behind it read.
+use Rattle.std.specs.Prelude.{ℕ, ◌++◌, if◌then◌else◌, List, [], ◌∷◌, Option, Some, None, flat_map}
+use Rattle.std.specs.FinMap.{get}
+use Rattle.std.specs.Option.{option_or}
+use Rattle.mesh_base.specs.declared.key.ObjKey.{ObjKey}
+use Rattle.view_types.specs.Objects.{ObjectMap}
+use Rattle.view_types.specs.declared.config.Config.{Config}
+use Rattle.view_types.specs.declared.mark.Mark.{Mark}
+use Rattle.view_types.specs.declared.mark.Mark.TheVariants.{RouteOn}
+use Rattle.view_types.specs.declared.object.Object.{Object}
+use Rattle.view_types.specs.declared.object.Object.TheVariants as object
+use Rattle.view_types.specs.declared.pod.Pod.{Pod}
+use Rattle.view_types.specs.declared.query.Query.{Query}
+use Rattle.view_types.specs.declared.query.Query.TheVariants as query
+use Rattle.view_types.specs.declared.route.ParentKind.TheVariants as parent
+use Rattle.view_types.specs.declared.server.ServerSpec.{ServerSpec}
+use Rattle.view_rules.specs.PolicyLaws.{server_key}
+use Rattle.view_rules.specs.Servers.{is_for_port}
+use Rattle.mark_rules.specs.MarkLookups.{keys_at}
+use Rattle.mark_rules.specs.Rows.{name_in, server_part}
+use Rattle.mark_rules.specs.declared.keys.RowKey.{RowKey}
+use Rattle.mark_rules.specs.declared.keys.RowKey.TheVariants as row
+use Rattle.mark_rules.specs.declared.keys.ServerKey.{ServerKey}
+use Rattle.row_reads.specs.References.{authz_at}
+
+-- ---- the first row
+
+abbrev pub first_row : Query → RowKey
+first_row (query.Get ns name port ctx) = row.Endpoint (record { ns = ns; name = name; port = port })
+first_row (query.Profile target ctx) = row.Profile (record { target = target; client = ctx.ns })
+first_row (query.Port ns pod port) = row.Server (record { ns = ns; pod = pod; port = port })
+first_row (query.Traffic target) = row.Outbound target
+
+-- ---- the Server of a port, among keys
+
+-- the Server, if it is in the namespace and selects the Pod and the port
+abbrev pub as_match : ServerKey → Pod → Object → Option ServerSpec
+as_match key pod (object.Server server) = if is_for_port key.ns pod key.port server then Some server else None
+as_match key pod _ = None
+
+abbrev pub match_found : ServerKey → Pod → Option Object → Option ServerSpec
+match_found key pod None = None
+match_found key pod (Some o) = as_match key pod o
+
+-- the first such Server at these keys
+abbrev pub first_match : ObjectMap → ServerKey → Pod → List ObjKey → Option ServerSpec
+first_match held key pod [] = None
+first_match held key pod (at ∷ rest) = option_or (match_found key pod (get held at)) (first_match held key pod rest)
+
+-- ---- the rows behind it
+
+-- what the authorizations of a Server or of a route read, mark by mark
+abbrev pub authz_from : ObjectMap → ObjKey → List Mark
+authz_from held key = authz_at held key key.kind
+
+-- what these rows read: the routes of a Server, its authorizations, and those of each route that names it as a parent
+abbrev pub behind_server : ObjectMap → List ℕ → List ℕ → List Mark
+behind_server held ns name =
+    RouteOn ns parent.Server name
+    ∷ (authz_from held (server_key ns name)
+    ++ flat_map (authz_from held) (keys_at held (RouteOn ns parent.Server name)))
+
+-- none where no Server is chosen
+abbrev pub behind_name : ObjectMap → List ℕ → Option (List ℕ) → List Mark
+behind_name held ns None = []
+behind_name held ns (Some name) = behind_server held ns name
+
+-- only behind the row of a port are there others
+abbrev pub behind_row : Config → ObjectMap → RowKey → List Mark
+behind_row config held (row.Server key) = behind_name held key.ns (name_in (server_part config held key))
+behind_row config held _ = []

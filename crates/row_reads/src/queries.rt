@@ -1,0 +1,255 @@
+// The marks that the rows of a query read.
+ghost use Rattle.std.specs.Prelude.{◌≡◌, ◌++◌, [], ◌∷◌, Some, None, false, if◌then◌else◌, IfOk, OnOk, flat_map, option_map};
+ghost use Rattle.std.specs.FinMap.{get};
+ghost use Rattle.std.specs.Option.{option_copied};
+ghost use Rattle.view_types.specs.declared.mark.Mark.TheVariants.{RouteOn};
+ghost use Rattle.view_types.specs.declared.route.ParentKind.TheVariants as parent;
+ghost use Rattle.view_rules.specs.PodRows.{pod_held};
+ghost use Rattle.view_rules.specs.PolicyLaws.{AreLawful, server_key};
+ghost use Rattle.view_rules.specs.Servers.{chosen_server, is_for_port};
+ghost use Rattle.mark_rules.specs.Reads.{query_reads};
+ghost use Rattle.mark_rules.specs.Rows.{name_in, server_part};
+ghost use Rattle.row_reads.specs.QueryRows.{authz_from, behind_name, behind_row, behind_server, first_match, first_row, match_found};
+ghost use Rattle.row_reads.specs.References.{HaveSame};
+
+use crate::at_mark::Reader;
+use mark_rules::keys::{EndpointKey, ProfileKey, RowKey, ServerKey};
+use mesh_base::copied::Copied;
+use mesh_base::key::{Kind, ObjKey};
+use mesh_base::list::List;
+use mesh_base::memory::Memory;
+use mesh_base::steps::Steps;
+use mesh_base::text::Text;
+use policy_rows::server::is_for_port;
+use std::alloc::Global;
+use view_types::mark::Mark;
+use view_types::object::Object;
+use view_types::pod::Pod;
+use view_types::query::Query;
+use view_types::route::ParentKind;
+use view_types::server::ServerSpec;
+
+impl Reader<'_> {
+    /// The marks that the rows of a query read. Each may stand more than once.
+    pub fn query_reads<L>(&self, query: &Query, steps: &mut Steps<L>) -> Result<List<Mark>, Memory>
+        ensures { self.now.store.now.spent ≡ false → AreLawful self.now.store.now.objects
+            → IfOk result (λ marks. HaveSame marks
+            (query_reads self.now.config.now self.now.store.now.objects query.now)) }
+    {
+        self.store.stand_at_keys();
+        let first = first_row(self.alloc, query)?;
+        let mut marks = self.reads(&first, steps)?;
+        self.add_behind(&first, &mut marks, steps)?;
+        Ok(marks)
+    }
+
+    // Adds the marks that the rows behind the first row of a query read.
+    fn add_behind<L>(
+        &self,
+        first: &RowKey,
+        marks: &mut List<Mark>,
+        steps: &mut Steps<L>,
+    ) -> Result<(), Memory>
+        ensures { self.now.store.now.spent ≡ false → OnOk result (marks.new ≡ marks.old
+            ++ behind_row self.now.config.now self.now.store.now.objects first.now) }
+    {
+        match first {
+            RowKey::Server(key) => self.add_behind_port(key, marks, steps),
+            _ => Ok(()),
+        }
+    }
+
+    fn add_behind_port<L>(
+        &self,
+        key: &ServerKey,
+        marks: &mut List<Mark>,
+        steps: &mut Steps<L>,
+    ) -> Result<(), Memory>
+        ensures { self.now.store.now.spent ≡ false → OnOk result (marks.new ≡ marks.old
+            ++ behind_name self.now.store.now.objects key.now.ns
+            (name_in (server_part self.now.config.now self.now.store.now.objects key.now))) }
+    {
+        let name = self.server_name(key, steps);
+        self.add_behind_name(&key.ns, name, marks, steps)
+    }
+
+    fn add_behind_name<L>(
+        &self,
+        ns: &Text,
+        name: Option<&Text>,
+        marks: &mut List<Mark>,
+        steps: &mut Steps<L>,
+    ) -> Result<(), Memory>
+        ensures { self.now.store.now.spent ≡ false → OnOk result (marks.new ≡ marks.old
+            ++ behind_name self.now.store.now.objects ns.now (option_copied name.entry)) }
+    {
+        match name {
+            Some(name) => self.add_behind_server(ns, name, marks, steps),
+            None => Ok(()),
+        }
+    }
+
+    // Adds the marks that the routes of a Server read, its authorizations, and those of each route that names it as a parent.
+    fn add_behind_server<L>(
+        &self,
+        ns: &Text,
+        name: &Text,
+        marks: &mut List<Mark>,
+        steps: &mut Steps<L>,
+    ) -> Result<(), Memory>
+        ensures { self.now.store.now.spent ≡ false → OnOk result (marks.new ≡ marks.old
+            ++ behind_server self.now.store.now.objects ns.now name.now) }
+    {
+        add_routes(marks, ns, name)?;
+        let key = server_key(ns, name)?;
+        self.add_authz(&key, marks, steps)?;
+        let routes = self.store.routes_on(ns, ParentKind::Server, name);
+        self.add_each_authz(routes, marks, steps)
+    }
+
+    fn add_each_authz<L>(
+        &self,
+        keys: &[ObjKey],
+        marks: &mut List<Mark>,
+        steps: &mut Steps<L>,
+    ) -> Result<(), Memory>
+        ensures { self.now.store.now.spent ≡ false → OnOk result (marks.new ≡ marks.old
+            ++ flat_map (authz_from self.now.store.now.objects) keys.now) }
+    {
+        for key in keys {
+            self.add_authz(key, marks, steps)?;
+        }
+        Ok(())
+    }
+
+    // The name of the Server that is chosen for a port. There is none where the Pod isn't held.
+    fn server_name<L>(&self, key: &ServerKey, steps: &mut Steps<L>) -> Option<&Text>
+        ensures { self.now.store.now.spent ≡ false → option_copied result
+            ≡ name_in (server_part self.now.config.now self.now.store.now.objects key.now) }
+    {
+        match self.pod(key, steps) {
+            Some(pod) => name_of(self.chosen_server(key, pod, steps)),
+            None => None,
+        }
+    }
+
+    fn pod<L>(&self, key: &ServerKey, steps: &mut Steps<L>) -> Option<&Pod>
+        ensures { option_copied result
+            ≡ pod_held self.now.store.now.objects (Some (key.now.ns, key.now.pod)) }
+    {
+        match self.store.find(Kind::Pod, &key.ns, &key.pod, steps)? {
+            Object::Pod(pod) => Some(pod.get()),
+            _ => None,
+        }
+    }
+
+    fn chosen_server<L>(
+        &self,
+        key: &ServerKey,
+        pod: &Pod,
+        steps: &mut Steps<L>,
+    ) -> Option<&ServerSpec>
+        ensures { self.now.store.now.spent ≡ false → option_copied result
+            ≡ chosen_server self.now.store.now.objects key.now.ns pod.now key.now.port }
+    {
+        self.store.stand_at_keys();
+        let keys = self.store.servers_in(&key.ns);
+        self.first_match(keys, key, pod, steps)
+    }
+
+    // The first Server at the keys that selects the Pod and the port.
+    fn first_match<L>(
+        &self,
+        keys: &[ObjKey],
+        key: &ServerKey,
+        pod: &Pod,
+        steps: &mut Steps<L>,
+    ) -> Option<&ServerSpec>
+        ensures { option_copied result
+            ≡ first_match self.now.store.now.objects key.now pod.now keys.now }
+    {
+        for at in keys {
+            match self.match_at(at, key, pod, steps) {
+                Some(server) => return Some(server),
+                None => {}
+            }
+        }
+        None
+    }
+
+    fn match_at<L>(
+        &self,
+        at: &ObjKey,
+        key: &ServerKey,
+        pod: &Pod,
+        steps: &mut Steps<L>,
+    ) -> Option<&ServerSpec>
+        ensures { option_copied result
+            ≡ match_found key.now pod.now (get self.now.store.now.objects at.now) }
+    {
+        match self.store.get(at, steps)? {
+            Object::Server(server) => if_match(key, pod, server.get()),
+            _ => None,
+        }
+    }
+}
+
+fn if_match<'a>(key: &ServerKey, pod: &Pod, server: &'a ServerSpec) -> Option<&'a ServerSpec>
+    ensures { option_copied result ≡ if is_for_port key.now.ns pod.now key.now.port server.now
+        then Some server.now else None }
+{
+    if is_for_port(&key.ns, pod, key.port, server) {
+        return Some(server);
+    }
+    None
+}
+
+fn name_of(server: Option<&ServerSpec>) -> Option<&Text>
+    ensures { option_copied result
+        ≡ option_map (λ server. server.meta.name) (option_copied server.entry) }
+{
+    match server {
+        Some(server) => Some(&server.meta.name),
+        None => None,
+    }
+}
+
+fn server_key(ns: &Text, name: &Text) -> Result<ObjKey, Memory>
+    ensures { IfOk result (λ key. key ≡ server_key ns.now name.now) }
+{
+    Ok(ObjKey {
+        kind: Kind::Server,
+        ns: ns.copy()?,
+        name: name.copy()?,
+    })
+}
+
+// Adds the mark of the routes that name a Server as a parent.
+fn add_routes(marks: &mut List<Mark>, ns: &Text, name: &Text) -> Result<(), Memory>
+    ensures { OnOk result (marks.new ≡ marks.old ++ RouteOn ns.now parent.Server name.now ∷ []) }
+{
+    marks.add(Mark::RouteOn(ns.copy()?, ParentKind::Server, name.copy()?))
+}
+
+// The first row of a query, which is the only one unless the query is of a port.
+fn first_row(alloc: Global, query: &Query) -> Result<RowKey, Memory>
+    ensures { IfOk result (λ row. row ≡ first_row query.now) }
+{
+    match query {
+        Query::Get { ns, name, port, .. } => Ok(RowKey::Endpoint(EndpointKey {
+            ns: ns.copy()?,
+            name: name.copy()?,
+            port: *port,
+        })),
+        Query::Profile { target, ctx } => Ok(RowKey::Profile(ProfileKey {
+            target: target.copy(alloc)?,
+            client: ctx.ns.copy(alloc)?,
+        })),
+        Query::Port { ns, pod, port } => Ok(RowKey::Server(ServerKey {
+            ns: ns.copy()?,
+            pod: pod.copy()?,
+            port: *port,
+        })),
+        Query::Traffic { target } => Ok(RowKey::Outbound(target.copy(alloc)?)),
+    }
+}
