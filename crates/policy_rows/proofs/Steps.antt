@@ -1,8 +1,10 @@
 -- Lists that are gathered item by item.
-use Rattle.std.proofs.Common.{◌≡◌, ℕ, ◌+◌, ◌<◌, Bool, List, [], ◌∷◌, ◌++◌, length, get_or, take, Some, None, Option, option_to_list, refl, sym, ap, ◌∙◌}
-use Rattle.std.specs.List.{filter, filter_map}
-use Rattle.std.proofs.lemmas.List.{take_more}
+use Rattle.std.proofs.Common.{◌≡◌, ℕ, ◌+◌, ◌<◌, Bool, List, [], ◌∷◌, ◌++◌, length, get_or, take, drop, Some, None, Option, option_to_list, refl, sym, ap, ◌∙◌}
+use Rattle.std.specs.List.{cons_option, filter, filter_map, find}
+use Rattle.std.specs.Option.{option_and_then, option_or}
+use Rattle.std.proofs.lemmas.List.{take_more, take-append-drop}
 use Rattle.std.proofs.lemmas.List.Elements.{filter-append, filter_map-append}
+use Rattle.std.proofs.lemmas.List.Folds.{find-append}
 
 one : {A B : Type 0} (f : A → Option B) (x : A) (found : Option B) → f x ≡ found → filter_map f (x ∷ []) ≡ option_to_list found
 one f x None is = rw is refl
@@ -43,3 +45,32 @@ finds f passes xs i x so_far new given lt at before is adds =
     adds ∙ ap (λ ys. ys ++ option_to_list given) before
     ∙ ap (λ ys. filter passes (filter_map f (take i xs)) ++ ys) (is ∙ ap (λ y. filter passes (option_to_list (f y))) at)
     ∙ sym (found_more f passes xs i x lt)
+
+-- ---- what is found in what was found
+
+through_one : {B C : Type 0} (h : B → Option C) (found : Option B) (rest : List B) (ys : List C) → ys ≡ filter_map h rest → cons_option (option_and_then h found) ys ≡ filter_map h (cons_option found rest)
+through_one h None rest ys is = is
+through_one h (Some y) rest ys is = ap (cons_option (h y)) is
+
+pub found_through : {A B C : Type 0} (g : A → Option B) (h : B → Option C) (xs : List A) → filter_map (λ x. option_and_then h (g x)) xs ≡ filter_map h (filter_map g xs)
+found_through g h [] = refl
+found_through g h (x ∷ xs) = through_one h (g x) (filter_map g xs) (filter_map (λ x. option_and_then h (g x)) xs) (found_through g h xs)
+
+-- ---- the first of what is found that passes
+
+module _ {A B : Type 0} (g : A → Option B) (p : B → Bool) (xs : List A) (i : ℕ) (x : A) (lt : i < length xs) (at : x ≡ get_or xs i x) (none : find p (filter_map g (take i xs)) ≡ None) where
+  -- among those so far and one more: none came before
+  pub first_more : find p (filter_map g (take (i + 1) xs)) ≡ find p (option_to_list (g x))
+  first_more =
+      ap (find p) (filter_map_more g xs i x lt)
+      ∙ find-append p (filter_map g (take i xs)) (option_to_list (g (get_or xs i x)))
+      ∙ ap (λ found. option_or found (find p (option_to_list (g (get_or xs i x))))) none
+      ∙ ap (λ y. find p (option_to_list (g y))) (sym at)
+
+  -- it is the first of all
+  pub first_of_all : (y : B) → find p (option_to_list (g x)) ≡ Some y → Some y ≡ find p (filter_map g xs)
+  first_of_all y is = sym (
+      ap (λ ys. find p (filter_map g ys)) (sym (take-append-drop (i + 1) xs))
+      ∙ ap (find p) (filter_map-append g (take (i + 1) xs) (drop (i + 1) xs))
+      ∙ find-append p (filter_map g (take (i + 1) xs)) (filter_map g (drop (i + 1) xs))
+      ∙ ap (λ found. option_or found (find p (filter_map g (drop (i + 1) xs)))) (first_more ∙ is))
