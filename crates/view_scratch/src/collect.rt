@@ -1,4 +1,5 @@
-ghost use Rattle.std.specs.Prelude.{◌≡◌, ◌++◌, ◌&&◌, IfOk, OnOk, filter_map, flat_map, if◌then◌else◌, map, None, option_to_list, Some};
+ghost use Rattle.std.specs.Prelude.{◌≡◌, ◌++◌, ◌&&◌, IfOk, OnOk, filter_map, flat_map, if◌then◌else◌, map, None, option_and_then, option_to_list, Some};
+ghost use Rattle.std.specs.FinMap.{get};
 ghost use Rattle.std.specs.Option.{option_copied};
 ghost use Rattle.std.specs.Str.{bytes_eq};
 ghost use Rattle.view_rules.specs.Endpoints.{has_addresses, is_text, point_rows, service_of, slice_in, slice_rows, slices_held};
@@ -7,11 +8,15 @@ ghost use Rattle.view_scratch.specs.Parts.{number_at, row_at, rows_of_point};
 
 use crate::endpoint::Endpoint;
 use crate::pod::pod_held;
+use mark_rules::laws::rows_by_marks;
+use mesh_base::key::ObjKey;
 use mesh_base::list::List;
 use mesh_base::memory::Memory;
 use mesh_base::steps::Steps;
 use mesh_base::text::Text;
 use net_cidr::ip::Ip;
+use object_store::store::Store;
+use policy_rows::by_mark::slices_of;
 use policy_rows::snapshot::Snapshot;
 use std::alloc::Global;
 use view_types::endpoint::EndpointRow;
@@ -32,12 +37,31 @@ pub(crate) fn rows_of_places<L>(
         rows ≡ flat_map (slice_rows (row_for from.now.config.now from.now.store.now.objects)
         port_name.now) (slices_held from.now.store.now.objects ns.now name.now)) }
 {
+    rows_by_marks();
+    let keys = slices_of(from.store, ns, name)?;
     let mut rows = List::new(from.alloc);
-    for object in from.store.all() {
-        let slice = slice_in(object, ns, name);
+    for key in keys {
+        let slice = slice_at(from.store, key, ns, name, steps);
         add_found(from, &mut rows, slice, port_name, steps)?;
     }
     Ok(rows)
+}
+
+/// The slice at the key, if it is one of the Service's.
+fn slice_at<'a, L>(
+    store: &'a Store,
+    key: &ObjKey,
+    ns: &Text,
+    name: &Text,
+    steps: &mut Steps<L>,
+) -> Option<&'a Slice>
+    ensures { option_copied result
+        ≡ option_and_then (slice_in ns.now name.now) (get store.now.objects key.now) }
+{
+    match store.get(key, steps) {
+        Some(object) => slice_in(object, ns, name),
+        None => None,
+    }
 }
 
 fn add_found<L>(
