@@ -1,11 +1,17 @@
-ghost use Rattle.std.specs.Prelude.{◌≡◌, ◌&&◌, ◌==◌, find};
+ghost use Rattle.std.specs.Prelude.{◌≡◌, ◌&&◌, ◌==◌, IfOk, filter_map, find, option_to_list};
+ghost use Rattle.std.specs.FinMap.{get};
 ghost use Rattle.std.specs.List.{list_any};
 ghost use Rattle.std.specs.Option.{option_copied};
 ghost use Rattle.std.specs.Str.{bytes_eq};
 ghost use Rattle.view_rules.specs.Servers.{chosen_server, is_for_port, is_named, is_server_for, selects_pod, selects_port, server_found};
 
+use crate::by_mark::servers_in;
 use crate::selects::selects;
 use label_select::selector::Selector;
+use mark_rules::laws::rows_by_marks;
+use mesh_base::key::ObjKey;
+use mesh_base::memory::Memory;
+use mesh_base::steps::Steps;
 use mesh_base::text::Text;
 use object_store::store::Store;
 use view_types::object::Object;
@@ -13,24 +19,66 @@ use view_types::pod::Pod;
 use view_types::server::{PortRef, ServerSpec};
 use view_types::service::NamedPort;
 
+/// A port of a Pod, whose Servers are those of the namespace.
+#[derive(Clone, Copy)]
+struct PodPort<'a> {
+    ns: &'a Text,
+    pod: &'a Pod,
+    port: u16,
+}
+
 /// The least Server of the namespace, by its name, that selects the Pod and the port.
-pub fn chosen_server<'a>(
+pub fn chosen_server<'a, L>(
     store: &'a Store,
     ns: &Text,
     pod: &Pod,
     port: u16,
-) -> Option<&'a ServerSpec>
-    ensures { option_copied result ≡ chosen_server store.now.objects ns.now pod.now port }
+    steps: &mut Steps<L>,
+) -> Result<Option<&'a ServerSpec>, Memory>
+    ensures { IfOk result (λ server.
+        option_copied server ≡ chosen_server store.now.objects ns.now pod.now port) }
 {
-    server_found(first_server(store.all(), ns, pod, port))
+    rows_by_marks();
+    let keys = servers_in(store, ns)?;
+    let asked = PodPort { ns, pod, port };
+    Ok(server_found(first_server(store, keys, &asked, steps)))
 }
 
-fn first_server<'a>(objects: &'a [Object], ns: &Text, pod: &Pod, port: u16) -> Option<&'a Object>
-    ensures { option_copied result ≡ find (is_server_for ns.now pod.now port) objects.now }
+/// The first at these keys that is a Server for the port.
+fn first_server<'a, L>(
+    store: &'a Store,
+    keys: &[ObjKey],
+    asked: &PodPort,
+    steps: &mut Steps<L>,
+) -> Option<&'a Object>
+    ensures { option_copied result
+        ≡ find (is_server_for asked.now.ns.now asked.now.pod.now asked.now.port)
+        (filter_map (get store.now.objects) keys.now) }
 {
-    objects
-        .iter()
-        .find(|object| is_server_for(ns, pod, port, object))
+    for key in keys {
+        match server_at(store, key, asked, steps) {
+            Some(server) => return Some(server),
+            None => {}
+        }
+    }
+    None
+}
+
+/// The object at the key, if it is a Server for the port.
+fn server_at<'a, L>(
+    store: &'a Store,
+    key: &ObjKey,
+    asked: &PodPort,
+    steps: &mut Steps<L>,
+) -> Option<&'a Object>
+    ensures { option_copied result
+        ≡ find (is_server_for asked.now.ns.now asked.now.pod.now asked.now.port)
+        (option_to_list (get store.now.objects key.now)) }
+{
+    match store.get(key, steps) {
+        Some(object) if is_server_for(asked.ns, asked.pod, asked.port, object) => Some(object),
+        _ => None,
+    }
 }
 
 fn server_found(found: Option<&Object>) -> Option<&ServerSpec>

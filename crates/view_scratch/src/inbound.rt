@@ -40,7 +40,7 @@ pub fn inbound<L>(
 {
     match pod_named(from.store, ns, name, steps) {
         Some(pod) => {
-            let server = chosen_server(from.store, ns, pod, port);
+            let server = chosen_server(from.store, ns, pod, port, steps)?;
             let row = port_row(from, pod, port, server, steps)?;
             Ok(ServerView::Present(row))
         }
