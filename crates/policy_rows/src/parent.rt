@@ -1,9 +1,15 @@
-ghost use Rattle.std.specs.Prelude.{◌≡◌, ◌&&◌, Bool, not};
+ghost use Rattle.std.specs.Prelude.{◌≡◌, ◌&&◌, Bool, IfOk, not};
 ghost use Rattle.std.specs.Str.{bytes_eq};
 ghost use Rattle.view_types.specs.declared.route.Parent.{Parent as Written};
 ghost use Rattle.view_rules.specs.Routes.{is_port_or_none, is_server, is_server_parent, is_service_parent};
+ghost use Rattle.policy_rows.specs.ByMark.{HoldRoutes};
 
+use crate::by_mark::routes_on;
+use mark_rules::laws::rows_by_marks;
+use mesh_base::key::ObjKey;
+use mesh_base::memory::Memory;
 use mesh_base::text::Text;
+use object_store::store::Store;
 use view_types::route::{Parent, ParentKind};
 
 /// What routes are attached to: it tells whether a parent of a route is that.
@@ -12,6 +18,11 @@ pub trait Attachment {
 
     fn is_parent(&self, parent: &Parent) -> bool
         ensures { result ≡ is_parent self.now parent.now };
+
+    /// Keys at which the routes of a namespace that are attached to it are held.
+    fn keys<'a>(&self, store: &'a Store, ns: &Text) -> Result<&'a [ObjKey], Memory>
+        ensures { IfOk result (λ keys.
+            HoldRoutes store.now.objects ns.now (is_parent self.now) keys.now) };
 }
 
 /// The Server of a name.
@@ -33,6 +44,11 @@ impl<'a> Attachment for ServerNamed<'a> {
     fn is_parent(&self, parent: &Parent) -> bool {
         is_server(parent.kind) && parent.name == *self.name
     }
+
+    fn keys<'b>(&self, store: &'b Store, ns: &Text) -> Result<&'b [ObjKey], Memory> {
+        rows_by_marks();
+        routes_on(store, ns, ParentKind::Server, self.name)
+    }
 }
 
 impl<'a> Attachment for ServiceAt<'a> {
@@ -42,6 +58,11 @@ impl<'a> Attachment for ServiceAt<'a> {
         !is_server(parent.kind)
             && parent.name == *self.name
             && is_port_or_none(self.port, parent.port)
+    }
+
+    fn keys<'b>(&self, store: &'b Store, ns: &Text) -> Result<&'b [ObjKey], Memory> {
+        rows_by_marks();
+        routes_on(store, ns, ParentKind::Service, self.name)
     }
 }
 

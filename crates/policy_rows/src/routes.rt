@@ -1,5 +1,6 @@
-ghost use Rattle.std.specs.Prelude.{◌≡◌, ◌++◌, ◌&&◌, IfOk, OnOk, filter, filter_map, map, option_to_list};
+ghost use Rattle.std.specs.Prelude.{◌≡◌, ◌++◌, ◌&&◌, IfOk, OnOk, filter, map, option_and_then, option_to_list};
 ghost use Rattle.std.specs.Cmp.Lexicographic.{slice_cmp};
+ghost use Rattle.std.specs.FinMap.{get};
 ghost use Rattle.std.specs.List.{list_any};
 ghost use Rattle.std.specs.Option.{option_copied};
 ghost use Rattle.std.specs.Ordering.{is_eq, nat_cmp};
@@ -8,8 +9,9 @@ ghost use Rattle.view_rules.specs.InOrder.{in_order_by};
 ghost use Rattle.view_rules.specs.Routes.{as_route, attached_routes, created_cmp, has_parent, place_of, route_cmp, route_group};
 
 use crate::parent::Attachment;
-use mesh_base::key::Kind;
+use mesh_base::key::{Kind, ObjKey};
 use mesh_base::memory::Memory;
+use mesh_base::steps::Steps;
 use mesh_base::text::Text;
 use object_store::store::Store;
 use std::alloc::Global;
@@ -18,19 +20,21 @@ use view_types::object::Object;
 use view_types::route::{Parent, Route};
 
 /// The routes of the namespace that are attached, each once: the older first, then by name and group.
-pub fn attached_routes<'a, A: Attachment>(
+pub fn attached_routes<'a, A: Attachment, L>(
     alloc: Global,
     store: &'a Store,
     ns: &Text,
     attachment: &A,
+    steps: &mut Steps<L>,
 ) -> Result<Vec<&'a Route>, Memory>
     ensures { IfOk result (λ routes.
         map (λ route. route.now) routes.items
         ≡ attached_routes store.now.objects ns.now (A.is_parent attachment.now)) }
 {
+    let keys = attachment.keys(store, ns)?;
     let mut routes = Vec::new(alloc);
-    for object in store.all() {
-        add(&mut routes, attached_route(object, ns, attachment))?;
+    for key in keys {
+        add(&mut routes, route_at(store, key, ns, attachment, steps))?;
     }
     put_in_order(&mut routes)?;
     Ok(routes)
@@ -44,6 +48,24 @@ fn add<'a>(routes: &mut Vec<&'a Route>, route: Option<&'a Route>) -> Result<(), 
         routes.push(route)?;
     }
     Ok(())
+}
+
+/// The route at the key, if it is attached.
+fn route_at<'a, A: Attachment, L>(
+    store: &'a Store,
+    key: &ObjKey,
+    ns: &Text,
+    attachment: &A,
+    steps: &mut Steps<L>,
+) -> Option<&'a Route>
+    ensures { option_to_list (option_copied result)
+        ≡ filter (has_parent ns.now (A.is_parent attachment.now))
+        (option_to_list (option_and_then as_route (get store.now.objects key.now))) }
+{
+    match store.get(key, steps) {
+        Some(object) => attached_route(object, ns, attachment),
+        None => None,
+    }
 }
 
 fn attached_route<'a, A: Attachment>(

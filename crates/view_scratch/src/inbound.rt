@@ -137,7 +137,7 @@ fn inbound_routes<L>(
     let attachment = ServerNamed {
         name: &server.meta.name,
     };
-    let routes = attached_routes(from.alloc, from.store, &server.meta.ns, &attachment)?;
+    let routes = attached_routes(from.alloc, from.store, &server.meta.ns, &attachment, steps)?;
     route_rows(from, routes.as_slice(), steps)
 }
 

@@ -108,7 +108,7 @@ fn outbound_routes<L>(
         rows ≡ outbound_routes from.now.store.now.objects ns.now name.now port) }
 {
     let attachment = ServiceAt { name, port };
-    let routes = attached_routes(from.alloc, from.store, ns, &attachment)?;
+    let routes = attached_routes(from.alloc, from.store, ns, &attachment, steps)?;
     route_rows(from, routes.as_slice(), steps)
 }
 

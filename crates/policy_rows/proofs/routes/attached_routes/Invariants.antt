@@ -1,8 +1,10 @@
 use Rattle.std.proofs.Common.{◌≡◌, map, take}
+use Rattle.std.specs.FinMap.{get}
 use Rattle.std.specs.List.{filter, filter_map}
+use Rattle.std.specs.Option.{option_and_then}
 use Rattle.view_rules.specs.Routes.{as_route, has_parent}
 use Rattle.policy_rows.proofs.routes.attached_routes.Given as goal
 
--- those of the objects so far that are attached
-abbrev pub invariant-loop-object : goal.invariant-loop-object
-invariant-loop-object g l = map (λ route. route.now) l.routes.items ≡ filter (has_parent l.ns (g.A.Attachment.is_parent l.attachment)) (filter_map as_route (take l.object-index l.object-items))
+-- those at the keys so far that are attached
+abbrev pub invariant-loop-key : goal.invariant-loop-key
+invariant-loop-key g l = map (λ route. route.now) l.routes.items ≡ filter (has_parent l.ns (g.A.Attachment.is_parent l.attachment)) (filter_map (λ key. option_and_then as_route (get l.store.objects key)) (take l.key-index l.keys))

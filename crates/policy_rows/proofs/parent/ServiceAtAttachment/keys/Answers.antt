@@ -1,0 +1,14 @@
+use Rattle.std.proofs.Common.{Bor, List, sym, ap, ◌∙◌}
+use Rattle.std.proofs.lemmas.Result.{IfOk-weaker}
+use Rattle.std.specs.List.{filter, filter_map}
+use Rattle.view_rules.specs.InOrder.{in_order_by}
+use Rattle.view_rules.specs.Routes.{as_route, has_parent, is_service_parent, place_of, route_cmp}
+use Rattle.policy_rows.proofs.parent.ServiceAtAttachment.keys.Goals as goal
+
+pub returns : goal.returns
+returns c =
+    let ns = c.args.ns.now in
+    let is_parent = is_service_parent c.args.self.now.name.now c.args.self.now.port in
+    IfOk-weaker c.routes_on.result _ _
+    (λ keys hold. c.rows_by_marks.ensures.service_routes c.args.store.now.objects ns c.args.self.now.name.now c.args.self.now.port ∙ ap (λ objects. in_order_by route_cmp place_of (filter (has_parent ns is_parent) (filter_map as_route objects))) (sym hold))
+    c.routes_on.ensures
