@@ -52,12 +52,15 @@ fn to_address<L>(
         view ≡ to_address from.now.config.now from.now.store.now.objects ip port
         (service_at from.now.store.now.objects ip)) }
 {
-    match service_at(from.store, ip) {
+    match service_at(from.store, ip, steps)? {
         Some(service) => {
             let meta = &service.meta;
             to_service(from, &meta.ns, &meta.name, port, steps)
         }
-        None => to_pod(from.alloc, from.config, pod_at(from.store, ip), ip, port),
+        None => {
+            let pod = pod_at(from.store, ip, steps)?;
+            to_pod(from.alloc, from.config, pod, ip, port)
+        }
     }
 }
 

@@ -62,13 +62,16 @@ fn address_profile<L>(
         view ≡ address_profile from.now.config.now from.now.store.now.objects client.now ip port
         (service_at from.now.store.now.objects ip)) }
 {
-    match service_at(from.store, ip) {
+    match service_at(from.store, ip, steps)? {
         Some(service) => {
             let ns = &service.meta.ns;
             let name = &service.meta.name;
             service_profile(from, client, &ServicePort { ns, name, port }, steps)
         }
-        None => pod_profile(from.alloc, from.config, pod_at(from.store, ip), ip, port),
+        None => {
+            let pod = pod_at(from.store, ip, steps)?;
+            pod_profile(from.alloc, from.config, pod, ip, port)
+        }
     }
 }
 
