@@ -1,2 +1,4 @@
+mod AmongMarked
 mod InOrder
+mod Merged
 pub mod Steps

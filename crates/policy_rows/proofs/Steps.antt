@@ -1,8 +1,8 @@
 -- Lists that are gathered item by item.
-use Rattle.std.proofs.Common.{◌≡◌, ℕ, ◌+◌, ◌<◌, Bool, List, [], ◌∷◌, ◌++◌, length, get_or, take, drop, Some, None, Option, option_to_list, refl, sym, ap, ◌∙◌}
+use Rattle.std.proofs.Common.{◌≡◌, ℕ, ◌+◌, ◌<◌, Bool, List, [], ◌∷◌, ◌++◌, length, map, get_or, take, drop, Some, None, Option, option_to_list, refl, sym, ap, ◌∙◌, append_assoc}
 use Rattle.std.specs.List.{cons_option, filter, filter_map, find}
 use Rattle.std.specs.Option.{option_and_then, option_or}
-use Rattle.std.proofs.lemmas.List.{take_more, take-append-drop}
+use Rattle.std.proofs.lemmas.List.{map_more, take_more, take-append-drop}
 use Rattle.std.proofs.lemmas.List.Elements.{filter-append, filter_map-append}
 use Rattle.std.proofs.lemmas.List.Folds.{find-append}
 
@@ -24,13 +24,24 @@ pub gathers : {A B : Type 0} (f : A → Option B) (xs : List A) (i : ℕ) (x : A
 gathers f xs i x so_far new given lt at before is adds =
     adds ∙ ap (λ ys. ys ++ option_to_list given) before ∙ ap (λ found. filter_map f (take i xs) ++ option_to_list found) (is ∙ ap f at) ∙ sym (filter_map_more f xs i x lt)
 
+-- the same, added to what was there before
+pub adds_more : {A B : Type 0} (f : A → Option B) (xs : List A) (i : ℕ) (x : A) (before so_far new : List B) → i < length xs → x ≡ get_or xs i x
+    → so_far ≡ before ++ filter_map f (take i xs) → new ≡ so_far ++ option_to_list (f x) → new ≡ before ++ filter_map f (take (i + 1) xs)
+adds_more f xs i x before so_far new lt at is adds =
+    adds ∙ (λ j. is j ++ option_to_list (f (at j))) ∙ append_assoc before (filter_map f (take i xs)) (option_to_list (f (get_or xs i x)))
+    ∙ ap (λ ys. before ++ ys) (sym (filter_map_more f xs i x lt))
+
 -- of those that pass
-pub filtered_more : {A B : Type 0} (f : A → Option B) (passes : A → Bool) (xs : List A) (i : ℕ) (d : A) → i < length xs
-    → filter_map f (filter passes (take (i + 1) xs)) ≡ filter_map f (filter passes (take i xs)) ++ filter_map f (filter passes (get_or xs i d ∷ []))
-filtered_more f passes xs i d lt =
-    ap (λ ys. filter_map f (filter passes ys)) (take_more xs i d lt)
-    ∙ ap (filter_map f) (filter-append passes (take i xs) (get_or xs i d ∷ []))
-    ∙ filter_map-append f (filter passes (take i xs)) (filter passes (get_or xs i d ∷ []))
+filtered_more : {A B : Type 0} (f : A → Option B) (passes : A → Bool) (xs : List A) (x : A) → filter_map f (filter passes (xs ++ x ∷ [])) ≡ filter_map f (filter passes xs) ++ filter_map f (filter passes (x ∷ []))
+filtered_more f passes xs x = ap (filter_map f) (filter-append passes xs (x ∷ [])) ∙ filter_map-append f (filter passes xs) (filter passes (x ∷ []))
+
+-- the same, seen through a function, as a loop's step
+pub shows : {X A B : Type 0} (f : A → Option B) (passes : A → Bool) (shown : X → A) (xs : List X) (i : ℕ) (x : X) (so_far new : List B) → i < length xs → x ≡ get_or xs i x
+    → so_far ≡ filter_map f (filter passes (map shown (take i xs))) → new ≡ so_far ++ filter_map f (filter passes (shown x ∷ [])) → new ≡ filter_map f (filter passes (map shown (take (i + 1) xs)))
+shows f passes shown xs i x so_far new lt at before adds =
+    adds ∙ (λ j. before j ++ filter_map f (filter passes (shown (at j) ∷ [])))
+    ∙ sym (filtered_more f passes (map shown (take i xs)) (shown (get_or xs i x)))
+    ∙ ap (λ ys. filter_map f (filter passes ys)) (sym (map_more shown xs i x lt))
 
 -- the same, where those that are found pass or not
 found_more : {A B : Type 0} (f : A → Option B) (passes : B → Bool) (xs : List A) (i : ℕ) (d : A) → i < length xs

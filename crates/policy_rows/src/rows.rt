@@ -17,7 +17,6 @@ use view_types::object::Object;
 use view_types::server_view::{AuthzKind, AuthzRow};
 
 /// The rows of the authorizations that apply, by kind and name.
-#[tactic(auto, using(crate::proofs::Steps::filtered_more))]
 pub fn authz_rows<S: Subject, L>(
     from: &Snapshot,
     subject: &S,
@@ -27,8 +26,9 @@ pub fn authz_rows<S: Subject, L>(
         rows ≡ authz_rows from.now.config.now from.now.store.now.objects
         (S.applies from.now.store.now.objects subject.now)) }
 {
+    let objects = subject.candidates(from.alloc, from.store, steps)?;
     let mut rows = List::new(from.alloc);
-    for object in from.store.all() {
+    for object in objects.as_slice() {
         add_if_applies(from, &mut rows, subject, object, steps)?;
     }
     Ok(rows)

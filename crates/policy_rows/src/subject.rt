@@ -1,14 +1,18 @@
-ghost use Rattle.std.specs.Prelude.{◌≡◌, Bool};
+ghost use Rattle.std.specs.Prelude.{◌≡◌, Bool, IfOk, map};
 ghost use Rattle.view_types.specs.Objects.{ObjectMap};
 ghost use Rattle.view_types.specs.declared.object.Object.{Object as Held};
 ghost use Rattle.view_rules.specs.Policies.{applies_to_route, applies_to_server, authorizes, is_on_route, is_on_server, is_route_kind, names_server, policy_applies};
+ghost use Rattle.policy_rows.specs.ByMark.{AreAmong, route_target};
 
+use crate::candidates::{route_candidates, server_candidates};
 use crate::refs::{is_complete, ns_of};
 use crate::selects::selects;
 use mesh_base::key::{Kind, ObjKey};
+use mesh_base::memory::Memory;
 use mesh_base::steps::Steps;
 use mesh_base::text::Text;
 use object_store::store::Store;
+use std::alloc::Global;
 use view_types::authn::{AuthzPolicy, RefKind, ServerAuthz, ServerRef};
 use view_types::object::Object;
 use view_types::server::ServerSpec;
@@ -20,6 +24,16 @@ pub trait Subject {
 
     fn applies<L>(&self, store: &Store, object: &Object, steps: &mut Steps<L>) -> bool
         ensures { result ≡ applies store.now.objects self.now object.now };
+
+    /// Objects among which all stand that apply to it, in the order of their keys.
+    fn candidates<'a, L>(
+        &self,
+        alloc: Global,
+        store: &'a Store,
+        steps: &mut Steps<L>,
+    ) -> Result<Vec<&'a Object>, Memory>
+        ensures { IfOk result (λ found. AreAmong store.now.objects
+            (applies store.now.objects self.now) (map (λ o. o.now) found.items)) };
 }
 
 impl Subject for ServerSpec {
@@ -36,6 +50,16 @@ impl Subject for ServerSpec {
             _ => false,
         }
     }
+
+    fn candidates<'a, L>(
+        &self,
+        alloc: Global,
+        store: &'a Store,
+        steps: &mut Steps<L>,
+    ) -> Result<Vec<&'a Object>, Memory> {
+        store.stand_at_keys();
+        server_candidates(alloc, store, &self.meta.ns, &self.meta.name, steps)
+    }
 }
 
 impl Subject for ObjKey {
@@ -49,6 +73,18 @@ impl Subject for ObjKey {
                 policy_applies(store, &self.ns, is_target, policy.get(), steps)
             }
             _ => false,
+        }
+    }
+
+    fn candidates<'a, L>(
+        &self,
+        alloc: Global,
+        store: &'a Store,
+        steps: &mut Steps<L>,
+    ) -> Result<Vec<&'a Object>, Memory> {
+        match route_target(self.kind) {
+            Some(target) => route_candidates(alloc, store, self, target, steps),
+            None => Ok(Vec::new(alloc)),
         }
     }
 }
@@ -98,6 +134,17 @@ fn names_server(reference: &ServerRef, server: &ServerSpec) -> bool
     match reference {
         ServerRef::Named(name) => *name == server.meta.name,
         ServerRef::Chosen(selector) => selects(selector, &server.meta.labels),
+    }
+}
+
+/// The kind of target by which an AuthorizationPolicy names routes of the kind.
+fn route_target(kind: Kind) -> Option<RefKind>
+    ensures { result ≡ route_target kind }
+{
+    match kind {
+        Kind::LinkerdRoute => Some(RefKind::LinkerdRoute),
+        Kind::GatewayRoute => Some(RefKind::GatewayRoute),
+        _ => None,
     }
 }
 

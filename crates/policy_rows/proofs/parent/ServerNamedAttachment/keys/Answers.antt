@@ -1,4 +1,4 @@
-use Rattle.std.proofs.Common.{Bor, List, sym, ap, ◌∙◌}
+use Rattle.std.proofs.Common.{sym, ap, ◌∙◌}
 use Rattle.std.proofs.lemmas.Result.{IfOk-weaker}
 use Rattle.std.specs.List.{filter, filter_map}
 use Rattle.view_rules.specs.InOrder.{in_order_by}
