@@ -2,4 +2,5 @@ mod BatchesFold
 mod Folding
 mod FoldsBack
 mod MessagesFold
+mod NoMessages
 mod Sizes

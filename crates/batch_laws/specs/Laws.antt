@@ -1,5 +1,5 @@
 -- What a batch carries, and what is seen by folding it.
-use Rattle.std.specs.Prelude.{◌≡◌, ◌+◌, ◌<◌, ◌≤◌, ℕ, List, Option, Some, length, slice_index_or, All, flat_map}
+use Rattle.std.specs.Prelude.{◌≡◌, ◌+◌, ◌<◌, ◌≤◌, ℕ, List, [], Option, Some, length, slice_index_or, All, flat_map}
 use Rattle.mesh_base.specs.declared.limits.Limits.{Limits}
 use Rattle.net_cidr.specs.declared.ip.Ip.{Ip}
 use Rattle.view_types.specs.Objects.{ObjectMap}
@@ -37,3 +37,7 @@ BatchesFold = (old : Option View) (new : View) (limits : Limits) → 1 ≤ limit
 abbrev pub MessagesFold : Type 0
 MessagesFold = (config : Config) (before : Option ObjectMap) (held : ObjectMap) (query : Query) (limits : Limits) → 1 ≤ limits.frame_addrs
     → folded_onto (view_before config query before) (batch (view_before config query before) (view_of config held query) limits) ≡ Some (view_of config held query)
+
+-- No message leads from a view to itself.
+abbrev pub SameViewSendsNothing : Type 0
+SameViewSendsNothing = (view : View) (limits : Limits) → batch (Some view) view limits ≡ []

@@ -1,4 +1,8 @@
-ghost use Rattle.batch_laws.specs.Laws.{BatchesFold, MessagesFold, PairsAreCut, RowsAreCut};
+ghost use Rattle.batch_laws.specs.Laws.{BatchesFold, MessagesFold, PairsAreCut, RowsAreCut, SameViewSendsNothing};
+
+use view_rules::laws::{
+    same_outbound_decides, same_profile_decides, same_row_decides, same_server_decides,
+};
 
 /// The messages that add rows have as many each as may be, but for the last.
 pub fn rows_are_cut()
@@ -20,3 +24,13 @@ pub fn batches_fold()
 pub fn messages_fold()
     ensures { MessagesFold }
 {}
+
+/// No message leads from a view to itself.
+pub fn same_view_sends_nothing()
+    ensures { SameViewSendsNothing }
+{
+    same_row_decides();
+    same_profile_decides();
+    same_server_decides();
+    same_outbound_decides();
+}
