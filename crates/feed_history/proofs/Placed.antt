@@ -1,5 +1,5 @@
 -- What stands under an id is found by its place, and what is put in its place stands there.
-use Rattle.std.proofs.Common.{◌≡◌, ℕ, suc, ◌+◌, Bool, true, false, cond, eqb, List, [], ◌∷◌, ◌++◌, get_or, take, drop, Option, Some, None, refl, sym, ap, subst, ◌∙◌, arith}
+use Rattle.std.proofs.Common.{◌≡◌, ℕ, suc, ◌+◌, Bool, true, false, cond, eqb, List, [], ◌∷◌, ◌++◌, get_or, take, drop, Option, Some, None, refl, sym, ap, subst, ◌∙◌, arith, eqb-true}
 use Rattle.std.specs.Prelude.{MatchOption}
 use Rattle.std.specs.List.{position_from}
 use Rattle.feed_history.specs.Ids.{StandsAt, at_id, in_place}
@@ -67,3 +67,11 @@ module _ {S : Type 0} (id_of : S → ℕ) (id : ℕ) where
     | true ↦ λ some. absurd (cc some)
     | false ↦ λ rest. ap (λ (more : List S). sub ∷ more) (stays f subs rest)
   ] none
+
+  -- what is found under an id has it
+  pub found_has_id : (subs : List S) (s : S) → at_id id_of id subs ≡ Some s → id_of s ≡ id
+  found_has_id [] s is = absurd (cc is)
+  found_has_id (first ∷ subs) s is = elim (eqb (id_of first) id) as (λ b. eqb (id_of first) id ≡ b → cond b (Some first) (at_id id_of id subs) ≡ Some s → id_of s ≡ id) [
+    | true ↦ λ tied same. let it : first ≡ s = cc same in ap id_of (sym it) ∙ eqb-true (id_of first) id tied
+    | false ↦ λ free rest. found_has_id subs s rest
+  ] refl is

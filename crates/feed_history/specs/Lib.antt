@@ -1,5 +1,6 @@
 pub mod Deliveries
 pub mod Drains
+pub mod Due
 pub mod Events
 pub mod History
 pub mod Ids

@@ -1,0 +1,3 @@
+mod KeepLawful
+mod Leading
+mod Untouched
