@@ -1,4 +1,4 @@
-//! Which rows watch which marks, for marks of any type with an order. No command uses it yet.
+//! Which rows watch which marks, for marks of any type with an order.
 //!
 //! Stands on mesh_base. The contract of `Graph` cites `specs/RowMarks`.
 #![tactic(auto)]

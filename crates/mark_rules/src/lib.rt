@@ -1,5 +1,5 @@
 //! What a change of the objects can reach: the marks of objects, the rows that views are joined from, the marks that each row
-//! reads, and the law that a row which reads no mark of a change is the same after it. No command uses it yet.
+//! reads, and the law that a row which reads no mark of a change is the same after it.
 //!
 //! Stands on view_rules for the views, and on view_types for objects and marks. The contracts of `marks` and `object_marks`
 //! cite `specs/Marks` (the order of marks, and the marks of an object). Those of `laws` cite `specs/Changes` (a change leads

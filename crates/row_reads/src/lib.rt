@@ -1,5 +1,4 @@
-//! The marks that each row reads, and those that the rows of a query read, found by the keys that a store keeps for marks. No
-//! command uses it yet.
+//! The marks that each row reads, and those that the rows of a query read, found by the keys that a store keeps for marks.
 //!
 //! Stands on mark_rules, whose `specs/Reads` each contract cites, on object_store for the objects and their keys, and on
 //! policy_rows for the test of a Server.

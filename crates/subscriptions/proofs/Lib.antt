@@ -1,0 +1,6 @@
+mod ByCmp
+mod ById
+mod DueIds
+mod Refreshed
+mod Shown
+mod Standing

@@ -1,0 +1,5 @@
+pub mod ById
+pub mod DueIds
+pub mod Live
+pub mod Standing
+pub mod Watched
