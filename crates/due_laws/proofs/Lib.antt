@@ -1,4 +1,3 @@
-pub mod EventMarks
+mod Calls
 pub mod Lookback
-pub mod NoMessages
 pub mod Unmoved

@@ -9,12 +9,13 @@ use Rattle.watch_events.specs.declared.line.Line.{Line}
 use Rattle.watch_events.specs.declared.line.Line.TheVariants as lines
 use Rattle.watch_events.specs.declared.line.LineFault.{LineFault}
 use Rattle.feed_history.specs.History.{after, refusal_after}
-use Rattle.feed_history.specs.Live.{asked_by, live_at, meets_too_long}
+use Rattle.feed_history.specs.Live.{IsLiveByTheLast, asked_by, live_at, meets_too_long}
 use Rattle.feed_history.specs.LookBack.{last_told}
 use Rattle.feed_history.specs.Marks.{MarkedRow}
 use Rattle.feed_history.specs.Program.{Program, reading}
 use Rattle.feed_history.specs.declared.refusal.Refusal.{Refusal}
-use Rattle.due_laws.specs.Due.{DueAfterRows, DueAreLive, NeverDrainedAreDue, OnlyDueAreOwed, due_after, due_by, is_due, is_touched}
+use Rattle.feed_history.specs.Due.{due_after, due_by, is_due, is_touched}
+use Rattle.due_laws.specs.Laws.{DueAfterRows, DueAreLive, NeverDrainedAreDue, OnlyDueAreOwed}
 
 added : (b before : Bool) → last_told None (cond b (Some true) None) before ≡ (b || before)
 added true before = refl
@@ -24,20 +25,22 @@ taken : (b before : Bool) → last_told None (cond b (Some false) None) before �
 taken true before = refl
 taken false before = refl
 
-changed : (program : Program) (past : List MarkedRow) (refusal : Option Refusal) (line : Result Line LineFault) (id : ℕ) (before : Bool)
-    → last_told refusal (due_by program past line id) before ≡ cond (is_some refusal) before (due_after program past line id before)
-changed program past (Some refusal) line id before = refl
-changed program past None (Err fault) id before = refl
-changed program past None (Ok lines.Blank) id before = refl
-changed program past None (Ok (lines.Simulate request)) id before = refl
-changed program past None (Ok lines.Stop) id before = refl
-changed program past None (Ok (lines.Event event)) id before = added (is_touched program.config (after program past).objects event (live_at program past id)) before
-changed program past None (Ok (lines.Subscribe asked query)) id before = added (eqb asked.0 id) before
-changed program past None (Ok (lines.Cancel asked)) id before = taken (eqb asked.0 id) before
-changed program past None (Ok (lines.Drain asked)) id before = taken (eqb asked.0 id) before
+changed : (program : Program) → IsLiveByTheLast program → (past : List MarkedRow) (refusal : Option Refusal) (line : Result Line LineFault) (id : ℕ) (before : Bool)
+    → last_told refusal (due_by program past line id) before ≡ cond (is_some refusal) before (due_after program.config (after program past) line id before)
+changed program live past (Some refusal) line id before = refl
+changed program live past None (Err fault) id before = refl
+changed program live past None (Ok lines.Blank) id before = refl
+changed program live past None (Ok (lines.Simulate request)) id before = refl
+changed program live past None (Ok lines.Stop) id before = refl
+changed program live past None (Ok (lines.Event event)) id before =
+    added (is_touched program.config (after program past).objects event (live_at program past id)) before
+    ∙ ap (λ query. is_touched program.config (after program past).objects event query || before) (sym (live past id))
+changed program live past None (Ok (lines.Subscribe asked query)) id before = added (eqb asked.0 id) before
+changed program live past None (Ok (lines.Cancel asked)) id before = taken (eqb asked.0 id) before
+changed program live past None (Ok (lines.Drain asked)) id before = taken (eqb asked.0 id) before
 
-pub due_after_rows : (program : Program) → DueAfterRows program
-due_after_rows program past row id = changed program past (refusal_after program past row) (reading program row) id (is_due program past id)
+pub due_after_rows : (program : Program) → IsLiveByTheLast program → DueAfterRows program
+due_after_rows program live past row id = changed program live past (refusal_after program past row) (reading program row) id (is_due program past id)
 
 -- who is due is live
 abbrev IsLiveIf : Bool → Option Query → Type 0

@@ -5,7 +5,6 @@ use Rattle.view_types.specs.Objects.{AtKeys, ObjectMap}
 use Rattle.view_types.specs.declared.query.Query.{Query}
 use Rattle.view_rules.specs.PolicyLaws.{AreLawful}
 use Rattle.view_rules.specs.Views.{view_before, view_of}
-use Rattle.mark_rules.specs.Laws.{ViewsStay}
 use Rattle.watch_events.specs.Lawful.{IsLawfulEvent, IsLawfulLine}
 use Rattle.watch_events.specs.declared.event.Event.{Event}
 use Rattle.watch_events.specs.declared.line.Line.{Line}
@@ -22,9 +21,11 @@ use Rattle.feed_history.specs.Marks.{MarkedRow}
 use Rattle.feed_history.specs.Program.{Program, reading}
 use Rattle.feed_history.specs.declared.refusal.Refusal.{Refusal}
 use Rattle.history_laws.proofs.Telling.{row_lawful}
-use Rattle.due_laws.specs.Due.{EventsLead, OnlyDueAreOwed, due_by, is_due, is_touched, marks_of_event}
+use Rattle.event_laws.specs.Laws.{UntouchedQueriesStay}
+use Rattle.feed_history.specs.Due.{due_by, is_due, is_touched}
+use Rattle.due_laws.specs.Laws.{OnlyDueAreOwed}
 
-module _ (program : Program) (stay : ViewsStay) (leads : EventsLead) (id : ℕ) (query : Query) where
+module _ (program : Program) (stay : UntouchedQueriesStay) (id : ℕ) (query : Query) where
   -- the query has the view over these objects that it had at its last drain
   abbrev IsUnmoved : Option (List MarkedRow) → ObjectMap → Type 0
   IsUnmoved last held = view_before program.config query (option_map (λ rows. (after program rows).objects) last) ≡ Some (view_of program.config held query)
@@ -38,21 +39,20 @@ module _ (program : Program) (stay : ViewsStay) (leads : EventsLead) (id : ℕ) 
     abbrev held : ObjectMap
     held = (after program past).objects
 
-    touched_or_not : (event : Event) → IsLawfulEvent event → AreLawful (objects_after held event) → (live : Option Query) → live ≡ Some query → (touched : Bool) → is_touched program.config held event live ≡ touched
+    touched_or_not : (event : Event) → IsLawfulEvent event → (live : Option Query) → live ≡ Some query → (touched : Bool) → is_touched program.config held event live ≡ touched
         → last_told None (cond touched (Some true) None) (is_due program past id) ≡ false → IsUnmoved (last_drain program past id) held → IsUnmoved (last_drain program past id) (objects_after held event)
-    touched_or_not event right after_lawful live is true touched undue unmoved = absurd (cc undue)
-    touched_or_not event right after_lawful live is false touched undue unmoved =
-        unmoved ∙ ap Some (sym (stay program.config query (marks_of_event held event) held (objects_after held event) lawful after_lawful (leads held at_keys event right)
-        (sym (ap (is_touched program.config held event) is) ∙ touched)))
+    touched_or_not event right live is true touched undue unmoved = absurd (cc undue)
+    touched_or_not event right live is false touched undue unmoved =
+        unmoved ∙ ap Some (sym (stay program.config held at_keys lawful event right query (sym (ap (is_touched program.config held event) is) ∙ touched)).view)
 
     not_due : (touched : Bool) → last_told None (cond touched (Some true) None) (is_due program past id) ≡ false → is_due program past id ≡ false
     not_due true undue = absurd (cc undue)
     not_due false undue = undue
 
-    event_unmoved : (event : Event) → IsLawfulEvent event → AreLawful (objects_after held event)
+    event_unmoved : (event : Event) → IsLawfulEvent event
         → StaysUnmoved (live_at program past id) (last_told None (cond (is_touched program.config held event (live_at program past id)) (Some true) None) (is_due program past id)) (last_drain program past id) (objects_after held event)
-    event_unmoved event right after_lawful live undue =
-        touched_or_not event right after_lawful (live_at program past id) live (is_touched program.config held event (live_at program past id)) refl undue (so_far live (not_due (is_touched program.config held event (live_at program past id)) undue))
+    event_unmoved event right live undue =
+        touched_or_not event right (live_at program past id) live (is_touched program.config held event (live_at program past id)) refl undue (so_far live (not_due (is_touched program.config held event (live_at program past id)) undue))
 
     subscribed : (b : Bool) (asked : Query)
         → StaysUnmoved (last_told None (cond b (Some (Some asked)) None) (live_at program past id)) (last_told None (cond b (Some true) None) (is_due program past id)) (last_told None (cond b (Some None) None) (last_drain program past id)) held
@@ -71,29 +71,28 @@ module _ (program : Program) (stay : ViewsStay) (leads : EventsLead) (id : ℕ) 
 
     step_unmoved : (rows : List MarkedRow) (refusal : Option Refusal) (line : Result Line LineFault) → IfOk line IsLawfulLine
         → after program rows ≡ unless_refused refusal (after program past) (after_line program (after program past) line)
-        → AreLawful (unless_refused refusal (after program past) (after_line program (after program past) line)).objects
         → StaysUnmoved (last_told refusal (asked_by program (after program past) line id) (live_at program past id)) (last_told refusal (due_by program past line id) (is_due program past id))
         (last_told refusal (drain_in rows line id) (last_drain program past id)) (unless_refused refusal (after program past) (after_line program (after program past) line)).objects
-    step_unmoved rows (Some refusal) line right here after_lawful = so_far
-    step_unmoved rows None (Err fault) right here after_lawful = so_far
-    step_unmoved rows None (Ok lines.Blank) right here after_lawful = so_far
-    step_unmoved rows None (Ok (lines.Simulate request)) right here after_lawful = so_far
-    step_unmoved rows None (Ok lines.Stop) right here after_lawful = so_far
-    step_unmoved rows None (Ok (lines.Event event)) right here after_lawful = event_unmoved event right after_lawful
-    step_unmoved rows None (Ok (lines.Subscribe asked one)) right here after_lawful = subscribed (eqb asked.0 id) one
-    step_unmoved rows None (Ok (lines.Cancel asked)) right here after_lawful = cancelled (eqb asked.0 id)
-    step_unmoved rows None (Ok (lines.Drain asked)) right here after_lawful =
+    step_unmoved rows (Some refusal) line right here = so_far
+    step_unmoved rows None (Err fault) right here = so_far
+    step_unmoved rows None (Ok lines.Blank) right here = so_far
+    step_unmoved rows None (Ok (lines.Simulate request)) right here = so_far
+    step_unmoved rows None (Ok lines.Stop) right here = so_far
+    step_unmoved rows None (Ok (lines.Event event)) right here = event_unmoved event right
+    step_unmoved rows None (Ok (lines.Subscribe asked one)) right here = subscribed (eqb asked.0 id) one
+    step_unmoved rows None (Ok (lines.Cancel asked)) right here = cancelled (eqb asked.0 id)
+    step_unmoved rows None (Ok (lines.Drain asked)) right here =
         drained (eqb asked.0 id) (meets_too_long program (after program past) id) rows (ap (λ (state : State). state.objects) here)
 
   module _ (reads : ReadsLawfully program) (lawful : HeldAreLawful program) (at_keys : HeldAtKeys program) where
     pub unmoved : (past : List MarkedRow) → StaysUnmoved (live_at program past id) (is_due program past id) (last_drain program past id) (after program past).objects
     unmoved [] live undue = absurd (cc live)
     unmoved (row ∷ past) live undue =
-        step_unmoved past (at_keys past) (lawful past) (unmoved past) (row ∷ past) (refusal_after program past row) (reading program row) (row_lawful program reads row) refl (lawful (row ∷ past)) live undue
+        step_unmoved past (at_keys past) (lawful past) (unmoved past) (row ∷ past) (refusal_after program past row) (reading program row) (row_lawful program reads row) refl live undue
 
-module _ (program : Program) (stay : ViewsStay) (leads : EventsLead) (reads : ReadsLawfully program) (lawful : HeldAreLawful program) (at_keys : HeldAtKeys program)
+module _ (program : Program) (stay : UntouchedQueriesStay) (reads : ReadsLawfully program) (lawful : HeldAreLawful program) (at_keys : HeldAtKeys program)
     (live : IsLiveByTheLast program) (told : IsToldAtLastDrain program) where
   pub only_due_are_owed : OnlyDueAreOwed program
   only_due_are_owed past id asked found undue =
       ap (view_before program.config asked.query) (told past id asked found)
-      ∙ unmoved program stay leads id asked.query reads lawful at_keys past (sym (live past id) ∙ ap (λ (one : Option Asked). option_map (λ (a : Asked). a.query) one) found) undue
+      ∙ unmoved program stay id asked.query reads lawful at_keys past (sym (live past id) ∙ ap (λ (one : Option Asked). option_map (λ (a : Asked). a.query) one) found) undue

@@ -24,7 +24,7 @@ use Rattle.mesh_hub.specs.Hub.{HubState}
 use Rattle.mesh_hub.specs.HubAfter.{seen}
 use Rattle.mesh_hub.proofs.HubSteps.{applied_seen, cancelled_seen, drained_seen, subscribed_seen}
 
-abbrev number_in : List ℕ → ℕ
+abbrev pub number_in : List ℕ → ℕ
 number_in [] = 0
 number_in (n ∷ ns) = n
 
@@ -33,19 +33,19 @@ abbrev numbered : List Line → ℕ → Result Line LineFault
 numbered [] n = Err line_faults.NotJson
 numbered (call ∷ past) n = if n == length past then Ok call else numbered past n
 
-abbrev reads_of : List Line → List ℕ → Result Line LineFault
+abbrev pub reads_of : List Line → List ℕ → Result Line LineFault
 reads_of calls bytes = numbered calls (number_in bytes)
 
-abbrev rows_of : List Line → List MarkedRow
+abbrev pub rows_of : List Line → List MarkedRow
 rows_of [] = []
 rows_of (call ∷ past) = (Some (length past ∷ []), None) ∷ rows_of past
 
-same_number : (n : ℕ) → eqb n n ≡ true
+pub same_number : (n : ℕ) → eqb n n ≡ true
 same_number n = elim (eqb_tells n n) [ inl same ↦ same.0 | inr apart ↦ absurd (apart.1 refl) ]
 
 -- ---- the rows of calls are read as before by a program of more calls
 
-abbrev IsOlder : ℕ → MarkedRow → Type 0
+abbrev pub IsOlder : ℕ → MarkedRow → Type 0
 IsOlder count row = (n : ℕ) × (row.0 ≡ Some (n ∷ [])) × (n < count)
 
 older_later : (count : ℕ) (rows : List MarkedRow) → AllByRecursion (IsOlder count) rows → AllByRecursion (IsOlder (suc count)) rows
@@ -55,14 +55,14 @@ older_later count (row ∷ rows) older = ((older.0.0, older.0.1, let lt = older.
 next_number : (n : ℕ) → n < suc n
 next_number n = omega arith
 
-are_older : (calls : List Line) → AllByRecursion (IsOlder (length calls)) (rows_of calls)
+pub are_older : (calls : List Line) → AllByRecursion (IsOlder (length calls)) (rows_of calls)
 are_older [] = tt
 are_older (call ∷ past) = ((length past, refl, next_number (length past)), older_later (length past) (rows_of past) (are_older past))
 
 not_last : (n count : ℕ) → n < count → eqb n count ≡ false
 not_last n count lt = elim (eqb_tells n count) [ inl same ↦ absurd (let is = same.1 in omega (arith, lt, is)) | inr apart ↦ apart.0 ]
 
-read_alike : (call : Line) (past : List Line) (rows : List MarkedRow) → AllByRecursion (IsOlder (length past)) rows
+pub read_alike : (call : Line) (past : List Line) (rows : List MarkedRow) → AllByRecursion (IsOlder (length past)) rows
     → AllByRecursion (λ (row : MarkedRow). row_says (reads_of past) row.0 ≡ row_says (reads_of (call ∷ past)) row.0) rows
 read_alike call past [] older = tt
 read_alike call past (row ∷ rows) older = (
@@ -80,7 +80,7 @@ module _ (config : Config) (limits : Limits) where
   abbrev matches : Pat
   matches pattern text = false
 
-  abbrev program : (List ℕ → Result Line LineFault) → Program
+  abbrev pub program : (List ℕ → Result Line LineFault) → Program
   program reads = record { config = config; reads = reads; has_place = λ line. true; limits = limits; matches = matches }
 
   -- what a line leads to depends on what it says alone
@@ -100,7 +100,7 @@ module _ (config : Config) (limits : Limits) where
       line_alike one other now row.1 (row_says one row.0)
       ∙ ap (λ (line : Result Line LineFault). unless_refused (refusal_of (program other) now row.1 line) now (after_line (program other) now line)) same
 
-  after_alike : (one other : List ℕ → Result Line LineFault) (rows : List MarkedRow) → AllByRecursion (λ (row : MarkedRow). row_says one row.0 ≡ row_says other row.0) rows
+  pub after_alike : (one other : List ℕ → Result Line LineFault) (rows : List MarkedRow) → AllByRecursion (λ (row : MarkedRow). row_says one row.0 ≡ row_says other row.0) rows
       → after (program one) rows ≡ after (program other) rows
   after_alike one other [] same = refl
   after_alike one other (row ∷ past) same = ap (λ (now : State). step (program one) now row) (after_alike one other past same.1) ∙ step_alike one other (after (program other) past) row same.0
@@ -120,7 +120,7 @@ module _ (config : Config) (limits : Limits) where
   call_leads reads now (lines.Drain id) = drained_seen (program reads) now id
       ∙ ap (seen (program reads)) (sym (unless_mapped (hub_refusal (program reads) now (lines.Drain id)) now (after_line (program reads) now (Ok (lines.Drain id)))))
 
-  leads_here : (calls : List Line) → called_all config limits calls ≡ seen (program (reads_of calls)) (after (program (reads_of calls)) (rows_of calls))
+  pub leads_here : (calls : List Line) → called_all config limits calls ≡ seen (program (reads_of calls)) (after (program (reads_of calls)) (rows_of calls))
   leads_here [] = refl
   leads_here (call ∷ past) =
       let reads = reads_of (call ∷ past) in
@@ -132,7 +132,7 @@ module _ (config : Config) (limits : Limits) where
       let line = cond b (Ok call) (numbered past (length past)) in
       seen (program reads) (unless_refused (refusal_of (program reads) now None line) now (after_line (program reads) now line))) (sym (same_number (length past)))
 
-reads_lawfully : (calls : List Line) → AllByRecursion IsLawfulLine calls → (n : ℕ) (line : Line) → numbered calls n ≡ Ok line → IsLawfulLine line
+pub reads_lawfully : (calls : List Line) → AllByRecursion IsLawfulLine calls → (n : ℕ) (line : Line) → numbered calls n ≡ Ok line → IsLawfulLine line
 reads_lawfully [] lawful n line is = absurd (cc is)
 reads_lawfully (call ∷ past) lawful n line is = by_test (eqb n (length past)) (reads_lawfully past lawful.1 n line) is
   where

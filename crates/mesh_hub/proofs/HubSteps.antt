@@ -1,5 +1,5 @@
 -- What a call of a hub comes to that stands where rows lead: in the words of what rows lead to.
-use Rattle.std.proofs.Common.{◌≡◌, ℕ, Bool, true, false, cond, eqb, List, [], ◌∷◌, ◌++◌, map, Option, Some, None, refl, sym, ap, ◌∙◌, eqb-true, eq-eqb}
+use Rattle.std.proofs.Common.{◌≡◌, ℕ, Bool, true, false, cond, eqb, List, [], ◌∷◌, ◌++◌, map, Option, Some, None, refl, sym, ap, ◌∙◌, eq-eqb}
 use Rattle.std.specs.Prelude.{option_map, Ok}
 use Rattle.std.specs.List.{AllByRecursion}
 use Rattle.std.proofs.lemmas.List.{length-map, map-append}
@@ -13,6 +13,7 @@ use Rattle.mesh_hub.specs.Hub.{HubState, applied, apply_refusal, cancelled, drai
 use Rattle.mesh_hub.specs.Hub as hub
 use Rattle.feed_history.specs.Ids.{at_id, ended, in_place, subscribe_refusal, unknown_refusal, unless_refused}
 use Rattle.feed_history.specs.Program.{Program}
+use Rattle.feed_history.proofs.Placed.{stays}
 use Rattle.mesh_hub.specs.HubAfter.{seen, seen_sub}
 use Rattle.mesh_hub.specs.Subscriptions.{LiveSubscription}
 use Rattle.feed_history.specs.declared.refusal.HubFault.{HubFault}
@@ -20,22 +21,6 @@ use Rattle.feed_history.specs.declared.refusal.HubFault.{HubFault}
 -- ---- what stands under an id, and in its place
 
 module _ {S : Type 0} (id_s : S → ℕ) (id : ℕ) where
-  pub found_has_id : (subs : List S) (s : S) → at_id id_s id subs ≡ Some s → id_s s ≡ id
-  found_has_id [] s is = absurd cc
-  found_has_id (first ∷ subs) s is = by_test (found_has_id subs s) (eqb (id_s first) id) refl is
-    where
-      by_test : (at_id id_s id subs ≡ Some s → id_s s ≡ id) → (b : Bool) → eqb (id_s first) id ≡ b → cond b (Some first) (at_id id_s id subs) ≡ Some s → id_s s ≡ id
-      by_test later true tied is = let same : first ≡ s = cc in ap id_s (sym same) ∙ eqb-true (id_s first) id tied
-      by_test later false tied is = later is
-
-  pub none_in_place : (g : S → List S) (subs : List S) → at_id id_s id subs ≡ None → in_place id_s id g subs ≡ subs
-  none_in_place g [] is = refl
-  none_in_place g (first ∷ subs) is = by_test (none_in_place g subs) (eqb (id_s first) id) is
-    where
-      by_test : (at_id id_s id subs ≡ None → in_place id_s id g subs ≡ subs) → (b : Bool) → cond b (Some first) (at_id id_s id subs) ≡ None → cond b (g first ++ subs) (first ∷ in_place id_s id g subs) ≡ first ∷ subs
-      by_test later true is = absurd cc
-      by_test later false is = ap (λ (rest : List S). first ∷ rest) (later is)
-
   -- itself in its place
   pub same_in_place : (subs : List S) → in_place id_s id (λ s. s ∷ []) subs ≡ subs
   same_in_place [] = refl
@@ -150,7 +135,7 @@ module _ (program : Program) (now : State) where
     where
       by_found : (found : Option Asked) → asked_at id now.subs ≡ found → with_subs (map (seen_sub program.config) (in_place id_of id g now.subs)) now.last
           ≡ seen program (unless_refused (unknown_refusal id found) now (record now { subs = in_place id_of id g now.subs }))
-      by_found None is = ap (λ (subs : List Asked). with_subs (map (seen_sub program.config) subs) now.last) (none_in_place id_of id g now.subs is)
+      by_found None is = ap (λ (subs : List Asked). with_subs (map (seen_sub program.config) subs) now.last) (stays id_of id g now.subs is)
       by_found (Some asked) is = refl
 
   pub cancelled_seen : (id : SubId) → cancelled (seen program now) id.0

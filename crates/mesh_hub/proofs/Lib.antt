@@ -1,3 +1,6 @@
+mod Accepted
 pub mod Calls
+mod Changed
 mod Drained
 pub mod HubSteps
+mod UpTo

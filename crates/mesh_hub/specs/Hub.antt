@@ -18,9 +18,9 @@ use Rattle.request_sim.specs.declared.fault.SimFault.{SimFault}
 use Rattle.request_sim.specs.declared.fault.SimFault.TheVariants as sim
 use Rattle.feed_history.specs.Drains.{frames_within, too_long, unless_too_long}
 use Rattle.feed_history.specs.Events.{event_refusal, objects_after}
-use Rattle.feed_history.specs.Ids.{at_id, ended, in_place, subscribe_refusal, unless_refused}
+use Rattle.feed_history.specs.Ids.{ended, in_place, subscribe_refusal, unless_refused}
 use Rattle.mesh_hub.specs.declared.hub.Hub.{Hub}
-use Rattle.mesh_hub.specs.Subscriptions.{LiveSubscription}
+pub use Rattle.subscriptions.specs.Live.{LiveSubscription, id_of, sub_at}
 use Rattle.feed_history.specs.declared.refusal.HubFault.{HubFault}
 use Rattle.feed_history.specs.declared.refusal.HubFault.TheVariants.{Memory, Full, TooManySubs, IdOrder, NoSuchId, Oversize}
 use Rattle.feed_history.specs.declared.refusal.NoSuchId.{NoSuchId as NotLive}
@@ -36,7 +36,7 @@ pub record HubState : Type 0 where
   pub spent : Bool
 
 abbrev pub state_of : Hub → HubState
-state_of hub = record { config = hub.config; limits = hub.limits; objects = hub.store.objects; subs = hub.subs; last = hub.last; spent = hub.spent }
+state_of hub = record { config = hub.config; limits = hub.limits; objects = hub.store.objects; subs = hub.subscribers.subs; last = hub.last; spent = hub.spent }
 
 -- nothing is held or asked for
 abbrev pub fresh : Config → Limits → HubState
@@ -83,13 +83,6 @@ new_refusal now id = subscribe_refusal now.limits.subs now.last (length now.subs
 
 abbrev pub subscribed : HubState → SubId → Query → HubState
 subscribed now id query = unless_refused (new_refusal now id.0) now (record now { subs = now.subs ++ record { id = id; query = query; shown = None } ∷ []; last = Some id.0 })
-
-abbrev pub id_of : LiveSubscription → ℕ
-id_of sub = sub.id.0
-
--- the subscription under an id
-abbrev pub sub_at : ℕ → List LiveSubscription → Option LiveSubscription
-sub_at id subs = at_id id_of id subs
 
 abbrev pub is_live : ℕ → List LiveSubscription → Bool
 is_live id subs = is_some (sub_at id subs)

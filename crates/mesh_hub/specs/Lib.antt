@@ -1,5 +1,8 @@
 pub mod Begins
 pub mod Calls
+pub mod Changing
+pub mod Due
+pub mod Greatest
 pub mod Hub
 pub mod HubAfter
 pub mod Replies

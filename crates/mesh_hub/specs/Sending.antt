@@ -1,5 +1,5 @@
--- What the steps of a drain come to: where the subscription stands, what it is due, and what becomes of it.
-use Rattle.std.specs.Prelude.{◌≡◌, ℕ, List, Some, None, Result, Ok, Err, remove, slice_index_or, slice_set}
+-- What a subscription is due: the view that it is to see, and the frames that bring it there.
+use Rattle.std.specs.Prelude.{◌≡◌, ℕ, List, Some, None, Result, Ok, Err}
 use Rattle.view_types.specs.declared.view.View.{View}
 use Rattle.view_rules.specs.Fold.{IsOrderlyIfShown}
 use Rattle.view_rules.specs.Views.{view_of}
@@ -20,11 +20,3 @@ abbrev pub IsDueOrTooLong : HubState → LiveSubscription → Result (View × Li
 IsDueOrTooLong now sub (Ok due) = IsDue now sub due.0 due.1
 IsDueOrTooLong now sub (Err (Oversize bytes)) = too_long now.limits.message (messages_for now sub) ≡ Some bytes
 IsDueOrTooLong now sub (Err _) = Unit {0}
-
--- The view that the subscriber at a place was shown is noted.
-abbrev pub Shows : ℕ → View → HubState → HubState → Type 0
-Shows at view old new = (sub : LiveSubscription) → slice_index_or old.subs at sub ≡ sub → new ≡ record old { subs = slice_set old.subs at (record sub { shown = Some view }) }
-
--- The subscription at a place ends.
-abbrev pub Ends : ℕ → HubState → HubState → Type 0
-Ends at old new = new ≡ record old { subs = remove old.subs at }

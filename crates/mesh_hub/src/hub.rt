@@ -1,35 +1,43 @@
-ghost use Rattle.std.specs.Prelude.{◌≡◌, ◌==◌, ◌≤◌, ◌<◌, false, None, IfOk, MatchOption, Some, length};
+ghost use Rattle.std.specs.Prelude.{◌≡◌, ◌≤◌, ◌&&◌, ◌||◌, not, nat_eq, ℕ, false, true, None, Ok, IfOk, OnOk, Some};
 ghost use Rattle.std.specs.FinMap.{values};
-ghost use Rattle.std.specs.List.{position_from};
-ghost use Rattle.view_types.specs.Objects.{IsListOf};
+ghost use Rattle.view_rules.specs.Batch.{batch};
 ghost use Rattle.view_rules.specs.Fold.{IsOrderlyIfShown};
+ghost use Rattle.std.specs.Coded.{codes};
+ghost use Rattle.view_types.specs.contracts.view.View as the_view;
 ghost use Rattle.view_rules.specs.Views.{view_of};
 ghost use Rattle.route_match.specs.Asking.{AsksPatterns, facts_of};
 ghost use Rattle.request_sim.specs.Faults.{MetPattern, Simulated};
+ghost use Rattle.feed_history.specs.Due.{is_touched};
+ghost use Rattle.subscriptions.specs.DueIds.{Rises, is_among};
+ghost use Rattle.subscriptions.specs.Live.{query_at};
+ghost use Rattle.subscriptions.specs.Standing.{Stands};
+ghost use Rattle.mesh_hub.specs.Greatest.{AreUpTo};
 
+use crate::held::{LawfulStore, fault_of};
 use crate::machine::Machine;
+use batch_laws::laws::same_view_sends_nothing;
 use bytes::Bytes;
+use event_laws::laws::events_keep_lawful;
 use feed_history::frames::frames_within;
 use feed_history::refusal::{HubFault, NoSuchId};
-use mesh_base::key::{Kind, ObjKey};
 use mesh_base::limits::Limits;
 use mesh_base::list::List;
 use mesh_base::memory::Memory;
 use mesh_base::steps::Steps;
 use mesh_base::sub_id::SubId;
 use mesh_outside::Patterns;
-use object_store::change::StoreFault;
-use object_store::store::Store;
 use policy_rows::snapshot::Snapshot;
 use request_sim::decide::decide;
 use request_sim::fault::SimFault;
+use row_reads::at_mark::Reader;
 use std::alloc::Global;
-use std::marker::Model;
-use std::mem;
+use subscriptions::live::Subscription;
+use subscriptions::subscribers::Subscribers;
 use view_diff::views::batch;
 use view_scratch::inbound::inbound;
 use view_scratch::scratch::scratch;
 use view_types::config::Config;
+use view_types::message::Message;
 use view_types::object::Object;
 use view_types::query::Query;
 use view_types::request::Request;
@@ -37,71 +45,22 @@ use view_types::verdict::Verdict;
 use view_types::view::View;
 use watch_events::event::Event;
 
-/// A live subscription.
-#[derive(Drop)]
-struct Subscription {
-    id: SubId,
-    query: Query,
-    /// The view that its subscriber was last shown, if it was drained. Its rows are in order.
-    shown: Option<View>,
-}
-
-impl Model for Subscription {
-    ghost use Rattle.std.specs.Coded.{codes};
-    ghost use Rattle.view_rules.specs.Fold.{IsOrderlyIfShown};
-    ghost use Rattle.view_types.specs.contracts.query.Query as the_query;
-    ghost use Rattle.view_types.specs.contracts.view.View as the_view;
-    ghost use Rattle.mesh_hub.specs.Subscriptions.{LiveSubscription};
-
-    ghost Value = { LiveSubscription };
-
-    ghost coded = { Prim.hlevel (codes, the_query.the_row.coded, the_view.the_row.coded) };
-
-    ghost view = { λ sub. record { id = sub.id; query = sub.query; shown = sub.shown } };
-
-    ghost invariant = { λ sub. IsOrderlyIfShown sub.shown };
-}
-
-impl Subscription {
-    fn new(id: SubId, query: Query) -> Subscription
-        ensures { result ≡ record { id = id; query = query; shown = None } }
-    {
-        Subscription {
-            id,
-            query,
-            shown: None,
-        }
-    }
-
-    fn id(&self) -> u32
-        ensures { result ≡ self.now.id.0 }
-    {
-        self.id.0
-    }
-
-    // Notes the view that its subscriber was shown.
-    fn show(&mut self, view: View)
-        requires { IsOrderlyIfShown (Some view) }
-        ensures { self.new ≡ record self.old { shown = Some view } }
-    {
-        self.shown = Some(view);
-    }
-}
-
 /// The objects held and the live subscriptions.
 pub struct Hub {
     alloc: Global,
     config: Config,
     limits: Limits,
-    store: Store,
-    /// In the order of their ids.
-    subs: List<Subscription>,
+    store: LawfulStore,
+    subscribers: Subscribers,
     /// The greatest id that was accepted.
     last: Option<u32>,
     /// Memory ran out once.
     spent: bool,
     ghost some_addresses: { 1 ≤ limits.frame_addrs },
     ghost room: { store.limit ≡ limits.objects },
+    ghost up_to: { AreUpTo last subscribers.subs },
+    ghost going: { spent ≡ false → store.spent ≡ false },
+    ghost stands: { spent ≡ false → Stands config store.objects subscribers } by { Prim.hlevel (codes, the_view.the_row.coded) },
 }
 
 /// Written by hand, so that a crate that drops a hub needs no proof of what is in it.
@@ -112,7 +71,7 @@ impl Drop for Hub {
             config: _config,
             limits: _,
             store: _store,
-            subs: _subs,
+            subscribers: _subscribers,
             last: _,
             spent: _,
         } = self;
@@ -120,37 +79,55 @@ impl Drop for Hub {
 }
 
 impl Hub {
-    ghost use Rattle.mesh_hub.specs.Hub.{Answers, Cancels, answer_of, applied, apply_refusal, drained, frames_at, fresh, id_of, is_live, new_refusal, state_of, sub_at, subscribed, Simulates};
+    ghost use Rattle.mesh_hub.specs.Due.{IdlesUnlessDue, IsUndueUnlessMemory, StaysDue, StaysDueOr, Undue, is_due};
+    ghost use Rattle.mesh_hub.specs.Hub.{Answers, Cancels, answer_of, applied, apply_refusal, drained, frames_at, fresh, is_live, new_refusal, state_of, sub_at, subscribed, Simulates};
     ghost use Rattle.mesh_hub.specs.Replies.{MayApply, MayDrain, MaySubscribe};
-    ghost use Rattle.feed_history.specs.Ids.{StandsAt};
-    ghost use Rattle.mesh_hub.specs.Sending.{Ends, IsDueOrTooLong, Shows};
+    ghost use Rattle.mesh_hub.specs.Sending.{IsDueOrTooLong};
     ghost use Rattle.watch_events.specs.Lawful.{IsLawfulEvent};
-    ghost use Rattle.watch_events.specs.declared.event.Event.TheVariants.{Delete, Relist, Set};
 
     /// Nothing is held or asked for.
     pub fn new(alloc: Global, config: Config, limits: Limits) -> Result<Hub, Memory>
         requires { 1 ≤ limits.frame_addrs }
-        ensures { IfOk result (λ hub. state_of hub ≡ fresh config limits) }
+        ensures state { IfOk result (λ hub. state_of hub ≡ fresh config limits) }
+        ensures due { IfOk result (λ hub. (id : ℕ) → is_due hub id ≡ false) }
     {
         Ok(Hub::empty(alloc, config, limits))
     }
 
-    /// Does what a watch event says. `Full` comes where more objects would be held than may be.
-    pub fn apply<L>(&mut self, event: Event, _steps: &mut Steps<L>) -> Result<(), HubFault>
+    /// Does what a watch event says. `Full` comes where more objects would be held than may be. Those subscriptions become due
+    /// whose queries read a mark of the event before it.
+    pub fn apply<L>(&mut self, event: Event, steps: &mut Steps<L>) -> Result<(), HubFault>
         requires { IsLawfulEvent event }
         ensures answers { Answers (state_of self.old)
             (answer_of (apply_refusal (state_of self.old) event))
             (applied (state_of self.old) event) result (state_of self.new) }
         ensures may { MayApply result }
+        ensures due { StaysDueOr (λ id. is_touched self.old.config self.old.store.objects event
+            (query_at id self.old.subscribers.subs)) result self.old self.new }
     {
         if self.spent {
             return Err(HubFault::Memory);
         }
-        match event {
-            Event::Set(object) => self.set(object),
-            Event::Delete(key) => self.delete(&key),
-            Event::Relist { kind, items } => self.relist(kind, items),
-            Event::Bookmark => Ok(()),
+        events_keep_lawful();
+        let _held = self.store.get();
+        let change = match self.store.change(self.alloc, event) {
+            Ok(change) => change,
+            Err(fault) => return Err(fault_of(&mut self.spent, fault)),
+        };
+        let reader = Reader {
+            alloc: self.alloc,
+            config: &self.config,
+            store: self.store.get(),
+        };
+        match self
+            .subscribers
+            .follow(&reader, change.marks.as_slice(), steps)
+        {
+            Ok(()) => Ok(()),
+            Err(_) => {
+                self.spent = true;
+                Err(HubFault::Memory)
+            }
         }
     }
 
@@ -160,12 +137,13 @@ impl Hub {
         &mut self,
         id: SubId,
         query: Query,
-        _steps: &mut Steps<L>,
+        steps: &mut Steps<L>,
     ) -> Result<(), HubFault>
         ensures answers { Answers (state_of self.old)
             (answer_of (new_refusal (state_of self.old) id.0))
             (subscribed (state_of self.old) id query) result (state_of self.new) }
         ensures may { MaySubscribe result }
+        ensures due { StaysDueOr (λ n. nat_eq n id.0) result self.old self.new }
     {
         if self.spent {
             return Err(HubFault::Memory);
@@ -175,40 +153,72 @@ impl Hub {
                 return Err(HubFault::IdOrder { last });
             }
         }
-        if self.subs.len() == self.limits.subs as usize {
+        if self.subscribers.len() == self.limits.subs as usize {
             return Err(HubFault::TooManySubs {
                 live: self.limits.subs,
             });
         }
-        self.make_live(id, query)
+        self.make_live(id, query, steps)
     }
 
     /// Ends a live subscription. It takes no memory, and a spent hub does it too.
     pub fn cancel(&mut self, id: SubId) -> Result<(), NoSuchId>
-        ensures { Cancels id.0 (state_of self.old) result (state_of self.new) }
+        ensures state { Cancels id.0 (state_of self.old) result (state_of self.new) }
+        ensures due { Undue id.0 self.old self.new }
     {
-        let Some(place) = self.place_of(id.0) else {
-            return Err(NoSuchId);
-        };
-        self.end(place);
-        Ok(())
+        if self.subscribers.end(id) {
+            Ok(())
+        } else {
+            Err(NoSuchId)
+        }
     }
 
     /// The frames that bring a subscriber from the view that it was last shown to that of what is held now. `NoSuchId`
     /// comes where the id isn't live, and `Oversize` where a message is longer than may be; it tells the first such
-    /// length, and the subscription has ended.
+    /// length, and the subscription has ended. For an id that isn't due there are none: that takes no memory.
     pub fn drain(&mut self, id: SubId) -> Result<List<Bytes>, HubFault>
         ensures answers { Answers (state_of self.old) (frames_at (state_of self.old) id.0)
             (drained (state_of self.old) id.0) result (state_of self.new) }
         ensures may { MayDrain id result }
+        ensures due { IsUndueUnlessMemory id.0 result self.old self.new }
+        ensures idle { IdlesUnlessDue id.0 self.old result self.new }
     {
         if self.spent {
             return Err(HubFault::Memory);
         }
-        let Some(at) = self.place_of(id.0) else {
+        same_view_sends_nothing();
+        let Some(sub) = self.subscribers.get(id) else {
             return Err(HubFault::NoSuchId { id: id.0 });
         };
-        self.send(id, at)
+        if !self.subscribers.is_due(id) {
+            return Ok(List::new(self.alloc));
+        }
+        match self.next_batch(sub) {
+            Ok((view, frames)) => {
+                self.subscribers.show(id, view);
+                Ok(frames)
+            }
+            Err(HubFault::Oversize { bytes }) => {
+                self.subscribers.end(id);
+                Err(HubFault::Oversize { bytes })
+            }
+            Err(_) => {
+                self.spent = true;
+                Err(HubFault::Memory)
+            }
+        }
+    }
+
+    /// The live subscriptions that were never drained, or whose queries read a mark of an event since their last drain, in the
+    /// order of their ids. After Memory there are none.
+    pub fn due(&self) -> &[SubId]
+        ensures each { (id : ℕ) → is_among id result.now ≡ is_due self.now id }
+        ensures rise { Rises result.now }
+    {
+        if self.spent {
+            return &[];
+        }
+        self.subscribers.due()
     }
 
     /// What comes of a request to a port of a Pod, by the policy that is held. It changes no view and no subscription. `Pattern` comes
@@ -222,6 +232,7 @@ impl Hub {
         ensures answers { Simulates (facts_of P.Patterns patterns.old) request.now result
             (state_of self.old) (state_of self.new) }
         ensures asks { AsksPatterns P.Patterns patterns.old patterns.new (MetPattern result) }
+        ensures due { StaysDue self.old self.new }
     {
         if self.spent {
             return Err(SimFault::Memory);
@@ -249,12 +260,10 @@ impl Hub {
             (facts_of P.Patterns patterns.old) request.now result }
         ensures asks { AsksPatterns P.Patterns patterns.old patterns.new (MetPattern result) }
     {
-        // The decision rests on it that each object stands at its own key.
-        self.store.stand_at_keys();
         let from = Snapshot {
             alloc: self.alloc,
             config: &self.config,
-            store: &self.store,
+            store: self.store.get(),
         };
         let Ok(view) = inbound(&from, &request.ns, &request.pod, request.port, steps) else {
             return Err(SimFault::Memory);
@@ -266,99 +275,60 @@ impl Hub {
     pub fn objects(&self) -> &[Object]
         ensures { result.now ≡ values (state_of self.now).objects }
     {
-        self.store.all()
+        self.store.get().all()
     }
 
     /// Whether a subscription is live under the id.
     pub fn is_live(&self, id: SubId) -> bool
-        ensures { result ≡ is_live id.0 self.now.subs }
+        ensures { result ≡ is_live id.0 (state_of self.now).subs }
     {
-        self.place_of(id.0).is_some()
-    }
-
-    // Where the subscription of the id stands, if it is live.
-    fn place_of(&self, id: u32) -> Option<usize>
-        ensures { MatchOption result (sub_at id self.now.subs ≡ None) (StandsAt id_of id self.now.subs) }
-    {
-        first_of(self.subs.as_slice(), id)
+        self.subscribers.get(id).is_some()
     }
 
     fn empty(alloc: Global, config: Config, limits: Limits) -> Hub
         requires { 1 ≤ limits.frame_addrs }
-        ensures { state_of result ≡ fresh config limits }
+        ensures state { state_of result ≡ fresh config limits }
+        ensures due { (id : ℕ) → is_due result id ≡ false }
     {
         Hub {
             alloc,
             config,
             limits,
-            store: Store::new(alloc, limits.objects),
-            subs: List::new(alloc),
+            store: LawfulStore::new(alloc, limits.objects),
+            subscribers: Subscribers::new(alloc),
             last: None,
             spent: false,
         }
     }
 
-    fn set(&mut self, object: Object) -> Result<(), HubFault>
-        requires { self.old.spent ≡ false }
-        ensures answers { Answers (state_of self.old)
-            (answer_of (apply_refusal (state_of self.old) (Set object)))
-            (applied (state_of self.old) (Set object)) result (state_of self.new) }
-        ensures may { MayApply result }
-    {
-        match self.store.set(object) {
-            Ok(_) => Ok(()),
-            Err(StoreFault::Full { held }) => Err(HubFault::Full { held }),
-            Err(StoreFault::Memory) => {
-                self.spent = true;
-                Err(HubFault::Memory)
-            }
-        }
-    }
-
-    fn delete(&mut self, key: &ObjKey) -> Result<(), HubFault>
-        requires { self.old.spent ≡ false }
-        ensures answers { Answers (state_of self.old)
-            (answer_of (apply_refusal (state_of self.old) (Delete key.now)))
-            (applied (state_of self.old) (Delete key.now)) result (state_of self.new) }
-        ensures may { MayApply result }
-    {
-        match self.store.remove(key) {
-            Ok(_) => Ok(()),
-            Err(_) => {
-                self.spent = true;
-                Err(HubFault::Memory)
-            }
-        }
-    }
-
-    fn relist(&mut self, kind: Kind, items: List<Object>) -> Result<(), HubFault>
-        requires going { self.old.spent ≡ false }
-        requires list { IsListOf kind items }
-        ensures answers { Answers (state_of self.old)
-            (answer_of (apply_refusal (state_of self.old) (Relist kind items)))
-            (applied (state_of self.old) (Relist kind items)) result (state_of self.new) }
-        ensures may { MayApply result }
-    {
-        match self.store.relist(kind, items) {
-            Ok(_) => Ok(()),
-            Err(StoreFault::Full { held }) => Err(HubFault::Full { held }),
-            Err(StoreFault::Memory) => {
-                self.spent = true;
-                Err(HubFault::Memory)
-            }
-        }
-    }
-
     // Makes a subscription live that is refused by nothing.
-    fn make_live(&mut self, id: SubId, query: Query) -> Result<(), HubFault>
+    fn make_live<L>(
+        &mut self,
+        id: SubId,
+        query: Query,
+        steps: &mut Steps<L>,
+    ) -> Result<(), HubFault>
         requires going { self.old.spent ≡ false }
         requires accepted { new_refusal (state_of self.old) id.0 ≡ None }
         ensures answers { Answers (state_of self.old)
             (answer_of (new_refusal (state_of self.old) id.0))
             (subscribed (state_of self.old) id query) result (state_of self.new) }
         ensures may { MaySubscribe result }
+        ensures due { StaysDueOr (λ n. nat_eq n id.0) result self.old self.new }
     {
-        match self.subs.add(Subscription::new(id, query)) {
+        let reader = Reader {
+            alloc: self.alloc,
+            config: &self.config,
+            store: self.store.get(),
+        };
+        let marks = match reader.query_reads(&query, steps) {
+            Ok(marks) => marks,
+            Err(_) => {
+                self.spent = true;
+                return Err(HubFault::Memory);
+            }
+        };
+        match self.subscribers.add(id, query, marks) {
             Ok(()) => {
                 self.last = Some(id.0);
                 Ok(())
@@ -370,38 +340,23 @@ impl Hub {
         }
     }
 
-    // Sends the subscriber of the id, who stands at the place, what it is due.
-    fn send(&mut self, id: SubId, at: usize) -> Result<List<Bytes>, HubFault>
-        requires going { self.old.spent ≡ false }
-        requires stands { StandsAt id_of id.0 self.old.subs at }
-        ensures answers { Answers (state_of self.old) (frames_at (state_of self.old) id.0)
-            (drained (state_of self.old) id.0) result (state_of self.new) }
-        ensures may { MayDrain id result }
-    {
-        match self.due(&self.subs.as_slice()[at]) {
-            Ok((view, frames)) => {
-                self.show(at, view);
-                Ok(frames)
-            }
-            Err(HubFault::Oversize { bytes }) => {
-                self.end(at);
-                Err(HubFault::Oversize { bytes })
-            }
-            Err(_) => {
-                self.spent = true;
-                Err(HubFault::Memory)
-            }
-        }
-    }
-
     // The view that a subscriber is to see, and the frames that bring it there.
-    fn due(&self, sub: &Subscription) -> Result<(View, List<Bytes>), HubFault>
+    fn next_batch(&self, sub: &Subscription) -> Result<(View, List<Bytes>), HubFault>
         ensures { IsDueOrTooLong (state_of self.now) sub.now result }
     {
         let view = self.view_of(&sub.query)?;
-        let messages = batch(self.alloc, sub.shown.as_ref(), &view, &self.limits)?;
+        let messages = self.messages_to(sub, &view)?;
         let frames = frames_within(self.alloc, self.limits.message, messages.as_slice())?;
         Ok((view, frames))
+    }
+
+    // The messages that bring a subscriber to a view.
+    fn messages_to(&self, sub: &Subscription, view: &View) -> Result<List<Message>, Memory>
+        requires { IsOrderlyIfShown (Some view.now) }
+        ensures { IfOk result (λ messages.
+            messages ≡ batch sub.now.shown view.now self.now.limits) }
+    {
+        batch(self.alloc, sub.shown.as_ref(), view, &self.limits)
     }
 
     // The view of a query. A drain is lent no counter, so it makes its own.
@@ -411,35 +366,14 @@ impl Hub {
         ensures orderly { IfOk result (λ view. IsOrderlyIfShown (Some view)) }
     {
         let mut steps = Steps::<Hub>::new();
-        scratch(self.alloc, &self.store, &self.config, query, &mut steps)
+        scratch(
+            self.alloc,
+            self.store.get(),
+            &self.config,
+            query,
+            &mut steps,
+        )
     }
-
-    // Notes the view that the subscriber at a place was shown.
-    fn show(&mut self, at: usize, view: View)
-        requires within { at < length self.old.subs }
-        requires orderly { IsOrderlyIfShown (Some view) }
-        ensures { Shows at view (state_of self.old) (state_of self.new) }
-    {
-        let mut subs = mem::replace(&mut self.subs, List::new(self.alloc)).into_vec();
-        subs[at].show(view);
-        self.subs = List::from_vec(subs);
-    }
-
-    // Ends the subscription at a place.
-    fn end(&mut self, at: usize)
-        requires { at < length self.old.subs }
-        ensures { Ends at (state_of self.old) (state_of self.new) }
-    {
-        let mut subs = mem::replace(&mut self.subs, List::new(self.alloc)).into_vec();
-        subs.remove(at);
-        self.subs = List::from_vec(subs);
-    }
-}
-
-fn first_of(subs: &[Subscription], id: u32) -> Option<usize>
-    ensures { result ≡ position_from (λ sub. sub.id.0 == id) 0 subs.now }
-{
-    subs.iter().position(|sub| sub.id() == id)
 }
 
 impl Machine for Hub {

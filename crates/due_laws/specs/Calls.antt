@@ -1,0 +1,46 @@
+-- Who is due after any calls on a new hub. A call is told as the line that asks for it; the newest stands first.
+use Rattle.std.specs.Prelude.{◌≡◌, ◌&&◌, ◌||◌, not, nat_eq, ℕ, Bool, false, List, [], ◌∷◌, if◌then◌else◌, is_some}
+use Rattle.std.specs.List.{AllByRecursion}
+use Rattle.mesh_base.specs.declared.limits.Limits.{Limits}
+use Rattle.view_types.specs.declared.config.Config.{Config}
+use Rattle.watch_events.specs.Lawful.{IsLawfulLine}
+use Rattle.watch_events.specs.declared.line.Line.{Line}
+use Rattle.watch_events.specs.declared.line.Line.TheVariants as lines
+use Rattle.feed_history.specs.Due.{is_due, is_touched}
+use Rattle.feed_history.specs.History.{after}
+use Rattle.feed_history.specs.Lawful.{ReadsLawfully}
+use Rattle.feed_history.specs.Marks.{MarkedRow}
+use Rattle.feed_history.specs.Program.{Program}
+use Rattle.subscriptions.specs.Live.{query_at}
+use Rattle.mesh_hub.specs.Calls.{called_all}
+use Rattle.mesh_hub.specs.Hub.{HubState, apply_refusal, new_refusal}
+use Rattle.mesh_hub.specs.HubAfter.{seen}
+
+-- whether an id is due after a call that doesn't run out of memory, by whether it was before: what the hub's calls say of it
+abbrev pub due_called : HubState → Line → ℕ → Bool → Bool
+due_called now (lines.Event event) id before = if is_some (apply_refusal now event) then before else is_touched now.config now.objects event (query_at id now.subs) || before
+due_called now (lines.Subscribe asked query) id before = if is_some (new_refusal now asked.0) then before else nat_eq id asked.0 || before
+due_called now (lines.Cancel asked) id before = not (nat_eq id asked.0) && before
+due_called now (lines.Drain asked) id before = not (nat_eq id asked.0) && before
+due_called now (lines.Simulate request) id before = before
+due_called now lines.Blank id before = before
+due_called now lines.Stop id before = before
+
+abbrev pub due_called_all : Config → Limits → List Line → ℕ → Bool
+due_called_all config limits [] id = false
+due_called_all config limits (call ∷ past) id = due_called (called_all config limits past) call id (due_called_all config limits past id)
+
+-- Some program with this configuration and these limits, what it reads lawful, leads to the hub after some rows, and the same ids are
+-- due looking back through them.
+pub record IsDueHistory (config : Config) (limits : Limits) (calls : List Line) : Type 0 where
+  pub program : Program
+  pub past : List MarkedRow
+  pub same_config : program.config ≡ config
+  pub same_limits : program.limits ≡ limits
+  pub lawfully : ReadsLawfully program
+  pub leads : called_all config limits calls ≡ seen program (after program past)
+  pub due : (id : ℕ) → due_called_all config limits calls id ≡ is_due program past id
+
+-- So it is after any lawful calls.
+abbrev pub CallsAreDueHistories : Type 0
+CallsAreDueHistories = (config : Config) (limits : Limits) (calls : List Line) → AllByRecursion IsLawfulLine calls → IsDueHistory config limits calls
