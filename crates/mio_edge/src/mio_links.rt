@@ -1,0 +1,389 @@
+// Links over sockets.
+ghost use Rattle.std.specs.Prelude.{◌≡◌, ◌≢◌, ◌+◌, ◌-◌, ◌^◌, ◌<◌, ◌≤◌, ℕ, Ok, Err, Some, None, List, IfOk, OnErr, IsErrOf, length, vec_len, vec_capacity};
+ghost use Rattle.std.specs.Io.{ReadsAtMost, WritesAtMost};
+ghost use Rattle.std.specs.Net.Grammar.{IsSocketText};
+ghost use Rattle.std.specs.declared.net.socket_addr.SocketAddr.{SocketAddr};
+ghost use Rattle.mesh_outside.specs.Causes.{counted};
+ghost use Rattle.mio.specs.Events.{items, capacity as events_capacity};
+ghost use Rattle.mesh_links.specs.Calls.{AreNew, Continues, close_made, poll_made, read_made, write_made};
+ghost use Rattle.mesh_links.specs.Counts.{KeptInCall, KeptInPoll, NoneFalls};
+ghost use Rattle.mesh_links.specs.declared.call.LinkCall.{LinkCall};
+ghost use Rattle.mio_edge.specs.Answers.{counts_of, is_failed, is_pending, is_poll_failed};
+ghost use Rattle.mio_edge.specs.Numbers.{Numbered};
+
+use crate::open_links::{OpenLink, place};
+use crate::ready::{Accepting, LISTENER, has_listener, limit, show_all, wait_for};
+use mesh_base::list::List;
+use mesh_links::call::LinkEvent;
+use mesh_links::links::{LinkFault, Links, PollFault};
+use mio::net::{TcpListener, TcpStream};
+use mio::{Events, Interest, Poll, Registry, Token};
+use std::alloc::{AllocError, Global};
+use std::io::{self, ErrorKind, Read, Write};
+use std::net::{AddrParseError, Net, SocketAddr};
+use std::sync::Wait;
+
+/// The most events of one poll.
+const MOST_SHOWN: usize = 1024;
+
+/// The most connections that one poll accepts, so that open links are polled too.
+const MOST_NEW: usize = 64;
+
+/// The most sockets that one poll asks about. Each has two events at most, and there is room for new links beside them.
+const MOST_READY: usize = 480;
+
+/// Why there is no listener.
+#[derive(Clone, Copy, Debug, PartialEq, Eq)]
+pub enum ListenFault {
+    Memory,
+    /// The text isn't an address, or the system refused it.
+    Failed,
+}
+
+impl From<AllocError> for ListenFault {
+    fn from(_e: AllocError) -> ListenFault {
+        ListenFault::Memory
+    }
+}
+
+impl From<AddrParseError> for ListenFault {
+    fn from(_e: AddrParseError) -> ListenFault {
+        ListenFault::Failed
+    }
+}
+
+impl From<io::Error> for ListenFault {
+    fn from(_e: io::Error) -> ListenFault {
+        ListenFault::Failed
+    }
+}
+
+/// Links over the connections of a listener.
+#[derive(Drop)]
+pub struct MioLinks<'r, R> {
+    rt: &'r R,
+    alloc: Global,
+    poll: Poll,
+    ready: Events,
+    listener: TcpListener,
+    accepting: Accepting,
+    /// Those that are open, by number.
+    links: Vec<OpenLink>,
+    /// The number of the newest link, or 0.
+    last: u32,
+    /// The failures of polls, and of reads and writes of all links.
+    faults: u64,
+    /// The reads and writes of all links that were answered Pending.
+    pendings: u64,
+    ghost few: { events_capacity ready ≡ 480 },
+}
+
+impl<'r, R: Net + Wait> MioLinks<'r, R> {
+    /// Listens at an address with a port, as `127.0.0.1:8086`.
+    pub fn listen(rt: &'r R, alloc: Global, address: &str) -> Result<MioLinks<'r, R>, ListenFault>
+        ensures address { IfOk result (λ links.
+            (at : SocketAddr) × IsSocketText address.now at) }
+        ensures counts { IfOk result (λ links. ⟦<MioLinks<'r, R> as Links>⟧.counts links
+            ≡ counts_of 0 0) }
+        ensures first { IfOk result (λ links. links.last ≡ 0) }
+    {
+        let at: SocketAddr = address.parse()?;
+        let ready = Events::with_capacity(alloc, MOST_READY)?;
+        let poll = Poll::new(rt)?;
+        let mut listener = TcpListener::bind(rt, at)?;
+        poll.registry()
+            .register(&mut listener, LISTENER, Interest::READABLE)?;
+        Ok(MioLinks {
+            rt,
+            alloc,
+            poll,
+            ready,
+            listener,
+            accepting: Accepting::Now,
+            links: Vec::new(alloc),
+            last: 0,
+            faults: 0,
+            pendings: 0,
+        })
+    }
+}
+
+impl<'r, R> MioLinks<'r, R> {
+    // A failure, counted.
+    fn failed(&mut self) -> LinkFault
+        ensures faults { self.new.faults ≡ counted (is_failed (Err result)) self.old.faults }
+        ensures pendings { self.new.pendings ≡ counted (is_pending (Err result)) self.old.pendings }
+        ensures later { (self.old.faults ≤ self.new.faults) × (self.old.pendings ≤ self.new.pendings) }
+        ensures none { result ≢ LinkFault.Memory }
+    {
+        self.faults = self.faults.saturating_add(1);
+        LinkFault::Failed
+    }
+
+    // An answer Pending, counted.
+    fn pending(&mut self) -> LinkFault
+        ensures faults { self.new.faults ≡ counted (is_failed (Err result)) self.old.faults }
+        ensures pendings { self.new.pendings ≡ counted (is_pending (Err result)) self.old.pendings }
+        ensures later { (self.old.faults ≤ self.new.faults) × (self.old.pendings ≤ self.new.pendings) }
+        ensures none { result ≢ LinkFault.Memory }
+    {
+        self.pendings = self.pendings.saturating_add(1);
+        LinkFault::Pending
+    }
+
+    // Has the next poll show a link again if it is ready.
+    fn show_again(&mut self, at: usize) -> bool
+        requires { at < vec_len self.old.links }
+        ensures faults { self.new.faults ≡ self.old.faults }
+        ensures pendings { self.new.pendings ≡ self.old.pendings }
+    {
+        let link = &mut self.links[at];
+        let token = Token(link.number as usize);
+        let registry = self.poll.registry();
+        registry
+            .reregister(
+                &mut link.stream,
+                token,
+                Interest::READABLE | Interest::WRITABLE,
+            )
+            .is_ok()
+    }
+
+    // Why a link gave nothing. A signal is no failure: the link is still ready, and so that this isn't lost it is shown again.
+    fn fault(&mut self, at: usize, kind: ErrorKind) -> LinkFault
+        requires { at < vec_len self.old.links }
+        ensures faults { self.new.faults ≡ counted (is_failed (Err result)) self.old.faults }
+        ensures pendings { self.new.pendings ≡ counted (is_pending (Err result)) self.old.pendings }
+        ensures later { (self.old.faults ≤ self.new.faults) × (self.old.pendings ≤ self.new.pendings) }
+        ensures none { result ≢ LinkFault.Memory }
+    {
+        if kind == ErrorKind::WouldBlock {
+            return self.pending();
+        }
+        if kind == ErrorKind::Interrupted && self.show_again(at) {
+            return self.pending();
+        }
+        self.failed()
+    }
+
+    // Accepts the connections that wait, each as a new link.
+    fn accept_all(&mut self, shown: &mut Vec<LinkEvent>)
+        requires links { vec_len self.old.links + 64 ≤ vec_capacity self.old.links }
+        requires room { vec_len shown.old + 64 ≤ vec_capacity shown.old }
+        ensures len { vec_len shown.new ≤ vec_len shown.old + 64 }
+        ensures capacity { vec_capacity shown.new ≡ vec_capacity shown.old }
+        ensures numbered { (first : ℕ) → Numbered first self.old.last shown.old.items
+            → Numbered first self.new.last shown.new.items }
+        ensures ready { self.new.ready ≡ self.old.ready }
+        ensures faults { self.new.faults ≡ self.old.faults }
+        ensures pendings { self.new.pendings ≡ self.old.pendings }
+    {
+        if has_listener(&self.ready) {
+            self.accepting = Accepting::Now;
+        }
+        for _ in 0..MOST_NEW {
+            if !self.accept(shown) {
+                return;
+            }
+        }
+    }
+
+    // Accepts one connection, and tells whether another may be waiting. None is accepted once the numbers are used up.
+    fn accept(&mut self, shown: &mut Vec<LinkEvent>) -> bool
+        requires links { vec_len self.old.links < vec_capacity self.old.links }
+        requires room { vec_len shown.old < vec_capacity shown.old }
+        ensures links { vec_len self.new.links ≤ vec_len self.old.links + 1 }
+        ensures links_room { vec_capacity self.new.links ≡ vec_capacity self.old.links }
+        ensures len { vec_len shown.new ≤ vec_len shown.old + 1 }
+        ensures capacity { vec_capacity shown.new ≡ vec_capacity shown.old }
+        ensures numbered { (first : ℕ) → Numbered first self.old.last shown.old.items
+            → Numbered first self.new.last shown.new.items }
+        ensures ready { self.new.ready ≡ self.old.ready }
+        ensures faults { self.new.faults ≡ self.old.faults }
+        ensures pendings { self.new.pendings ≡ self.old.pendings }
+    {
+        if self.accepting == Accepting::AtEvent {
+            return false;
+        }
+        if self.last == u32::MAX {
+            self.accepting = Accepting::AtEvent;
+            return false;
+        }
+        match self.listener.accept() {
+            Ok((stream, _)) => {
+                self.accepting = Accepting::Now;
+                self.add(stream, shown);
+                true
+            }
+            Err(error) => self.accept_later(error.kind()),
+        }
+    }
+
+    // Says when to accept again after an error, and whether at once. The connection that it was about is gone if it was aborted;
+    // if there are too many open files, say, it is still waiting.
+    fn accept_later(&mut self, kind: ErrorKind) -> bool
+        ensures links { self.new.links ≡ self.old.links }
+        ensures last { self.new.last ≡ self.old.last }
+        ensures ready { self.new.ready ≡ self.old.ready }
+        ensures faults { self.new.faults ≡ self.old.faults }
+        ensures pendings { self.new.pendings ≡ self.old.pendings }
+    {
+        if kind == ErrorKind::ConnectionAborted {
+            return true;
+        }
+        self.accepting = if kind == ErrorKind::WouldBlock {
+            Accepting::AtEvent
+        } else {
+            Accepting::Soon
+        };
+        false
+    }
+
+    // Makes a connection a link. One that the system doesn't watch is dropped, and so closed.
+    fn add(&mut self, stream: TcpStream, shown: &mut Vec<LinkEvent>)
+        requires number { self.old.last < 2 ^ 32 - 1 }
+        requires links { vec_len self.old.links < vec_capacity self.old.links }
+        requires room { vec_len shown.old < vec_capacity shown.old }
+        ensures links { vec_len self.new.links ≤ vec_len self.old.links + 1 }
+        ensures links_room { vec_capacity self.new.links ≡ vec_capacity self.old.links }
+        ensures len { vec_len shown.new ≤ vec_len shown.old + 1 }
+        ensures capacity { vec_capacity shown.new ≡ vec_capacity shown.old }
+        ensures numbered { (first : ℕ) → Numbered first self.old.last shown.old.items
+            → Numbered first self.new.last shown.new.items }
+        ensures ready { self.new.ready ≡ self.old.ready }
+        ensures faults { self.new.faults ≡ self.old.faults }
+        ensures pendings { self.new.pendings ≡ self.old.pendings }
+    {
+        let mut stream = stream;
+        let number = self.last + 1;
+        if is_watched(self.poll.registry(), &mut stream, number) {
+            self.open(OpenLink { number, stream }, shown);
+        }
+    }
+
+    // Opens a link, and shows it as new.
+    fn open(&mut self, link: OpenLink, shown: &mut Vec<LinkEvent>)
+        requires number { self.old.last < link.number }
+        requires links { vec_len self.old.links < vec_capacity self.old.links }
+        requires room { vec_len shown.old < vec_capacity shown.old }
+        ensures links { vec_len self.new.links ≡ vec_len self.old.links + 1 }
+        ensures links_room { vec_capacity self.new.links ≡ vec_capacity self.old.links }
+        ensures len { vec_len shown.new ≡ vec_len shown.old + 1 }
+        ensures capacity { vec_capacity shown.new ≡ vec_capacity shown.old }
+        ensures numbered { (first : ℕ) → Numbered first self.old.last shown.old.items
+            → Numbered first self.new.last shown.new.items }
+        ensures ready { self.new.ready ≡ self.old.ready }
+        ensures faults { self.new.faults ≡ self.old.faults }
+        ensures pendings { self.new.pendings ≡ self.old.pendings }
+    {
+        self.last = link.number;
+        shown.push_reserved(LinkEvent::New(link.number));
+        self.links.push_reserved(link);
+    }
+}
+
+// Has polls show a new link, without delay of small writes.
+fn is_watched(registry: &Registry, stream: &mut TcpStream, number: u32) -> bool {
+    stream.set_nodelay(true).is_ok()
+        && registry
+            .register(
+                stream,
+                Token(number as usize),
+                Interest::READABLE | Interest::WRITABLE,
+            )
+            .is_ok()
+}
+
+impl<'r, R: Wait> Links for MioLinks<'r, R> {
+    ghost trace = { λ m. None };
+
+    ghost counts = { λ m. counts_of m.faults m.pendings };
+
+    fn poll(&mut self, wait: bool) -> Result<List<LinkEvent>, PollFault>
+        ensures few { IfOk result (λ events. length events ≤ 1024) }
+        ensures fresh { (t : List LinkCall) → None ≡ Some t → IfOk result (λ events. AreNew t events) }
+        ensures traced { Continues None None (λ t. poll_made wait result) }
+        ensures cause { KeptInPoll (counts_of self.old.faults self.old.pendings)
+            (counts_of self.new.faults self.new.pendings) result }
+        ensures numbered { IfOk result (λ events. Numbered self.old.last self.new.last events) }
+        ensures last { OnErr result (self.new.last ≡ self.old.last) }
+
+        // Failures alone are counted.
+        ensures faults { self.new.faults ≡ counted (is_poll_failed result) self.old.faults }
+        ensures pendings { self.new.pendings ≡ self.old.pendings }
+    {
+        let Ok(mut shown) = Vec::with_capacity(self.alloc, MOST_SHOWN) else {
+            return Err(PollFault::Memory);
+        };
+        if self.links.reserve(MOST_NEW).is_err() {
+            return Err(PollFault::Memory);
+        }
+        let limit = limit(wait, self.accepting);
+        if wait_for(self.rt, &mut self.poll, &mut self.ready, limit).is_err() {
+            self.faults = self.faults.saturating_add(1);
+            return Err(PollFault::Failed);
+        }
+        self.accept_all(&mut shown);
+        show_all(&self.ready, &mut shown);
+        Ok(List::from_vec(shown))
+    }
+
+    fn read(&mut self, link: u32, buf: &mut [u8]) -> Result<usize, LinkFault>
+        ensures bound { ReadsAtMost result buf.new }
+        ensures traced { Continues None None (λ t. read_made link (length buf.old) result buf.new) }
+        ensures cause { KeptInCall link (counts_of self.old.faults self.old.pendings)
+            (counts_of self.new.faults self.new.pendings) result }
+
+        // Failures and answers Pending alone are counted, and no memory is taken.
+        ensures faults { self.new.faults ≡ counted (is_failed result) self.old.faults }
+        ensures pendings { self.new.pendings ≡ counted (is_pending result) self.old.pendings }
+        ensures none { ¬ (IsErrOf result LinkFault.Memory) }
+    {
+        let Some(at) = place(self.links.as_slice(), link) else {
+            return Err(self.failed());
+        };
+        match self.links[at].stream.read(buf) {
+            Ok(n) => Ok(n),
+            Err(error) => Err(self.fault(at, error.kind())),
+        }
+    }
+
+    fn write(&mut self, link: u32, piece: &[u8]) -> Result<usize, LinkFault>
+        ensures bound { WritesAtMost result piece.now }
+        ensures some { 0 < length piece.now → result ≢ Ok 0 }
+        ensures traced { Continues None None (λ t. write_made link piece.now result) }
+        ensures cause { KeptInCall link (counts_of self.old.faults self.old.pendings)
+            (counts_of self.new.faults self.new.pendings) result }
+
+        // Failures and answers Pending alone are counted, and no memory is taken.
+        ensures faults { self.new.faults ≡ counted (is_failed result) self.old.faults }
+        ensures pendings { self.new.pendings ≡ counted (is_pending result) self.old.pendings }
+        ensures none { ¬ (IsErrOf result LinkFault.Memory) }
+    {
+        let Some(at) = place(self.links.as_slice(), link) else {
+            return Err(self.failed());
+        };
+        match self.links[at].stream.write(piece) {
+            Ok(n) if n > 0 || piece.is_empty() => Ok(n),
+            Ok(_) => Err(self.failed()),
+            Err(error) => Err(self.fault(at, error.kind())),
+        }
+    }
+
+    fn close(&mut self, link: u32)
+        ensures traced { Continues None None (λ t. close_made t link) }
+        ensures cause { NoneFalls (counts_of self.old.faults self.old.pendings)
+            (counts_of self.new.faults self.new.pendings) }
+        ensures faults { self.new.faults ≡ self.old.faults }
+        ensures pendings { self.new.pendings ≡ self.old.pendings }
+    {
+        let Some(at) = place(self.links.as_slice(), link) else {
+            return;
+        };
+        let mut closed = self.links.remove(at);
+        let _ = self.poll.registry().deregister(&mut closed.stream);
+        if self.accepting == Accepting::Soon {
+            self.accepting = Accepting::Now;
+        }
+    }
+}

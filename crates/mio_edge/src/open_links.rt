@@ -1,0 +1,20 @@
+ghost use Rattle.std.specs.Prelude.{◌<◌, length, IfSome};
+
+use mio::net::TcpStream;
+
+/// A link that is open.
+#[derive(Drop)]
+pub(crate) struct OpenLink {
+    pub(crate) number: u32,
+    pub(crate) stream: TcpStream,
+}
+
+/// The place of a link among those that are open.
+pub(crate) fn place(links: &[OpenLink], link: u32) -> Option<usize>
+    ensures within { IfSome result (λ at. at < length links.now) }
+{
+    match links.binary_search_by_key(&link, |other| other.number) {
+        Ok(at) => Some(at),
+        Err(_) => None,
+    }
+}
