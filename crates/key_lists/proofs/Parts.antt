@@ -1,8 +1,9 @@
 -- A key put to the lists of one part, or taken from them, and the lists of all parts.
-use Rattle.std.proofs.Common.{◌≡◌, Bool, true, false, cond, not, ◌&&◌, ◌||◌, Option, Ordering, refl, ap, ◌∙◌}
+use Rattle.std.proofs.Common.{◌≡◌, Bool, true, false, cond, not, ◌&&◌, ◌||◌, Option, Some, None, Ordering, refl, sym, ap, subst, ◌∙◌}
 use Rattle.std.specs.BTreeMap.{BTreeMap, get, is_at}
 use Rattle.std.specs.Cmp.{IsTotalOrder}
 use Rattle.std.specs.Map.{lookup}
+use Rattle.std.specs.Option.{ForSome}
 use Rattle.std.specs.Ordering.{eq_by_cmp, is_eq}
 use Rattle.std.specs.declared.cmp.Ordering.TheVariants.{Less, Equal, Greater}
 
@@ -31,3 +32,26 @@ module _ {A X Y : Type 0} {cmp : A → A → Ordering} (order : IsTotalOrder cmp
       by : (b : Bool) → is_at (cmp a) q ≡ b → at (cond b w (get cmp before q)) y ≡ (not (b && touched y) && at (get cmp before q) y)
       by true e = gone y ∙ ap (λ found. not (touched y) && at found y) (tied q e)
       by false e = refl
+
+-- ---- what holds of all that is kept
+
+module _ {A X : Type 0} (cmp : A → A → Ordering) (P : X → Type 0) (before after : BTreeMap A X) (a : A) (w : Option X) (changed : (q : A) → get cmp after q ≡ cond (is_at (cmp a) q) w (get cmp before q)) where
+  -- it still holds of every other part
+  pub others_hold : ((q : A) → ForSome (get cmp before q) P) → (q : A) → eq_by_cmp cmp a q ≡ false → ForSome (get cmp after q) P
+  others_hold all q apart = subst (λ found. ForSome found P) (sym (changed q ∙ ap (λ b. cond b w (get cmp before q)) apart)) (all q)
+
+  -- it holds of all, if it does of what the part has now
+  pub all_hold : ForSome w P → ((q : A) → eq_by_cmp cmp a q ≡ false → ForSome (get cmp before q) P) → (q : A) → ForSome (get cmp after q) P
+  all_hold own others q = subst (λ found. ForSome found P) (sym (changed q)) (by (is_at (cmp a) q) refl)
+    where
+      by : (b : Bool) → is_at (cmp a) q ≡ b → ForSome (cond b w (get cmp before q)) P
+      by true e = own
+      by false e = others q e
+
+given : {X : Type 0} → Option X → X → X
+given None x = x
+given (Some y) x = y
+
+pub of_one : {X : Type 0} (P : X → Type 0) (x : X) → P x → ForSome (Some x) P
+unfolding given
+of_one P x p y is = subst P (ap (λ found. given found x) is) p

@@ -1,8 +1,9 @@
 -- Keys in lists, and at marks.
-use Rattle.std.specs.Prelude.{Bool, List, [], Option, Some, None}
+use Rattle.std.specs.Prelude.{◌≡◌, ◌<◌, length, Bool, false, List, [], Option, Some, None}
 use Rattle.std.specs.List.{list_any}
 use Rattle.std.specs.BTreeMap as tree
 use Rattle.std.specs.BTreeMap.{BTreeMap}
+use Rattle.std.specs.Option.{ForSome}
 use Rattle.std.specs.Ordering.{eq_by_cmp}
 use Rattle.std.specs.declared.cmp.Ordering.{Ordering}
 use Rattle.mesh_base.specs.KeyOrder.{key_cmp}
@@ -20,6 +21,10 @@ has_key k keys = list_any (eq_by_cmp key_cmp k) keys
 abbrev pub Rises : List ObjKey → Type 0
 Rises keys = IsKeyed key_cmp (λ k. k) (λ k. k) keys
 
+-- a list that is kept has a key
+abbrev pub HasKeys : Option (List ObjKey) → Type 0
+HasKeys kept = ForSome kept (λ keys. 0 < length keys)
+
 abbrev pub listed : Option (List ObjKey) → List ObjKey
 listed None = []
 listed (Some keys) = keys
@@ -33,6 +38,14 @@ module _ {M : Type 0} (cmp : M → M → Ordering) where
   abbrev pub key_at : BTreeMap M (List ObjKey) → M → ObjKey → Bool
   key_at by m k = has_key k (keys_at by m)
 
+  -- each list that is kept has a key
+  abbrev pub AllHaveKeys : BTreeMap M (List ObjKey) → Type 0
+  AllHaveKeys by = (m : M) → HasKeys (tree.get cmp by m)
+
+  -- each but that of this mark
+  abbrev pub OthersHaveKeys : M → BTreeMap M (List ObjKey) → Type 0
+  OthersHaveKeys mark by = (m : M) → eq_by_cmp cmp mark m ≡ false → HasKeys (tree.get cmp by m)
+
 -- lists at marks, by a part of the mark and the rest of it
 abbrev pub Nested : Type 0 → Type 0 → Type 0
 Nested A B = BTreeMap A (BTreeMap B (List ObjKey))
@@ -42,6 +55,10 @@ abbrev pub keys_within : {B : Type 0} → (B → B → Ordering) → Option (BTr
 keys_within cmp None b = []
 keys_within cmp (Some by) b = keys_at cmp by b
 
+-- a part that is kept has a list, and each of its lists has a key
+abbrev pub HasLists : {B : Type 0} → (B → B → Ordering) → Option (BTreeMap B (List ObjKey)) → Type 0
+HasLists cmp kept = ForSome kept (λ by. (0 < tree.btree_map_len by) × AllHaveKeys cmp by)
+
 module _ {A B : Type 0} (cmp_a : A → A → Ordering) (cmp_b : B → B → Ordering) where
   -- the keys at the two parts of a mark
   abbrev pub nested_keys : Nested A B → A → B → List ObjKey
@@ -50,6 +67,14 @@ module _ {A B : Type 0} (cmp_a : A → A → Ordering) (cmp_b : B → B → Orde
   -- the key stands at the two parts of a mark
   abbrev pub nested_at : Nested A B → A → B → ObjKey → Bool
   nested_at by a b k = has_key k (nested_keys by a b)
+
+  -- each part that is kept has lists with keys
+  abbrev pub AllHaveLists : Nested A B → Type 0
+  AllHaveLists by = (a : A) → HasLists cmp_b (tree.get cmp_a by a)
+
+  -- each but this part
+  abbrev pub OthersHaveLists : A → Nested A B → Type 0
+  OthersHaveLists part by = (a : A) → eq_by_cmp cmp_a part a ≡ false → HasLists cmp_b (tree.get cmp_a by a)
 
   -- the keys at two parts of a mark in what is kept for its kind, if anything is
   abbrev pub keys_among : Option (Nested A B) → A → B → List ObjKey
@@ -64,3 +89,7 @@ module _ {K A B : Type 0} (cmp_k : K → K → Ordering) (cmp_a : A → A → Or
   -- the key stands at the kind and the two parts of a mark
   abbrev pub key_by_kind : BTreeMap K (Nested A B) → K → A → B → ObjKey → Bool
   key_by_kind by kind a b k = has_key k (keys_by_kind by kind a b)
+
+  -- what is kept for each kind has lists with keys
+  abbrev pub AllKindsHaveLists : BTreeMap K (Nested A B) → Type 0
+  AllKindsHaveLists by = (kind : K) → ForSome (tree.get cmp_k by kind) (AllHaveLists cmp_a cmp_b)

@@ -2,7 +2,7 @@
 ghost use Rattle.std.specs.Prelude.{◌≡◌, ◌&&◌, ◌||◌, not, OnOk};
 ghost use Rattle.std.specs.Ordering.{eq_by_cmp};
 ghost use Rattle.mesh_base.specs.declared.key.ObjKey.{ObjKey};
-ghost use Rattle.key_lists.specs.Keys.{is_key, key_by_kind, keys_by_kind, Rises};
+ghost use Rattle.key_lists.specs.Keys.{AllKindsHaveLists, is_key, key_by_kind, keys_by_kind, Rises};
 
 use crate::key_list::KeyList;
 use crate::nested;
@@ -37,11 +37,13 @@ pub fn put_one<K: Ord + Copy, A: Ord + Copied, B: Ord + Copied>(
     b: &B,
     key: &ObjKey,
 ) -> Result<(), Memory>
-    ensures { OnOk result ((q : K) (x : A) (y : B) (k : ObjKey)
+    ensures put { OnOk result ((q : K) (x : A) (y : B) (k : ObjKey)
         → key_by_kind K.cmp A.cmp B.cmp by.new q x y k
         ≡ ((eq_by_cmp K.cmp kind q
         && (eq_by_cmp A.cmp a.now x && (eq_by_cmp B.cmp b.now y && is_key k key.now)))
         || key_by_kind K.cmp A.cmp B.cmp by.old q x y k)) }
+    ensures kept { AllKindsHaveLists K.cmp A.cmp B.cmp by.old
+        → OnOk result (AllKindsHaveLists K.cmp A.cmp B.cmp by.new) }
 {
     match by.get_mut(&kind) {
         Some(inner) => {
@@ -64,11 +66,13 @@ pub fn take_one<K: Ord + Copy, A: Ord + Copied, B: Ord + Copied>(
     b: &B,
     key: &ObjKey,
 )
-    ensures { (q : K) (x : A) (y : B) (k : ObjKey)
+    ensures taken { (q : K) (x : A) (y : B) (k : ObjKey)
         → key_by_kind K.cmp A.cmp B.cmp by.new q x y k
         ≡ (not (eq_by_cmp K.cmp kind q
         && (eq_by_cmp A.cmp a.now x && (eq_by_cmp B.cmp b.now y && is_key k key.now)))
         && key_by_kind K.cmp A.cmp B.cmp by.old q x y k) }
+    ensures kept { AllKindsHaveLists K.cmp A.cmp B.cmp by.old
+        → AllKindsHaveLists K.cmp A.cmp B.cmp by.new }
 {
     match by.get_mut(&kind) {
         Some(inner) => nested::take_one(inner, a, b, key),

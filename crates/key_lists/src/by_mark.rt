@@ -1,7 +1,8 @@
-ghost use Rattle.std.specs.Prelude.{◌≡◌, ◌&&◌, ◌||◌, not, true, [], IfOk, OnOk, List};
+ghost use Rattle.std.specs.Prelude.{◌≡◌, ◌<◌, ◌&&◌, ◌||◌, not, true, false, [], IfOk, OnOk, List};
+ghost use Rattle.std.specs.BTreeMap.{btree_map_len};
 ghost use Rattle.std.specs.Ordering.{eq_by_cmp};
 ghost use Rattle.mesh_base.specs.declared.key.ObjKey.{ObjKey};
-ghost use Rattle.key_lists.specs.Keys.{is_key, key_at, keys_at, Rises};
+ghost use Rattle.key_lists.specs.Keys.{AllHaveKeys, is_key, key_at, keys_at, OthersHaveKeys, Rises};
 
 use crate::key_list::KeyList;
 use mesh_base::copied::Copied;
@@ -28,9 +29,11 @@ pub fn put_one<M: Ord + Copied>(
     mark: &M,
     key: &ObjKey,
 ) -> Result<(), Memory>
-    ensures { OnOk result ((m : M) (k : ObjKey)
+    ensures put { OnOk result ((m : M) (k : ObjKey)
         → key_at M.cmp by.new m k
         ≡ ((eq_by_cmp M.cmp mark.now m && is_key k key.now) || key_at M.cmp by.old m k)) }
+    ensures kept { AllHaveKeys M.cmp by.old → OnOk result (AllHaveKeys M.cmp by.new) }
+    ensures filled { OnOk result (0 < btree_map_len by.new) }
 {
     let key = key.copy(alloc)?;
     match by.get_mut(mark) {
@@ -48,9 +51,10 @@ pub fn put_one<M: Ord + Copied>(
 
 /// Takes a key from a mark.
 pub fn take_one<M: Ord + Copied>(by: &mut BTreeMap<M, KeyList>, mark: &M, key: &ObjKey)
-    ensures { (m : M) (k : ObjKey)
+    ensures taken { (m : M) (k : ObjKey)
         → key_at M.cmp by.new m k
         ≡ (not (eq_by_cmp M.cmp mark.now m && is_key k key.now) && key_at M.cmp by.old m k) }
+    ensures kept { AllHaveKeys M.cmp by.old → AllHaveKeys M.cmp by.new }
 {
     if take_from(by, mark, key) {
         let_go(by, mark);
@@ -63,6 +67,8 @@ fn take_from<M: Ord + Copied>(by: &mut BTreeMap<M, KeyList>, mark: &M, key: &Obj
         → key_at M.cmp by.new m k
         ≡ (not (eq_by_cmp M.cmp mark.now m && is_key k key.now) && key_at M.cmp by.old m k) }
     ensures emptied { result ≡ true → keys_at M.cmp by.new mark.now ≡ [] }
+    ensures kept { AllHaveKeys M.cmp by.old → OthersHaveKeys M.cmp mark.now by.new }
+    ensures filled { AllHaveKeys M.cmp by.old → result ≡ false → AllHaveKeys M.cmp by.new }
 {
     match by.get_mut(mark) {
         Some(keys) => {
@@ -76,7 +82,8 @@ fn take_from<M: Ord + Copied>(by: &mut BTreeMap<M, KeyList>, mark: &M, key: &Obj
 /// Drops the list of a mark without keys.
 fn let_go<M: Ord + Copied>(by: &mut BTreeMap<M, KeyList>, mark: &M)
     requires { keys_at M.cmp by.old mark.now ≡ [] }
-    ensures { (m : M) (k : ObjKey) → key_at M.cmp by.new m k ≡ key_at M.cmp by.old m k }
+    ensures same { (m : M) (k : ObjKey) → key_at M.cmp by.new m k ≡ key_at M.cmp by.old m k }
+    ensures kept { OthersHaveKeys M.cmp mark.now by.old → AllHaveKeys M.cmp by.new }
 {
     by.remove(mark);
 }

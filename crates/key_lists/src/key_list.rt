@@ -1,4 +1,4 @@
-ghost use Rattle.std.specs.Prelude.{◌≡◌, ◌&&◌, ◌||◌, not, [], IfOk, IfErr, OnOk, length, ◌==◌};
+ghost use Rattle.std.specs.Prelude.{◌≡◌, ◌&&◌, ◌||◌, not, [], IfOk, IfErr, OnOk, length, ◌<◌, ◌==◌};
 ghost use Rattle.mesh_base.specs.declared.key.ObjKey.{ObjKey};
 ghost use Rattle.mesh_base.specs.KeyOrder.{key_cmp};
 ghost use Rattle.mesh_base.specs.Places.{IsHit, IsGap};
@@ -56,7 +56,8 @@ impl KeyList {
 
     /// Puts the key into the list, if it isn't there.
     pub fn put(&mut self, key: ObjKey) -> Result<(), Memory>
-        ensures { OnOk result ((k : ObjKey)
+        ensures filled { OnOk result (0 < length self.new) }
+        ensures put { OnOk result ((k : ObjKey)
             → has_key k self.new ≡ (is_key k key || has_key k self.old)) }
     {
         match place(self.keys.as_slice(), &key) {

@@ -1,8 +1,8 @@
 //! Lists of keys at marks of two parts. A part with no list left is dropped.
-ghost use Rattle.std.specs.Prelude.{◌≡◌, ◌&&◌, ◌||◌, not, true, [], OnOk};
+ghost use Rattle.std.specs.Prelude.{◌≡◌, ◌&&◌, ◌||◌, not, true, false, [], OnOk};
 ghost use Rattle.std.specs.Ordering.{eq_by_cmp};
 ghost use Rattle.mesh_base.specs.declared.key.ObjKey.{ObjKey};
-ghost use Rattle.key_lists.specs.Keys.{is_key, nested_at, nested_keys, Rises};
+ghost use Rattle.key_lists.specs.Keys.{AllHaveLists, is_key, nested_at, nested_keys, OthersHaveLists, Rises};
 
 use crate::by_mark;
 use crate::key_list::KeyList;
@@ -35,10 +35,12 @@ pub fn put_one<A: Ord + Copied, B: Ord + Copied>(
     b: &B,
     key: &ObjKey,
 ) -> Result<(), Memory>
-    ensures { OnOk result ((x : A) (y : B) (k : ObjKey)
+    ensures put { OnOk result ((x : A) (y : B) (k : ObjKey)
         → nested_at A.cmp B.cmp by.new x y k
         ≡ ((eq_by_cmp A.cmp a.now x && (eq_by_cmp B.cmp b.now y && is_key k key.now))
         || nested_at A.cmp B.cmp by.old x y k)) }
+    ensures kept { AllHaveLists A.cmp B.cmp by.old
+        → OnOk result (AllHaveLists A.cmp B.cmp by.new) }
 {
     match by.get_mut(a) {
         Some(inner) => {
@@ -60,10 +62,11 @@ pub fn take_one<A: Ord + Copied, B: Ord + Copied>(
     b: &B,
     key: &ObjKey,
 )
-    ensures { (x : A) (y : B) (k : ObjKey)
+    ensures taken { (x : A) (y : B) (k : ObjKey)
         → nested_at A.cmp B.cmp by.new x y k
         ≡ (not (eq_by_cmp A.cmp a.now x && (eq_by_cmp B.cmp b.now y && is_key k key.now))
         && nested_at A.cmp B.cmp by.old x y k) }
+    ensures kept { AllHaveLists A.cmp B.cmp by.old → AllHaveLists A.cmp B.cmp by.new }
 {
     if take_from(by, a, b, key) {
         let_go(by, a);
@@ -82,6 +85,9 @@ fn take_from<A: Ord + Copied, B: Ord + Copied>(
         ≡ (not (eq_by_cmp A.cmp a.now x && (eq_by_cmp B.cmp b.now y && is_key k key.now))
         && nested_at A.cmp B.cmp by.old x y k) }
     ensures emptied { result ≡ true → (y : B) → nested_keys A.cmp B.cmp by.new a.now y ≡ [] }
+    ensures kept { AllHaveLists A.cmp B.cmp by.old → OthersHaveLists A.cmp B.cmp a.now by.new }
+    ensures filled { AllHaveLists A.cmp B.cmp by.old → result ≡ false
+        → AllHaveLists A.cmp B.cmp by.new }
 {
     match by.get_mut(a) {
         Some(inner) => {
@@ -95,8 +101,9 @@ fn take_from<A: Ord + Copied, B: Ord + Copied>(
 /// Drops a part without keys.
 fn let_go<A: Ord + Copied, B: Ord + Copied>(by: &mut BTreeMap<A, BTreeMap<B, KeyList>>, a: &A)
     requires { (y : B) → nested_keys A.cmp B.cmp by.old a.now y ≡ [] }
-    ensures { (x : A) (y : B) (k : ObjKey)
+    ensures same { (x : A) (y : B) (k : ObjKey)
         → nested_at A.cmp B.cmp by.new x y k ≡ nested_at A.cmp B.cmp by.old x y k }
+    ensures kept { OthersHaveLists A.cmp B.cmp a.now by.old → AllHaveLists A.cmp B.cmp by.new }
 {
     by.remove(a);
 }

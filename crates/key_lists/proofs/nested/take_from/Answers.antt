@@ -1,10 +1,10 @@
-use Rattle.std.proofs.Common.{◌≡◌, ◌&&◌, not, ap, ◌∙◌, refl, subst, List, Option, Some}
+use Rattle.std.proofs.Common.{◌≡◌, ◌&&◌, not, ◌<◌, ap, ◌∙◌, refl, subst, sym, rules, btree_map_len, List, Option, Some}
 use Rattle.std.specs.BTreeMap.{BTreeMap, get}
 use Rattle.std.specs.Option.{IsSome}
 use Rattle.std.specs.Ordering.{eq_by_cmp}
 use Rattle.mesh_base.specs.declared.key.ObjKey.{ObjKey}
-use Rattle.key_lists.specs.Keys.{has_key, is_key, keys_within}
-use Rattle.key_lists.proofs.Parts.{take_part}
+use Rattle.key_lists.specs.Keys.{AllHaveKeys, has_key, is_key, keys_within}
+use Rattle.key_lists.proofs.Parts.{all_hold, of_one, others_hold, take_part}
 use Rattle.key_lists.proofs.nested.take_from.Goals as goal
 
 pub returns-in-Some-clause-taken : goal.returns-in-Some-clause-taken
@@ -13,4 +13,24 @@ returns-in-Some-clause-taken g c = λ x y k.
     let touched = λ (p : g.row.B.Denot). eq_by_cmp g.B.Ord.cmp c.args.b.now p && is_key k c.args.key.now in
     let was : Some c.in-Some.inner.now ≡ get g.A.Ord.cmp c.args.by.now c.args.a.now = c.in-Some.ensures.value in
     take_part g.met.A.Ord.total at touched c.args.by.now (c.get_mut.follows.lender c.take_one.new.by) c.args.a.now (Some c.take_one.new.by) ((c.get_mut.follows.holds c.take_one.new.by).3 (subst IsSome was refl)).0
-    (λ p. c.take_one.ensures p k ∙ ap (λ found. not (touched p) && at found p) was) x y
+    (λ p. c.take_one.ensures.taken p k ∙ ap (λ found. not (touched p) && at found p) was) x y
+
+pub returns-in-Some-clause-kept : goal.returns-in-Some-clause-kept
+returns-in-Some-clause-kept g c = λ all.
+    let held : BTreeMap g.row.B.Denot (List ObjKey) → Type 0 = λ by. (0 < btree_map_len by) × AllHaveKeys g.B.Ord.cmp by in
+    let was : Some c.in-Some.inner.now ≡ get g.A.Ord.cmp c.args.by.now c.args.a.now = c.in-Some.ensures.value in
+    others_hold g.A.Ord.cmp held c.args.by.now (c.get_mut.follows.lender c.take_one.new.by) c.args.a.now (Some c.take_one.new.by) ((c.get_mut.follows.holds c.take_one.new.by).3 (subst IsSome was refl)).0 all
+
+pub returns-in-Some-clause-filled : goal.returns-in-Some-clause-filled
+returns-in-Some-clause-filled g c = λ all left.
+    let held : BTreeMap g.row.B.Denot (List ObjKey) → Type 0 = λ by. (0 < btree_map_len by) × AllHaveKeys g.B.Ord.cmp by in
+    let was : Some c.in-Some.inner.now ≡ get g.A.Ord.cmp c.args.by.now c.args.a.now = c.in-Some.ensures.value in
+    let some : 0 < btree_map_len c.take_one.new.by = search rules in
+    all_hold g.A.Ord.cmp held c.args.by.now (c.get_mut.follows.lender c.take_one.new.by) c.args.a.now (Some c.take_one.new.by) ((c.get_mut.follows.holds c.take_one.new.by).3 (subst IsSome was refl)).0
+    (of_one held c.take_one.new.by (some, c.take_one.ensures.kept (all c.args.a.now c.in-Some.inner.now (sym was)).1)) (λ q e. all q)
+
+pub returns-in-None-clause-kept : goal.returns-in-None-clause-kept
+returns-in-None-clause-kept g c = λ all q e. rw c.get_mut.follows.holds-at-none (all q)
+
+pub returns-in-None-clause-filled : goal.returns-in-None-clause-filled
+returns-in-None-clause-filled g c = λ all left q. rw c.get_mut.follows.holds-at-none (all q)

@@ -6,12 +6,12 @@ invariant_of-self c =
     let gap = rw c.as_slice.ensures.value at c.in-Err.ensures.gap in
     rw c.in_ok-insert-in-Err.ensures.items (put_rises _ c.self.invariant c.args.key c.in-Err.at gap)
 
-pub returns-in-Ok : goal.returns-in-Ok
-returns-in-Ok c = λ k.
+pub returns-in-Ok-clause-put : goal.returns-in-Ok-clause-put
+returns-in-Ok-clause-put c = λ k.
     let hit = rw c.as_slice.ensures.value at c.in-Ok.ensures.hit in
     rw (← c.self.view_is) (had_has _ c.self.invariant c.args.key c.in-Ok.field-0 hit k)
 
-pub returns-in_ok-insert-in-Err : goal.returns-in_ok-insert-in-Err
-returns-in_ok-insert-in-Err c = λ k.
+pub returns-in_ok-insert-in-Err-clause-put : goal.returns-in_ok-insert-in-Err-clause-put
+returns-in_ok-insert-in-Err-clause-put c = λ k.
     let gap = rw c.as_slice.ensures.value at c.in-Err.ensures.gap in
     rw (c.in_ok-insert-in-Err.ensures.items, ← c.self.view_is) (put_has _ c.self.invariant c.args.key c.in-Err.at gap k)
