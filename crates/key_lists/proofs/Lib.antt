@@ -1,3 +1,5 @@
+pub mod Joined
 pub mod Lists
+pub mod Parted
 pub mod Parts
 pub mod SortedLists

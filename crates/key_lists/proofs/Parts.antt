@@ -1,5 +1,5 @@
 -- A key put to the lists of one part, or taken from them, and the lists of all parts.
-use Rattle.std.proofs.Common.{◌≡◌, Bool, true, false, cond, not, ◌&&◌, ◌||◌, Option, Some, None, Ordering, refl, sym, ap, subst, ◌∙◌}
+use Rattle.std.proofs.Common.{◌≡◌, Bool, true, false, cond, not, ◌&&◌, ◌||◌, Option, Some, None, Result, Ok, Err, OnOk, Ordering, refl, sym, ap, subst, ◌∙◌}
 use Rattle.std.specs.BTreeMap.{BTreeMap, get, is_at}
 use Rattle.std.specs.Cmp.{IsTotalOrder}
 use Rattle.std.specs.Map.{lookup}
@@ -33,6 +33,14 @@ module _ {A X Y : Type 0} {cmp : A → A → Ordering} (order : IsTotalOrder cmp
       by true e = gone y ∙ ap (λ found. not (touched y) && at found y) (tied q e)
       by false e = refl
 
+  -- what the part had is what is taken from it and what it has now
+  pub given_part : ((y : Y) → at (get cmp before a) y ≡ (touched y || at w y)) → (q : A) (y : Y) → at (get cmp before q) y ≡ ((eq_by_cmp cmp a q && touched y) || at (get cmp after q) y)
+  given_part had q y = by (is_at (cmp a) q) refl ∙ ap (λ found. (eq_by_cmp cmp a q && touched y) || at found y) (sym (changed q))
+    where
+      by : (b : Bool) → is_at (cmp a) q ≡ b → at (get cmp before q) y ≡ ((b && touched y) || at (cond b w (get cmp before q)) y)
+      by true e = ap (λ found. at found y) (sym (tied q e)) ∙ had y
+      by false e = refl
+
 -- ---- what holds of all that is kept
 
 module _ {A X : Type 0} (cmp : A → A → Ordering) (P : X → Type 0) (before after : BTreeMap A X) (a : A) (w : Option X) (changed : (q : A) → get cmp after q ≡ cond (is_at (cmp a) q) w (get cmp before q)) where
@@ -55,3 +63,8 @@ given (Some y) x = y
 pub of_one : {X : Type 0} (P : X → Type 0) (x : X) → P x → ForSome (Some x) P
 unfolding given
 of_one P x p y is = subst P (ap (λ found. given found x) is) p
+
+-- what holds where there is no error
+pub on_ok : {X E : Type 0} {P Q : Type 0} (r : Result X E) → (P → Q) → OnOk r P → OnOk r Q
+on_ok (Ok x) more p = more p
+on_ok (Err e) more p = tt

@@ -1,13 +1,14 @@
 -- Keys in lists, and at marks.
-use Rattle.std.specs.Prelude.{◌≡◌, ◌<◌, length, Bool, false, List, [], Option, Some, None}
+use Rattle.std.specs.Prelude.{◌≡◌, ◌<◌, length, nat_lt, Bool, false, List, [], Option, Some, None}
 use Rattle.std.specs.List.{list_any}
 use Rattle.std.specs.BTreeMap as tree
 use Rattle.std.specs.BTreeMap.{BTreeMap}
 use Rattle.std.specs.Option.{ForSome}
 use Rattle.std.specs.Ordering.{eq_by_cmp}
 use Rattle.std.specs.declared.cmp.Ordering.{Ordering}
-use Rattle.mesh_base.specs.KeyOrder.{key_cmp}
+use Rattle.mesh_base.specs.KeyOrder.{key_cmp, kind_place}
 use Rattle.mesh_base.specs.Keyed.{IsKeyed}
+use Rattle.mesh_base.specs.declared.key.Kind.{Kind}
 use Rattle.mesh_base.specs.declared.key.ObjKey.{ObjKey}
 
 abbrev pub is_key : ObjKey → ObjKey → Bool
@@ -16,6 +17,10 @@ is_key k key = eq_by_cmp key_cmp k key
 -- the key stands in the list
 abbrev pub has_key : ObjKey → List ObjKey → Bool
 has_key k keys = list_any (eq_by_cmp key_cmp k) keys
+
+-- the key's kind comes after the kind
+abbrev pub is_after : Kind → ObjKey → Bool
+is_after kind k = nat_lt (kind_place kind) (kind_place k.kind)
 
 -- the keys strictly rise
 abbrev pub Rises : List ObjKey → Type 0

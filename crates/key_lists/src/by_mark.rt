@@ -1,8 +1,8 @@
-ghost use Rattle.std.specs.Prelude.{◌≡◌, ◌<◌, ◌&&◌, ◌||◌, not, true, false, [], IfOk, OnOk, List};
+ghost use Rattle.std.specs.Prelude.{◌≡◌, ◌<◌, ◌&&◌, ◌||◌, not, true, false, [], IfOk, OnOk, length, List};
 ghost use Rattle.std.specs.BTreeMap.{btree_map_len};
 ghost use Rattle.std.specs.Ordering.{eq_by_cmp};
 ghost use Rattle.mesh_base.specs.declared.key.ObjKey.{ObjKey};
-ghost use Rattle.key_lists.specs.Keys.{AllHaveKeys, is_key, key_at, keys_at, OthersHaveKeys, Rises};
+ghost use Rattle.key_lists.specs.Keys.{AllHaveKeys, has_key, is_key, key_at, keys_at, OthersHaveKeys, Rises};
 
 use crate::key_list::KeyList;
 use mesh_base::copied::Copied;
@@ -47,6 +47,45 @@ pub fn put_one<M: Ord + Copied>(
         }
     }
     Ok(())
+}
+
+/// Puts the keys of a list to a mark.
+pub fn put_list<M: Ord + Copied>(
+    alloc: Global,
+    by: &mut BTreeMap<M, KeyList>,
+    mark: &M,
+    list: KeyList,
+) -> Result<(), Memory>
+    requires { 0 < length list }
+    ensures put { OnOk result ((m : M) (k : ObjKey)
+        → key_at M.cmp by.new m k
+        ≡ ((eq_by_cmp M.cmp mark.now m && has_key k list) || key_at M.cmp by.old m k)) }
+    ensures kept { AllHaveKeys M.cmp by.old → OnOk result (AllHaveKeys M.cmp by.new) }
+    ensures filled { OnOk result (0 < btree_map_len by.new) }
+{
+    match by.get_mut(mark) {
+        Some(keys) => {
+            keys.put_all(list)?;
+        }
+        None => {
+            by.insert(mark.copy(alloc)?, list)?;
+        }
+    }
+    Ok(())
+}
+
+/// Takes the list of a mark out, and gives it.
+pub fn take_list<M: Ord + Copied>(alloc: Global, by: &mut BTreeMap<M, KeyList>, mark: &M) -> KeyList
+    ensures list { (m : M) (k : ObjKey)
+        → key_at M.cmp by.old m k
+        ≡ ((eq_by_cmp M.cmp mark.now m && has_key k result) || key_at M.cmp by.new m k) }
+    ensures gone { keys_at M.cmp by.new mark.now ≡ [] }
+    ensures kept { AllHaveKeys M.cmp by.old → AllHaveKeys M.cmp by.new }
+{
+    match by.remove(mark) {
+        Some(list) => list,
+        None => KeyList::new(alloc),
+    }
 }
 
 /// Takes a key from a mark.

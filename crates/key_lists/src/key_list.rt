@@ -1,10 +1,11 @@
-ghost use Rattle.std.specs.Prelude.{◌≡◌, ◌&&◌, ◌||◌, not, [], IfOk, IfErr, OnOk, length, ◌<◌, ◌==◌};
+ghost use Rattle.std.specs.Prelude.{◌≡◌, ◌≤◌, ◌<◌, ◌&&◌, ◌||◌, ◌==◌, ◌++◌, not, true, [], IfOk, IfErr, OnOk, drop, length, take};
+ghost use Rattle.std.specs.List.{filter};
 ghost use Rattle.mesh_base.specs.declared.key.ObjKey.{ObjKey};
 ghost use Rattle.mesh_base.specs.KeyOrder.{key_cmp};
 ghost use Rattle.mesh_base.specs.Places.{IsHit, IsGap};
-ghost use Rattle.key_lists.specs.Keys.{has_key, is_key, Rises};
+ghost use Rattle.key_lists.specs.Keys.{has_key, is_after, is_key, Rises};
 
-use mesh_base::key::ObjKey;
+use mesh_base::key::{Kind, ObjKey};
 use mesh_base::memory::Memory;
 use std::alloc::Global;
 use std::cmp::Ordering;
@@ -80,6 +81,80 @@ impl KeyList {
             Err(_) => {}
         }
     }
+
+    /// Puts the keys of the other list into the list. They move whole where all of them come after its own.
+    pub fn put_all(&mut self, other: KeyList) -> Result<(), Memory>
+        ensures filled { 0 < length other → OnOk result (0 < length self.new) }
+        ensures put { OnOk result ((k : ObjKey)
+            → has_key k self.new ≡ (has_key k other || has_key k self.old)) }
+    {
+        if stand_before(self.as_slice(), other.as_slice()) {
+            self.append(other)
+        } else {
+            self.put_each(other)
+        }
+    }
+
+    /// Takes out the keys of the kinds after this one, and gives them.
+    pub fn split_after(&mut self, kind: Kind) -> Result<KeyList, Memory>
+        ensures left { OnOk result ((k : ObjKey)
+            → has_key k self.new ≡ (not (is_after kind k) && has_key k self.old)) }
+        ensures taken { IfOk result (λ after. (k : ObjKey)
+            → has_key k after ≡ (is_after kind k && has_key k self.old)) }
+    {
+        let start = start_after(self.keys.as_slice(), kind);
+        let keys = self.keys.split_off(start)?;
+        Ok(KeyList { keys })
+    }
+
+    fn append(&mut self, other: KeyList) -> Result<(), Memory>
+        requires { Rises (self.old ++ other) }
+        ensures { OnOk result ((k : ObjKey)
+            → has_key k self.new ≡ (has_key k other || has_key k self.old)) }
+    {
+        let KeyList { mut keys } = other;
+        self.keys.append(&mut keys)?;
+        Ok(())
+    }
+
+    fn put_each(&mut self, other: KeyList) -> Result<(), Memory>
+        ensures { OnOk result ((k : ObjKey)
+            → has_key k self.new ≡ (has_key k other || has_key k self.old)) }
+    {
+        let KeyList { keys } = other;
+        for key in keys {
+            self.put(key)?;
+        }
+        Ok(())
+    }
+}
+
+/// Whether all keys of the first list come before those of the second.
+fn stand_before(first: &[ObjKey], second: &[ObjKey]) -> bool
+    requires first { Rises first.now }
+    requires second { Rises second.now }
+    ensures { result ≡ true → Rises (first.now ++ second.now) }
+{
+    match (first.last(), second.first()) {
+        (Some(last), Some(next)) => matches!(compare_keys(last, next), Ordering::Less),
+        _ => true,
+    }
+}
+
+/// Where the keys of the kinds after this one begin.
+fn start_after(keys: &[ObjKey], kind: Kind) -> usize
+    requires { Rises keys.now }
+    ensures within { result ≤ length keys.now }
+    ensures front { take result keys.now ≡ filter (λ k. not (is_after kind k)) keys.now }
+    ensures back { drop result keys.now ≡ filter (is_after kind) keys.now }
+{
+    keys.partition_point(|key| !comes_after(key, kind))
+}
+
+fn comes_after(key: &ObjKey, kind: Kind) -> bool
+    ensures { result ≡ is_after kind key.now }
+{
+    key.kind > kind
 }
 
 /// Where the key stands, or where it would go.

@@ -1,8 +1,8 @@
 //! Lists of keys at marks of two parts. A part with no list left is dropped.
-ghost use Rattle.std.specs.Prelude.{◌≡◌, ◌&&◌, ◌||◌, not, true, false, [], OnOk};
+ghost use Rattle.std.specs.Prelude.{◌≡◌, ◌<◌, ◌&&◌, ◌||◌, not, true, false, [], OnOk, length};
 ghost use Rattle.std.specs.Ordering.{eq_by_cmp};
 ghost use Rattle.mesh_base.specs.declared.key.ObjKey.{ObjKey};
-ghost use Rattle.key_lists.specs.Keys.{AllHaveLists, is_key, nested_at, nested_keys, OthersHaveLists, Rises};
+ghost use Rattle.key_lists.specs.Keys.{AllHaveLists, has_key, is_key, nested_at, nested_keys, OthersHaveLists, Rises};
 
 use crate::by_mark;
 use crate::key_list::KeyList;
@@ -53,6 +53,82 @@ pub fn put_one<A: Ord + Copied, B: Ord + Copied>(
         }
     }
     Ok(())
+}
+
+/// Puts the keys of a list to the two parts of a mark.
+pub fn put_list<A: Ord + Copied, B: Ord + Copied>(
+    alloc: Global,
+    by: &mut BTreeMap<A, BTreeMap<B, KeyList>>,
+    a: &A,
+    b: &B,
+    list: KeyList,
+) -> Result<(), Memory>
+    requires { 0 < length list }
+    ensures put { OnOk result ((x : A) (y : B) (k : ObjKey)
+        → nested_at A.cmp B.cmp by.new x y k
+        ≡ ((eq_by_cmp A.cmp a.now x && (eq_by_cmp B.cmp b.now y && has_key k list))
+        || nested_at A.cmp B.cmp by.old x y k)) }
+    ensures kept { AllHaveLists A.cmp B.cmp by.old
+        → OnOk result (AllHaveLists A.cmp B.cmp by.new) }
+{
+    match by.get_mut(a) {
+        Some(inner) => {
+            by_mark::put_list(alloc, inner, b, list)?;
+        }
+        None => {
+            let mut inner = BTreeMap::new(alloc);
+            by_mark::put_list(alloc, &mut inner, b, list)?;
+            by.insert(a.copy(alloc)?, inner)?;
+        }
+    }
+    Ok(())
+}
+
+/// Takes the list of the two parts of a mark out, and gives it.
+pub fn take_list<A: Ord + Copied, B: Ord + Copied>(
+    alloc: Global,
+    by: &mut BTreeMap<A, BTreeMap<B, KeyList>>,
+    a: &A,
+    b: &B,
+) -> KeyList
+    ensures list { (x : A) (y : B) (k : ObjKey)
+        → nested_at A.cmp B.cmp by.old x y k
+        ≡ ((eq_by_cmp A.cmp a.now x && (eq_by_cmp B.cmp b.now y && has_key k result))
+        || nested_at A.cmp B.cmp by.new x y k) }
+    ensures gone { nested_keys A.cmp B.cmp by.new a.now b.now ≡ [] }
+    ensures kept { AllHaveLists A.cmp B.cmp by.old → AllHaveLists A.cmp B.cmp by.new }
+{
+    let (list, emptied) = list_from(alloc, by, a, b);
+    if emptied {
+        let_go(by, a);
+    }
+    list
+}
+
+/// Takes a list out of those of a part. Answers also whether no list is left there.
+fn list_from<A: Ord + Copied, B: Ord + Copied>(
+    alloc: Global,
+    by: &mut BTreeMap<A, BTreeMap<B, KeyList>>,
+    a: &A,
+    b: &B,
+) -> (KeyList, bool)
+    ensures list { (x : A) (y : B) (k : ObjKey)
+        → nested_at A.cmp B.cmp by.old x y k
+        ≡ ((eq_by_cmp A.cmp a.now x && (eq_by_cmp B.cmp b.now y && has_key k result.0))
+        || nested_at A.cmp B.cmp by.new x y k) }
+    ensures gone { nested_keys A.cmp B.cmp by.new a.now b.now ≡ [] }
+    ensures emptied { result.1 ≡ true → (y : B) → nested_keys A.cmp B.cmp by.new a.now y ≡ [] }
+    ensures kept { AllHaveLists A.cmp B.cmp by.old → OthersHaveLists A.cmp B.cmp a.now by.new }
+    ensures filled { AllHaveLists A.cmp B.cmp by.old → result.1 ≡ false
+        → AllHaveLists A.cmp B.cmp by.new }
+{
+    match by.get_mut(a) {
+        Some(inner) => {
+            let list = by_mark::take_list(alloc, inner, b);
+            (list, inner.is_empty())
+        }
+        None => (KeyList::new(alloc), false),
+    }
 }
 
 /// Takes a key from the two parts of a mark.
