@@ -1,15 +1,13 @@
 -- What a sort by keys makes of objects with distinct keys, and where a kind stands in a sorted list.
-use Rattle.std.proofs.Common.{◌≡◌, ℕ, suc, zero, ◌+◌, ◌-◌, ◌<◌, ◌≤◌, Bool, true, false, cond, not, ◌&&◌, ltb, leb, List, [], ◌∷◌, map, take, drop, length, get_or, Ordering, inl, inr, refl, sym, ap, subst, ◌∙◌, lt-ltb, arith}
+use Rattle.std.proofs.Common.{◌≡◌, ℕ, suc, ◌+◌, ◌-◌, ◌<◌, ◌≤◌, Bool, true, false, cond, not, ◌&&◌, ltb, leb, List, [], ◌∷◌, map, take, drop, length, get_or, Ordering, refl, sym, ap, subst, ◌∙◌, arith}
 use lib.Dec.{T}
 use Rattle.std.specs.List.{AllByRecursion, IsDistinct, filter}
 use Rattle.std.specs.List.Sorted.{IsPermutation, IsSortedBy, IsStrictlySortedBy, IsNonDecreasingBy, IsPartitionedBy, IsPartitionPoint}
-use Rattle.std.specs.Ordering.{eq_by_cmp, is_lt, is_eq, nat_cmp, ordering_then, ordering_reverse}
+use Rattle.std.specs.Ordering.{eq_by_cmp, is_lt, is_eq, ordering_reverse}
 use Rattle.std.specs.Cmp.{eq_by_cmp_equiv}
 use Rattle.std.specs.FinMap.{len}
 use Rattle.std.specs.FinMap.Entries.{below_all}
-use Rattle.std.proofs.lemmas.Bool.{cases_lt}
 use Rattle.std.proofs.lemmas.Bool.Decides.{nat_tests}
-use Rattle.std.proofs.lemmas.List.Elements.{recursion_from_All, All-from_all_within}
 use Rattle.std.proofs.lemmas.List.{get_or-map, length-map, length-take, length-drop}
 use Rattle.std.proofs.lemmas.List.Sorted.{IsPermutation-map, IsNonDecreasingBy-from_all_adjacent, IsPartitionedBy-ltb, IsPartitionedBy-leb}
 use Rattle.std.proofs.lemmas.Map.Keys.{IsDistinct-IsPermutation, apart_from_distinct, sorted_from_all_adjacent, sorted_head, sorted_tail}
@@ -20,11 +18,12 @@ use Rattle.mesh_base.specs.KeyOrder.{key_cmp, kind_place}
 use Rattle.mesh_base.specs.Keyed.{keyed, keyed_map}
 use Rattle.mesh_base.proofs.KeyOrder.{keys_total, keys_exact}
 use Rattle.mesh_base.proofs.Keyed.{in_order, filtered_sorted, len_is}
+use Rattle.key_lists.proofs.Parted.{back, front, kinds_rise, not_not}
 use Rattle.view_types.specs.declared.object.Object.{Object}
 use Rattle.view_types.specs.Objects.{key_of, kind_of}
 use Rattle.object_store.specs.Kinds.{is_below, is_above, below, above}
 use Rattle.object_store.specs.Relisted.{is_of}
-use Rattle.object_store.proofs.Spliced.{Sorted, kept, dropped, weaker}
+use Rattle.object_store.proofs.Spliced.{Sorted}
 
 both : (a b : Bool) → T a → T b → T (a && b)
 both true b p q = q
@@ -62,35 +61,9 @@ pub apart-moved : (xs ys : List Object) → IsPermutation xs ys → IsDistinct (
 apart-moved xs ys moved = IsDistinct-IsPermutation (eq_by_cmp key_cmp) (eq_by_cmp_equiv keys_total).symm (map key_of xs) (map key_of ys) (IsPermutation-map key_of xs ys moved)
 
 -- kinds do not fall along a sorted list
-kinds_rise : (a b : ℕ) (r : Ordering) → is_lt (ordering_then (nat_cmp b a) r) ≡ false → a ≤ b
-kinds_rise a b r le = elim (cases_lt b a) [
-  | inl lt ↦ let less : ltb b a ≡ true = lt-ltb b a lt in let no = rw less at le in cc
-  | inr ge ↦ ge
-]
-
 pub kinds_in_order : (os : List Object) → Sorted os → IsNonDecreasingBy (λ o. kind_place (kind_of o)) os
 kinds_in_order os sorted = IsNonDecreasingBy-from_all_adjacent (λ o. kind_place (kind_of o)) os
     (λ k d lt. kinds_rise _ _ _ (in_order keys_total keys_exact key_of (λ o. o) os sorted k d (omega arith) lt))
-
-not_not : (b : Bool) → not (not b) ≡ b
-not_not true = refl
-not_not false = refl
-
--- a list cut where a test ends
-module _ (p : Object → Bool) where
-  pub front : (os : List Object) (i : ℕ) → IsPartitionPoint (λ o. p o ≡ true) (λ o. p o ≡ false) os i → take i os ≡ filter p os
-  front os zero parted = sym (dropped p os (recursion_from_All (λ o. p o ≡ false) os (All-from_all_within (λ o. p o ≡ false) os parted.1)))
-  front [] (suc i) parted = refl
-  front (o ∷ os) (suc i) parted =
-      rw (parted.0 0 o (omega arith) (omega arith))
-      (ap (λ rest. o ∷ rest) (front os i (λ k d ge lt. parted.0 (suc k) d (omega arith) (omega arith), λ k d ge lt. parted.1 (suc k) d (omega arith) (omega arith))))
-
-  pub back : (os : List Object) (i : ℕ) → IsPartitionPoint (λ o. p o ≡ true) (λ o. p o ≡ false) os i → drop i os ≡ filter (λ o. not (p o)) os
-  back os zero parted = sym (kept (λ o. not (p o)) os (weaker (λ o. p o ≡ false) (λ o. not (p o) ≡ true) (λ o fails. rw fails refl) os (recursion_from_All (λ o. p o ≡ false) os (All-from_all_within (λ o. p o ≡ false) os parted.1))))
-  back [] (suc i) parted = refl
-  back (o ∷ os) (suc i) parted =
-      rw (parted.0 0 o (omega arith) (omega arith))
-      (back os i (λ k d ge lt. parted.0 (suc k) d (omega arith) (omega arith), λ k d ge lt. parted.1 (suc k) d (omega arith) (omega arith)))
 
 twice_at : (b c d : Bool) (o : Object) (us vs : List Object) (p : Object → Bool) → p o ≡ c → (b && c) ≡ d → filter p us ≡ vs → filter p (cond b (o ∷ us) us) ≡ cond d (o ∷ vs) vs
 twice_at true true d o us vs p at is same = rw (at, ← is, same) refl

@@ -51,28 +51,28 @@ kind_parts Greater Equal b c = refl
 
 -- ---- one mark: what is found at it changes by f, and at every other it stays
 
-module _ (f : Bool → Bool → Bool) (stays : (b : Bool) → f false b ≡ b) (keys : MarkKeys) (key : ObjKey) where
+module _ (f : Bool → Bool → Bool) (stays : (b : Bool) → f false b ≡ b) (keys : MarkKeys) (own_key : ObjKey → Bool) where
   abbrev Changed : MarkKeys → Mark → Type 0
-  Changed after mark = (m : Mark) (k : ObjKey) → is_kept after m k ≡ f (is_for mark m && is_key k key) (is_kept keys m k)
+  Changed after mark = (m : Mark) (k : ObjKey) → is_kept after m k ≡ f (is_for mark m && own_key k) (is_kept keys m k)
 
-  own : (mark m : Mark) (k : ObjKey) (before : Bool) → f (same_mark mark m && is_key k key) before ≡ f (same_mark m mark && is_key k key) before
-  own mark m k before = ap (λ same. f (same && is_key k key) before) (turned mark m)
+  own : (mark m : Mark) (k : ObjKey) (before : Bool) → f (same_mark mark m && own_key k) before ≡ f (same_mark m mark && own_key k) before
+  own mark m k before = ap (λ same. f (same && own_key k) before) (turned mark m)
 
   pub slices_changed : (ns service : List ℕ) (by : Nested (List ℕ) (List ℕ))
-      → ((x y : List ℕ) (k : ObjKey) → nested_at text_cmp text_cmp by x y k ≡ f (eq_by_cmp text_cmp ns x && (eq_by_cmp text_cmp service y && is_key k key)) (nested_at text_cmp text_cmp keys.slices x y k))
+      → ((x y : List ℕ) (k : ObjKey) → nested_at text_cmp text_cmp by x y k ≡ f (eq_by_cmp text_cmp ns x && (eq_by_cmp text_cmp service y && own_key k)) (nested_at text_cmp text_cmp keys.slices x y k))
       → Changed (record { slices = by; servers = keys.servers; server_authz = keys.server_authz; policies = keys.policies; routes = keys.routes; services = keys.services; pods = keys.pods }) (SlicesOf ns service)
   slices_changed ns service by change (SlicesOf x y) k =
-      change x y k ∙ ap (λ there. f there (is_kept keys (SlicesOf x y) k)) (two_parts (text_cmp ns x) (text_cmp service y) (is_key k key)) ∙ own (SlicesOf ns service) (SlicesOf x y) k _
+      change x y k ∙ ap (λ there. f there (is_kept keys (SlicesOf x y) k)) (two_parts (text_cmp ns x) (text_cmp service y) (own_key k)) ∙ own (SlicesOf ns service) (SlicesOf x y) k _
   slices_changed ns service by change m k = sym (stays (is_kept keys m k))
 
   pub servers_changed : (ns : List ℕ) (by : BTreeMap (List ℕ) (List ObjKey))
-      → ((x : List ℕ) (k : ObjKey) → key_at text_cmp by x k ≡ f (eq_by_cmp text_cmp ns x && is_key k key) (key_at text_cmp keys.servers x k))
+      → ((x : List ℕ) (k : ObjKey) → key_at text_cmp by x k ≡ f (eq_by_cmp text_cmp ns x && own_key k) (key_at text_cmp keys.servers x k))
       → Changed (record { slices = keys.slices; servers = by; server_authz = keys.server_authz; policies = keys.policies; routes = keys.routes; services = keys.services; pods = keys.pods }) (ServersIn ns)
   servers_changed ns by change (ServersIn x) k = change x k ∙ own (ServersIn ns) (ServersIn x) k _
   servers_changed ns by change m k = sym (stays (is_kept keys m k))
 
   pub server_authz_changed : (ns : List ℕ) (by : BTreeMap (List ℕ) (List ObjKey))
-      → ((x : List ℕ) (k : ObjKey) → key_at text_cmp by x k ≡ f (eq_by_cmp text_cmp ns x && is_key k key) (key_at text_cmp keys.server_authz x k))
+      → ((x : List ℕ) (k : ObjKey) → key_at text_cmp by x k ≡ f (eq_by_cmp text_cmp ns x && own_key k) (key_at text_cmp keys.server_authz x k))
       → Changed (record { slices = keys.slices; servers = keys.servers; server_authz = by; policies = keys.policies; routes = keys.routes; services = keys.services; pods = keys.pods }) (ServerAuthzIn ns)
   server_authz_changed ns by change (ServerAuthzIn x) k = change x k ∙ own (ServerAuthzIn ns) (ServerAuthzIn x) k _
   server_authz_changed ns by change m k = sym (stays (is_kept keys m k))
@@ -80,29 +80,29 @@ module _ (f : Bool → Bool → Bool) (stays : (b : Bool) → f false b ≡ b) (
   pub policies_changed : (ns : List ℕ) (kind : RefKind) (name : List ℕ) (by : BTreeMap RefKind (Nested (List ℕ) (List ℕ)))
       → ((q : RefKind) (x y : List ℕ) (k : ObjKey)
       → key_by_kind ref_cmp text_cmp text_cmp by q x y k
-      ≡ f (eq_by_cmp ref_cmp kind q && (eq_by_cmp text_cmp ns x && (eq_by_cmp text_cmp name y && is_key k key))) (key_by_kind ref_cmp text_cmp text_cmp keys.policies q x y k))
+      ≡ f (eq_by_cmp ref_cmp kind q && (eq_by_cmp text_cmp ns x && (eq_by_cmp text_cmp name y && own_key k))) (key_by_kind ref_cmp text_cmp text_cmp keys.policies q x y k))
       → Changed (record { slices = keys.slices; servers = keys.servers; server_authz = keys.server_authz; policies = by; routes = keys.routes; services = keys.services; pods = keys.pods }) (PolicyOn ns kind name)
   policies_changed ns kind name by change (PolicyOn x q y) k =
-      change q x y k ∙ ap (λ there. f there (is_kept keys (PolicyOn x q y) k)) (kind_parts (ref_cmp kind q) (text_cmp ns x) (text_cmp name y) (is_key k key))
+      change q x y k ∙ ap (λ there. f there (is_kept keys (PolicyOn x q y) k)) (kind_parts (ref_cmp kind q) (text_cmp ns x) (text_cmp name y) (own_key k))
       ∙ own (PolicyOn ns kind name) (PolicyOn x q y) k _
   policies_changed ns kind name by change m k = sym (stays (is_kept keys m k))
 
   pub routes_changed : (ns : List ℕ) (kind : ParentKind) (name : List ℕ) (by : BTreeMap ParentKind (Nested (List ℕ) (List ℕ)))
       → ((q : ParentKind) (x y : List ℕ) (k : ObjKey)
       → key_by_kind parent_cmp text_cmp text_cmp by q x y k
-      ≡ f (eq_by_cmp parent_cmp kind q && (eq_by_cmp text_cmp ns x && (eq_by_cmp text_cmp name y && is_key k key))) (key_by_kind parent_cmp text_cmp text_cmp keys.routes q x y k))
+      ≡ f (eq_by_cmp parent_cmp kind q && (eq_by_cmp text_cmp ns x && (eq_by_cmp text_cmp name y && own_key k))) (key_by_kind parent_cmp text_cmp text_cmp keys.routes q x y k))
       → Changed (record { slices = keys.slices; servers = keys.servers; server_authz = keys.server_authz; policies = keys.policies; routes = by; services = keys.services; pods = keys.pods }) (RouteOn ns kind name)
   routes_changed ns kind name by change (RouteOn x q y) k =
-      change q x y k ∙ ap (λ there. f there (is_kept keys (RouteOn x q y) k)) (kind_parts (parent_cmp kind q) (text_cmp ns x) (text_cmp name y) (is_key k key))
+      change q x y k ∙ ap (λ there. f there (is_kept keys (RouteOn x q y) k)) (kind_parts (parent_cmp kind q) (text_cmp ns x) (text_cmp name y) (own_key k))
       ∙ own (RouteOn ns kind name) (RouteOn x q y) k _
   routes_changed ns kind name by change m k = sym (stays (is_kept keys m k))
 
-  pub services_changed : (ip : Ip) (by : BTreeMap Ip (List ObjKey)) → ((x : Ip) (k : ObjKey) → key_at ip_cmp by x k ≡ f (eq_by_cmp ip_cmp ip x && is_key k key) (key_at ip_cmp keys.services x k))
+  pub services_changed : (ip : Ip) (by : BTreeMap Ip (List ObjKey)) → ((x : Ip) (k : ObjKey) → key_at ip_cmp by x k ≡ f (eq_by_cmp ip_cmp ip x && own_key k) (key_at ip_cmp keys.services x k))
       → Changed (record { slices = keys.slices; servers = keys.servers; server_authz = keys.server_authz; policies = keys.policies; routes = keys.routes; services = by; pods = keys.pods }) (IpService ip)
   services_changed ip by change (IpService x) k = change x k ∙ own (IpService ip) (IpService x) k _
   services_changed ip by change m k = sym (stays (is_kept keys m k))
 
-  pub pods_changed : (ip : Ip) (by : BTreeMap Ip (List ObjKey)) → ((x : Ip) (k : ObjKey) → key_at ip_cmp by x k ≡ f (eq_by_cmp ip_cmp ip x && is_key k key) (key_at ip_cmp keys.pods x k))
+  pub pods_changed : (ip : Ip) (by : BTreeMap Ip (List ObjKey)) → ((x : Ip) (k : ObjKey) → key_at ip_cmp by x k ≡ f (eq_by_cmp ip_cmp ip x && own_key k) (key_at ip_cmp keys.pods x k))
       → Changed (record { slices = keys.slices; servers = keys.servers; server_authz = keys.server_authz; policies = keys.policies; routes = keys.routes; services = keys.services; pods = by }) (IpPod ip)
   pods_changed ip by change (IpPod x) k = change x k ∙ own (IpPod ip) (IpPod x) k _
   pods_changed ip by change m k = sym (stays (is_kept keys m k))

@@ -1,4 +1,5 @@
 pub mod Arranged
+pub mod AsideKeys
 pub mod AtKeys
 pub mod ByCmp
 pub mod Kept

@@ -10,6 +10,8 @@ use Rattle.mark_rules.specs.MarkLookups.{keys_at as keys_of}
 use Rattle.mark_rules.specs.Marks.{has_mark, other_marks, parent_place, ref_place, same_mark}
 use Rattle.mesh_base.specs.declared.key.ObjKey.{ObjKey}
 use Rattle.net_cidr.specs.Address.{ip_cmp}
+use Rattle.object_store.specs.declared.aside.Aside.{Aside}
+use Rattle.object_store.specs.declared.aside.Parent.{Parent}
 use Rattle.object_store.specs.declared.change.Change.{Change}
 use Rattle.object_store.specs.declared.change.StoreFault.{StoreFault}
 use Rattle.object_store.specs.declared.change.StoreFault.TheVariants.{Memory, Full}
@@ -67,6 +69,14 @@ is_of_key mark = false
 -- the marks are the same, and none is that of a key
 abbrev pub is_for : Mark → Mark → Bool
 is_for asked mark = not (is_of_key mark) && same_mark mark asked
+
+-- it is the mark of the routes with this parent
+abbrev pub is_at : Parent → Mark → Bool
+is_at parent mark = is_for (RouteOn parent.ns parent.kind parent.name) mark
+
+-- the key is one of those that stand aside, and the mark is that of their list
+abbrev pub is_aside : Mark → ObjKey → Aside → Bool
+is_aside mark key aside = is_at aside.parent mark && has_key key aside.keys
 
 -- the mark is one of these, and is not that of a key
 abbrev pub is_among : List Mark → Mark → Bool

@@ -5,6 +5,7 @@
 //! marks are tied to the objects.
 #![tactic(auto)]
 
+mod aside;
 pub mod change;
 mod kinds;
 pub mod laws;

@@ -1,13 +1,16 @@
-ghost use Rattle.std.specs.Prelude.{◌≡◌, ◌&&◌, ◌||◌, not, false, OnOk};
-ghost use Rattle.key_lists.specs.Keys.{is_key, Rises};
+ghost use Rattle.std.specs.Prelude.{◌≡◌, ◌&&◌, ◌||◌, not, true, false, IfOk, OnOk};
+ghost use Rattle.std.specs.List.{list_any};
+ghost use Rattle.std.specs.Option.{option_to_list};
+ghost use Rattle.key_lists.specs.Keys.{has_key, is_after, is_key, Rises};
 ghost use Rattle.mesh_base.specs.declared.key.ObjKey.{ObjKey};
 ghost use Rattle.view_types.specs.declared.mark.Mark.{Mark};
 ghost use Rattle.view_types.specs.declared.mark.Mark.TheVariants.{IpPod, IpService, PolicyOn, RouteOn, ServerAuthzIn, ServersIn, SlicesOf};
-ghost use Rattle.object_store.specs.KeyLists.{is_among, is_for, is_kept, kept_at};
+ghost use Rattle.object_store.specs.KeyLists.{is_among, is_aside, is_at, is_for, is_kept, kept_at};
 
+use crate::aside::{Aside, Parent};
 use key_lists::key_list::KeyList;
 use key_lists::{by_kind, by_mark, nested};
-use mesh_base::key::ObjKey;
+use mesh_base::key::{Kind, ObjKey};
 use mesh_base::memory::Memory;
 use mesh_base::text::Text;
 use net_cidr::ip::Ip;
@@ -144,6 +147,87 @@ impl MarkKeys {
         }
     }
 
+    /// Sets the keys of the kinds after this one aside. Only a list of routes has keys of several kinds.
+    pub fn set_aside(
+        &mut self,
+        alloc: Global,
+        kind: Kind,
+        mark: &Mark,
+    ) -> Result<Option<Aside>, Memory>
+        ensures parted { IfOk result (λ aside. (m : Mark) (k : ObjKey)
+            → is_kept self.old m k
+            ≡ (list_any (is_aside m k) (option_to_list aside) || is_kept self.new m k)) }
+        ensures after { IfOk result (λ aside. (m : Mark) (k : ObjKey)
+            → list_any (is_aside m k) (option_to_list aside) ≡ true → is_after kind k ≡ true) }
+    {
+        match mark {
+            Mark::RouteOn(ns, parent, name) => {
+                if ends_by(self.routes_on(ns, *parent, name), kind) {
+                    return Ok(None);
+                }
+                let parent = Parent {
+                    ns: ns.copy()?,
+                    kind: *parent,
+                    name: name.copy()?,
+                };
+                let keys = self.take_routes_after(alloc, kind, &parent)?;
+                Ok(Some(Aside { parent, keys }))
+            }
+            _ => Ok(None),
+        }
+    }
+
+    /// Puts the keys back that were set aside.
+    pub fn put_back(&mut self, alloc: Global, aside: Aside) -> Result<(), Memory>
+        ensures { OnOk result ((m : Mark) (k : ObjKey)
+            → is_kept self.new m k ≡ (is_aside m k aside || is_kept self.old m k)) }
+    {
+        let Aside { parent, keys } = aside;
+        self.put_routes(alloc, &parent, keys)
+    }
+
+    fn take_routes_after(
+        &mut self,
+        alloc: Global,
+        kind: Kind,
+        parent: &Parent,
+    ) -> Result<KeyList, Memory>
+        ensures parted { IfOk result (λ keys. (m : Mark) (k : ObjKey)
+            → is_kept self.old m k
+            ≡ ((is_at parent.now m && has_key k keys) || is_kept self.new m k)) }
+        ensures after { IfOk result (λ keys. (k : ObjKey)
+            → has_key k keys ≡ true → is_after kind k ≡ true) }
+    {
+        let mut keys = by_kind::take_list(
+            alloc,
+            &mut self.routes,
+            parent.kind,
+            &parent.ns,
+            &parent.name,
+        );
+        let after = keys.split_after(kind)?;
+        self.put_routes(alloc, parent, keys)?;
+        Ok(after)
+    }
+
+    fn put_routes(&mut self, alloc: Global, parent: &Parent, keys: KeyList) -> Result<(), Memory>
+        ensures { OnOk result ((m : Mark) (k : ObjKey)
+            → is_kept self.new m k
+            ≡ ((is_at parent.now m && has_key k keys) || is_kept self.old m k)) }
+    {
+        if keys.is_empty() {
+            return Ok(());
+        }
+        by_kind::put_list(
+            alloc,
+            &mut self.routes,
+            parent.kind,
+            &parent.ns,
+            &parent.name,
+            keys,
+        )
+    }
+
     fn put_one(&mut self, alloc: Global, mark: &Mark, key: &ObjKey) -> Result<(), Memory>
         ensures { OnOk result ((m : Mark) (k : ObjKey)
             → is_kept self.new m k
@@ -186,5 +270,13 @@ impl MarkKeys {
             Mark::IpService(ip) => by_mark::take_one(&mut self.services, ip, key),
             Mark::IpPod(ip) => by_mark::take_one(&mut self.pods, ip, key),
         }
+    }
+}
+
+/// Whether no key is of a kind after this one. The last is of the last kind.
+fn ends_by(keys: &[ObjKey], kind: Kind) -> bool {
+    match keys.last() {
+        Some(key) => key.kind <= kind,
+        None => true,
     }
 }

@@ -13,7 +13,7 @@ ghost use Rattle.object_store.specs.KeyLists.{AreKeysOf, StayUnlessSpent};
 use crate::change::{Change, StoreFault};
 use crate::mark_keys::MarkKeys;
 use crate::objects::Objects;
-use crate::upkeep::follow;
+use crate::upkeep::follow_kind;
 use mark_rules::object_marks::add_all_marks;
 use mesh_base::key::{Kind, ObjKey};
 use mesh_base::list::List;
@@ -51,7 +51,7 @@ pub fn relist(
     add_all_marks(alloc, &mut marks, items.as_slice())?;
     let old = objects.replace(alloc, kind, items)?;
     let change = Change::from(alloc, marks, old, new)?;
-    follow(alloc, objects, keys, &change)?;
+    follow_kind(alloc, objects, keys, kind, &change)?;
     Ok(change)
 }
 

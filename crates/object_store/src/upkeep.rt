@@ -1,16 +1,18 @@
-ghost use Rattle.std.specs.Prelude.{◌≡◌, ◌&&◌, ◌||◌, not, OnOk};
+ghost use Rattle.std.specs.Prelude.{◌≡◌, ◌&&◌, ◌||◌, not, true, OnOk};
 ghost use Rattle.std.specs.FinMap.{get};
-ghost use Rattle.std.specs.List.{list_any};
+ghost use Rattle.std.specs.List.{All, list_any};
 ghost use Rattle.mesh_base.specs.declared.key.ObjKey.{ObjKey};
 ghost use Rattle.view_types.specs.Objects.{key_of};
 ghost use Rattle.view_types.specs.declared.mark.Mark.{Mark};
 ghost use Rattle.object_store.specs.KeyLists.{Follows, is_kept, is_new, is_old};
+ghost use Rattle.object_store.specs.Relisted.{is_of};
 
+use crate::aside::{put_back, set_aside};
 use crate::change::Change;
 use crate::mark_keys::MarkKeys;
 use crate::objects::Objects;
 use mark_rules::object_marks::add_others;
-use mesh_base::key::ObjKey;
+use mesh_base::key::{Kind, ObjKey};
 use mesh_base::list::List;
 use mesh_base::memory::Memory;
 use std::alloc::Global;
@@ -27,6 +29,22 @@ pub fn follow(
 {
     take_objects(alloc, keys, change.old.as_slice())?;
     put_objects(alloc, objects, keys, change.new.as_slice())
+}
+
+/// `follow` for a change of one kind's objects. Keys of later kinds do not move for each of its keys.
+pub fn follow_kind(
+    alloc: Global,
+    objects: &Objects,
+    keys: &mut MarkKeys,
+    kind: Kind,
+    change: &Change,
+) -> Result<(), Memory>
+    requires { All (λ o. is_of kind (key_of o) ≡ true) change.now.old }
+    ensures { OnOk result (Follows objects.now keys.old keys.new change.now) }
+{
+    let asides = set_aside(alloc, keys, kind, change.marks.as_slice())?;
+    follow(alloc, objects, keys, change)?;
+    put_back(alloc, keys, asides)
 }
 
 /// The last first, since a key is taken fastest from the end of a list.

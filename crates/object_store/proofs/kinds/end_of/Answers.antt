@@ -1,7 +1,8 @@
 use Rattle.std.proofs.Common.{not, rules}
 use Rattle.std.proofs.lemmas.Fn.{always_returns_same}
+use Rattle.key_lists.proofs.Parted.{front}
 use Rattle.object_store.specs.Kinds.{is_above}
-use Rattle.object_store.proofs.Arranged.{not_above_parted, front, back_above}
+use Rattle.object_store.proofs.Arranged.{not_above_parted, back_above}
 use Rattle.object_store.proofs.kinds.end_of.Goals as goal
 
 pub returns-clause-front : goal.returns-clause-front

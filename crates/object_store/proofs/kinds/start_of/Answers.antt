@@ -1,7 +1,8 @@
 use Rattle.std.proofs.Common.{rules}
 use Rattle.std.proofs.lemmas.Fn.{always_returns_same}
+use Rattle.key_lists.proofs.Parted.{back}
 use Rattle.object_store.specs.Kinds.{is_below}
-use Rattle.object_store.proofs.Arranged.{below_parted, front_below, back}
+use Rattle.object_store.proofs.Arranged.{below_parted, front_below}
 use Rattle.object_store.proofs.kinds.start_of.Goals as goal
 
 pub returns-clause-front : goal.returns-clause-front

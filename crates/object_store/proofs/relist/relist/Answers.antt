@@ -1,8 +1,10 @@
 use Rattle.std.proofs.Common.{◌≡◌, ◌++◌, map, refl, sym, ap, ◌∙◌}
+use Rattle.std.specs.FinMap.{values}
+use Rattle.std.proofs.lemmas.List.Elements.{filter_passes}
 use Rattle.std.proofs.lemmas.List.Sorted.{All-permutation}
 use Rattle.view_types.specs.Objects.{key_of, kind_of}
 use Rattle.mark_rules.specs.Marks.{marks_of_all}
-use Rattle.object_store.specs.Relisted.{of_kind}
+use Rattle.object_store.specs.Relisted.{is_of, of_kind}
 use Rattle.object_store.proofs.Kept.{relists_kept}
 use Rattle.object_store.proofs.Leading.{marks_joined, relist_leads_by}
 use Rattle.object_store.proofs.PutAll.{relisted-moved}
@@ -14,6 +16,10 @@ lacks_room_for-requires-clause-each c = rw c.as_slice.ensures.value (All-permuta
 
 pub replace-requires-clause-each : goal.replace-requires-clause-each
 replace-requires-clause-each c = All-permutation (λ o. kind_of o ≡ c.args.kind) c.args.items c.arrange-items.result.items c.arrange-items.ensures.moved c.requires.list.each
+
+pub follow_kind-requires : goal.follow_kind-requires
+follow_kind-requires c =
+    rw (c.in_ok-change.ensures.old, c.in_ok-old.ensures.before) (filter_passes (λ o. is_of c.args.kind (key_of o)) (values c.args.objects.now))
 
 pub returns-then-lacks_room_for-clause-full : goal.returns-then-lacks_room_for-clause-full
 returns-then-lacks_room_for-clause-full c =
@@ -43,4 +49,4 @@ returns-clause-room c =
     rw same at within
 
 pub returns-clause-keys : goal.returns-clause-keys
-returns-clause-keys c = λ kept. relists_kept c.args.objects.now c.replace.new.self c.args.keys.now c.follow.new.keys c.in_ok-change.change c.in_ok-follow.ensures kept c.args.kind c.args.items (returns-clause-ok c) c.requires.list c.stand_at_keys.ensures
+returns-clause-keys c = λ kept. relists_kept c.args.objects.now c.replace.new.self c.args.keys.now c.follow_kind.new.keys c.in_ok-change.change c.in_ok-follow_kind.ensures kept c.args.kind c.args.items (returns-clause-ok c) c.requires.list c.stand_at_keys.ensures
