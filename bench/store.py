@@ -3,8 +3,9 @@
 the same lines with a dict. Needs the proved program (tools/prove).
 
 Objects set in random order of their keys (each new one moves those after it in the sorted list), twice as many of them, one
-list line of all of them (sorted once), a list line of nearly the greatest length, and events on objects that are held. The
-peak memory of a list line is about 14 times its length, because its JSON tree is."""
+list line of all of them (sorted once), a list line of nearly the greatest length, events on objects that are held, and list
+lines of one kind of HTTPRoute beside as many of the other kind of the same Service. The peak memory of a list line is about 14
+times its length, because its JSON tree is."""
 import json
 import os
 import random
@@ -16,6 +17,8 @@ from measure import table
 HELD = 20_000
 LONGEST = 55_000  # in one list line of at most 64 MiB
 EVENTS = 100_000
+ROUTES = 10_000
+RELISTS = 10
 
 
 def write(path, lines):
@@ -42,6 +45,23 @@ def listed(numbers):
     yield json.dumps(dict(kind, items=items), separators=(",", ":"))
 
 
+def routes(group, count):
+    """One list line of HTTPRoutes of one Service."""
+    version = {"policy.linkerd.io": "v1beta3", "gateway.networking.k8s.io": "v1"}[group]
+    spec = {"parentRefs": [{"group": "core", "kind": "Service", "name": "web-0", "port": 80}],
+            "rules": [{"matches": [{"path": {"type": "PathPrefix", "value": "/"}}]}]}
+    items = [{"metadata": {"name": f"route-{number:05}", "namespace": "app"}, "spec": spec} for number in range(count)]
+    kind = {"kind": "HTTPRouteList", "apiVersion": f"{group}/{version}", "metadata": {"resourceVersion": "1"}}
+    yield json.dumps(dict(kind, items=items), separators=(",", ":"))
+
+
+def relisted(others):
+    """LinkerdRoutes listed again and again, beside so many GatewayRoutes, whose keys stand behind theirs."""
+    yield from routes("gateway.networking.k8s.io", others)
+    for _ in range(RELISTS):
+        yield from routes("policy.linkerd.io", ROUTES)
+
+
 def scattered(count):
     return random.sample(range(count), count)
 
@@ -55,6 +75,8 @@ def main():
         ("one list line of 20,000 objects", listed(scattered(HELD))),
         ("one list line of 55,000 objects", listed(scattered(LONGEST))),
         ("20,000 objects, then 100,000 events on them", (line for part in (listed(range(HELD)), modified(events)) for line in part)),
+        ("10,000 LinkerdRoutes relisted ten times", relisted(0)),
+        ("10,000 LinkerdRoutes relisted ten times beside 10,000 GatewayRoutes of one Service", relisted(ROUTES)),
     )
     with tempfile.TemporaryDirectory() as folder:
         path = os.path.join(folder, "feed.jsonl")
