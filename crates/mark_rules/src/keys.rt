@@ -1,10 +1,13 @@
 // The keys of the rows that views are joined from.
+use mesh_base::copied::Copied;
 use mesh_base::key::ObjKey;
+use mesh_base::memory::Memory;
 use mesh_base::text::Text;
+use std::alloc::Global;
 use view_types::query::Target;
 
 /// The key of the endpoints of a Service's port.
-#[derive(Drop)]
+#[derive(Drop, PartialEq, Eq, PartialOrd, Ord)]
 pub struct EndpointKey {
     pub ns: Text,
     pub name: Text,
@@ -12,14 +15,14 @@ pub struct EndpointKey {
 }
 
 /// The key of a target's profile, for a client in this namespace if it names one.
-#[derive(Drop)]
+#[derive(Drop, PartialEq, Eq, PartialOrd, Ord)]
 pub struct ProfileKey {
     pub target: Target,
     pub client: Option<Text>,
 }
 
 /// The key of what a Pod's port is served by: its protocol, its policy and its Server.
-#[derive(Drop)]
+#[derive(Drop, PartialEq, Eq, PartialOrd, Ord)]
 pub struct ServerKey {
     pub ns: Text,
     pub pod: Text,
@@ -27,7 +30,7 @@ pub struct ServerKey {
 }
 
 /// The key of a Server's routes.
-#[derive(Drop)]
+#[derive(Drop, PartialEq, Eq, PartialOrd, Ord)]
 pub struct RouteKey {
     pub ns: Text,
     pub server: Text,
@@ -43,4 +46,42 @@ pub enum RowKey {
     /// The authorizations of a Server or of a route.
     Authz(ObjKey),
     Outbound(Target),
+}
+
+impl Copied for EndpointKey {
+    fn copy(&self, _alloc: Global) -> Result<EndpointKey, Memory> {
+        Ok(EndpointKey {
+            ns: self.ns.copy()?,
+            name: self.name.copy()?,
+            port: self.port,
+        })
+    }
+}
+
+impl Copied for ProfileKey {
+    fn copy(&self, alloc: Global) -> Result<ProfileKey, Memory> {
+        Ok(ProfileKey {
+            target: self.target.copy(alloc)?,
+            client: self.client.copy(alloc)?,
+        })
+    }
+}
+
+impl Copied for ServerKey {
+    fn copy(&self, _alloc: Global) -> Result<ServerKey, Memory> {
+        Ok(ServerKey {
+            ns: self.ns.copy()?,
+            pod: self.pod.copy()?,
+            port: self.port,
+        })
+    }
+}
+
+impl Copied for RouteKey {
+    fn copy(&self, _alloc: Global) -> Result<RouteKey, Memory> {
+        Ok(RouteKey {
+            ns: self.ns.copy()?,
+            server: self.server.copy()?,
+        })
+    }
 }

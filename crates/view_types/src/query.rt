@@ -16,7 +16,7 @@ pub enum Method {
 }
 
 /// Where traffic is to go. A port is from 1 to 65535.
-#[derive(Drop)]
+#[derive(Drop, PartialEq, Eq, PartialOrd, Ord)]
 pub enum Target {
     Service { ns: Text, name: Text, port: u16 },
     Address { ip: Ip, port: u16 },
