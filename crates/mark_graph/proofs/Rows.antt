@@ -1,5 +1,5 @@
 -- Rows in lists.
-use Rattle.std.proofs.Common.{◌≡◌, ℕ, Bool, true, false, ◌||◌, nat_eq, List, [], ◌∷◌, Result, Ok, Err, IfOk, refl, sym, subst, ◌∙◌}
+use Rattle.std.proofs.Common.{◌≡◌, ℕ, Bool, true, false, ◌&&◌, ◌||◌, not, if◌then◌else◌, nat_eq, List, [], ◌∷◌, Result, Ok, Err, IfOk, refl, sym, ap, subst, ◌∙◌}
 use Rattle.std.specs.List.{list_any}
 use Rattle.std.specs.Cmp.{unsigned_tied}
 use Rattle.std.specs.Ordering.{is_eq, nat_cmp}
@@ -21,3 +21,38 @@ gathered keys r marks f g none is nothing same =
 pub of_rows : {E : Type 0} (P : List ℕ → Type 0) (keys : List ℕ) (r : Result (List ℕ) E) → IfOk r (λ rows. rows ≡ keys) → P keys → IfOk r P
 of_rows P keys (Ok rows) is p = subst P (sym is) p
 of_rows P keys (Err e) is p = tt
+
+-- a mark more that is put
+pub one_put : (a e has here old new : Bool) → a ≡ e → new ≡ ((a && here) || old) → ((has && here) || new) ≡ (((e || has) && here) || old)
+one_put a e has here old new same is = ap (λ n. (has && here) || n) (is ∙ ap (λ b. (b && here) || old) same) ∙ by_cases e has here
+  where
+    by_cases : (e has here : Bool) → ((has && here) || ((e && here) || old)) ≡ (((e || has) && here) || old)
+    by_cases true true true = refl
+    by_cases true true false = refl
+    by_cases true false here = refl
+    by_cases false true here = refl
+    by_cases false false here = refl
+
+-- a row that is moved: taken from what only the old set has, put at what only the new one has
+moved_here : (to from old mid new : Bool) → old ≡ from → mid ≡ (not ((from && not to) && true) && old) → new ≡ (((to && not from) && true) || mid) → new ≡ to
+moved_here to from old mid new stood taken put = put ∙ ap (λ b. ((to && not from) && true) || b) (taken ∙ ap (λ b. not ((from && not to) && true) && b) stood) ∙ by_cases to from
+  where
+    by_cases : (to from : Bool) → (((to && not from) && true) || (not ((from && not to) && true) && from)) ≡ to
+    by_cases true true = refl
+    by_cases true false = refl
+    by_cases false true = refl
+    by_cases false false = refl
+
+-- another row stays
+moved_there : (to from old mid new : Bool) → mid ≡ (not ((from && not to) && false) && old) → new ≡ (((to && not from) && false) || mid) → new ≡ old
+moved_there to from old mid new taken put = put ∙ ap (λ b. ((to && not from) && false) || b) taken ∙ by_cases to from
+  where
+    by_cases : (to from : Bool) → (((to && not from) && false) || (not ((from && not to) && false) && old)) ≡ old
+    by_cases true true = refl
+    by_cases true false = refl
+    by_cases false true = refl
+    by_cases false false = refl
+
+pub moved : (b to from stood old mid new : Bool) → (b ≡ true → old ≡ stood) → stood ≡ from → mid ≡ (not ((from && not to) && b) && old) → new ≡ (((to && not from) && b) || mid) → new ≡ (if b then to else old)
+moved true to from stood old mid new same is taken put = moved_here to from old mid new (same refl ∙ is) taken put
+moved false to from stood old mid new same is taken put = moved_there to from old mid new taken put

@@ -30,16 +30,20 @@ module _ {M : Type 0} (cmp : M → M → Ordering) where
   abbrev pub has_mark : List M → M → Bool
   has_mark marks mark = list_any (eq_by_cmp cmp mark) marks
 
-  abbrev pub some_mark : Option (List M) → M → Bool
+  abbrev pub some_mark : Option (BTreeSet M) → M → Bool
   some_mark None mark = false
-  some_mark (Some marks) mark = has_mark marks mark
+  some_mark (Some marks) mark = sorted.contains cmp marks mark
+
+  -- the mark is in one set and not in the other
+  abbrev pub is_only_in : BTreeSet M → BTreeSet M → M → Bool
+  is_only_in marks others mark = sorted.contains cmp marks mark && not (sorted.contains cmp others mark)
 
   -- the row stands at the mark
   abbrev pub row_at : BTreeMap M (BTreeSet ℕ) → M → ℕ → Bool
   row_at by_mark mark row = some_row row (tree.get cmp by_mark mark)
 
   -- the row watches the mark
-  abbrev pub watches : BTreeMap ℕ (List M) → ℕ → M → Bool
+  abbrev pub watches : BTreeMap ℕ (BTreeSet M) → ℕ → M → Bool
   watches rows row mark = some_mark (tree.get nat_cmp rows row) mark
 
   -- the row is added at the marks of the set, and else each row stands where it stood
@@ -50,12 +54,17 @@ module _ {M : Type 0} (cmp : M → M → Ordering) where
   abbrev pub RemovesRow : (M → Bool) → ℕ → BTreeMap M (BTreeSet ℕ) → BTreeMap M (BTreeSet ℕ) → Type 0
   RemovesRow set row old new = (m : M) (r : ℕ) → row_at new m r ≡ (not (set m && nat_eq r row) && row_at old m r)
 
+  -- the row, which stood at the old marks, stands at the new ones, and else each row where it stood
+  abbrev pub MovesRow : BTreeSet M → BTreeSet M → ℕ → BTreeMap M (BTreeSet ℕ) → BTreeMap M (BTreeSet ℕ) → Type 0
+  MovesRow from to row old new = (m : M) (r : ℕ) → row_at old m row ≡ sorted.contains cmp from m
+      → row_at new m r ≡ (if nat_eq r row then sorted.contains cmp to m else row_at old m r)
+
   -- the row watches the marks of the set alone, and each other row what it watched
-  abbrev pub Rewatches : (M → Bool) → ℕ → BTreeMap ℕ (List M) → BTreeMap ℕ (List M) → Type 0
+  abbrev pub Rewatches : (M → Bool) → ℕ → BTreeMap ℕ (BTreeSet M) → BTreeMap ℕ (BTreeSet M) → Type 0
   Rewatches set row old new = (r : ℕ) (m : M) → watches new r m ≡ (if nat_eq r row then set m else watches old r m)
 
   -- a row stands at a mark exactly where it watches it
-  abbrev pub Agree : BTreeMap M (BTreeSet ℕ) → BTreeMap ℕ (List M) → Type 0
+  abbrev pub Agree : BTreeMap M (BTreeSet ℕ) → BTreeMap ℕ (BTreeSet M) → Type 0
   Agree by_mark rows = (m : M) (r : ℕ) → row_at by_mark m r ≡ watches rows r m
 
   -- each mark that is kept has a row

@@ -4,7 +4,7 @@ ghost use Rattle.std.specs.BTreeSet.{contains};
 ghost use Rattle.std.specs.List.{list_any};
 ghost use Rattle.std.specs.List.Sorted.{IsStrictlySortedBy};
 ghost use Rattle.std.specs.Ordering.{eq_by_cmp, nat_cmp};
-ghost use Rattle.mark_graph.specs.RowMarks.{AddsRow, AllHaveRows, Gathers, OthersHaveRows, RemovesRow, has_mark, row_at};
+ghost use Rattle.mark_graph.specs.RowMarks.{AddsRow, AllHaveRows, Gathers, OthersHaveRows, RemovesRow, has_mark, is_only_in, row_at};
 
 use mesh_base::copied::Copied;
 use mesh_base::list::List;
@@ -70,30 +70,47 @@ fn let_go<M: Ord + Copied>(by: &mut BTreeMap<M, BTreeSet<u64>>, mark: &M)
     by.remove(mark);
 }
 
-/// Adds a row at each mark.
-pub fn put_all<M: Ord + Copied>(
+/// Adds a row at each mark of the new set that the old one lacks.
+pub fn put_new<M: Ord + Copied>(
     alloc: Global,
     by: &mut BTreeMap<M, BTreeSet<u64>>,
-    marks: &[M],
+    old: &BTreeSet<M>,
+    new: &BTreeSet<M>,
     row: u64,
 ) -> Result<(), Memory>
-    ensures added { OnOk result (AddsRow M.cmp (has_mark M.cmp marks.now) row by.old by.new) }
+    ensures added { OnOk result (AddsRow M.cmp (is_only_in M.cmp new.now old.now) row by.old by.new) }
     ensures kept { AllHaveRows M.cmp by.old → OnOk result (AllHaveRows M.cmp by.new) }
 {
-    for mark in marks {
+    for mark in new.difference(old) {
         put_one(alloc, by, mark, row)?;
     }
     Ok(())
 }
 
-/// Removes a row from each mark.
-pub fn take_all<M: Ord + Copied>(by: &mut BTreeMap<M, BTreeSet<u64>>, marks: &[M], row: u64)
-    ensures taken { RemovesRow M.cmp (has_mark M.cmp marks.now) row by.old by.new }
+/// Removes a row from each mark of the old set that the new one lacks.
+pub fn take_old<M: Ord + Copied>(
+    by: &mut BTreeMap<M, BTreeSet<u64>>,
+    old: &BTreeSet<M>,
+    new: &BTreeSet<M>,
+    row: u64,
+)
+    ensures taken { RemovesRow M.cmp (is_only_in M.cmp old.now new.now) row by.old by.new }
     ensures kept { AllHaveRows M.cmp by.old → AllHaveRows M.cmp by.new }
 {
-    for mark in marks {
+    for mark in old.difference(new) {
         take_one(by, mark, row);
     }
+}
+
+/// The marks of a list, each once.
+pub fn set_of<M: Ord + Copied>(alloc: Global, marks: List<M>) -> Result<BTreeSet<M>, Memory>
+    ensures { IfOk result (λ set. (m : _) → contains M.cmp set m ≡ has_mark M.cmp marks m) }
+{
+    let mut set = BTreeSet::new(alloc);
+    for mark in marks.into_vec() {
+        set.insert(mark)?;
+    }
+    Ok(set)
 }
 
 /// Adds the rows at these marks to a set.

@@ -1,11 +1,12 @@
 // A graph of rows and marks.
 ghost use Rattle.std.specs.Prelude.{◌≡◌, ℕ, true, false, IsErr, IfOk, OnOk};
+ghost use Rattle.std.specs.BTreeSet.{contains};
 ghost use Rattle.std.specs.List.{list_any};
 ghost use Rattle.std.specs.List.Sorted.{IsStrictlySortedBy};
 ghost use Rattle.std.specs.Ordering.{nat_cmp};
-ghost use Rattle.mark_graph.specs.RowMarks.{Agree, AllHaveRows, Rewatches, has_mark, has_row, watches};
+ghost use Rattle.mark_graph.specs.RowMarks.{Agree, AllHaveRows, MovesRow, Rewatches, has_mark, has_row, watches};
 
-use crate::by_mark::{gather_all, list_of, put_all, take_all};
+use crate::by_mark::{gather_all, list_of, put_new, set_of, take_old};
 use mesh_base::copied::Copied;
 use mesh_base::list::List;
 use mesh_base::memory::Memory;
@@ -16,7 +17,7 @@ use std::collections::{BTreeMap, BTreeSet};
 #[derive(Drop)]
 pub struct Graph<M: Ord + Copied> {
     by_mark: BTreeMap<M, BTreeSet<u64>>,
-    rows: BTreeMap<u64, List<M>>,
+    rows: BTreeMap<u64, BTreeSet<M>>,
     spent: bool,
     alloc: Global,
     ghost agree: { spent ≡ false → Agree M.cmp by_mark rows },
@@ -49,9 +50,8 @@ impl<M: Ord + Copied> Graph<M> {
             return Err(Memory);
         }
         self.spent = true;
-        remove_row(&mut self.by_mark, &mut self.rows, row);
-        put_all(self.alloc, &mut self.by_mark, marks.as_slice(), row)?;
-        self.rows.insert(row, marks)?;
+        let marks = set_of(self.alloc, marks)?;
+        change_row(self.alloc, &mut self.by_mark, &mut self.rows, row, marks)?;
         self.spent = false;
         Ok(())
     }
@@ -61,7 +61,7 @@ impl<M: Ord + Copied> Graph<M> {
         ensures watched { Rewatches M.cmp (λ m. false) row self.old.rows self.new.rows }
         ensures spent { self.new.spent ≡ self.old.spent }
     {
-        remove_row(&mut self.by_mark, &mut self.rows, row);
+        remove_row(self.alloc, &mut self.by_mark, &mut self.rows, row);
     }
 
     /// The rows that watch one of the marks, ascending and each once.
@@ -80,9 +80,28 @@ impl<M: Ord + Copied> Graph<M> {
     }
 }
 
-fn remove_row<M: Ord + Copied>(
+/// Lets the row watch these marks: it is moved at those marks alone that it doesn't watch both before and after.
+fn change_row<M: Ord + Copied>(
+    alloc: Global,
     by: &mut BTreeMap<M, BTreeSet<u64>>,
-    rows: &mut BTreeMap<u64, List<M>>,
+    rows: &mut BTreeMap<u64, BTreeSet<M>>,
+    row: u64,
+    marks: BTreeSet<M>,
+) -> Result<(), Memory>
+    ensures watched { OnOk result (Rewatches M.cmp (contains M.cmp marks) row rows.old rows.new) }
+    ensures agree { Agree M.cmp by.old rows.old → OnOk result (Agree M.cmp by.new rows.new) }
+    ensures kept { AllHaveRows M.cmp by.old → OnOk result (AllHaveRows M.cmp by.new) }
+{
+    let old = take_marks(alloc, rows, row);
+    move_row(alloc, by, &old, &marks, row)?;
+    rows.insert(row, marks)?;
+    Ok(())
+}
+
+fn remove_row<M: Ord + Copied>(
+    alloc: Global,
+    by: &mut BTreeMap<M, BTreeSet<u64>>,
+    rows: &mut BTreeMap<u64, BTreeSet<M>>,
     row: u64,
 )
     ensures watched { Rewatches M.cmp (λ m. false) row rows.old rows.new }
@@ -90,6 +109,37 @@ fn remove_row<M: Ord + Copied>(
     ensures kept { AllHaveRows M.cmp by.old → AllHaveRows M.cmp by.new }
 {
     if let Some(marks) = rows.remove(&row) {
-        take_all(by, marks.as_slice(), row);
+        take_old(by, &marks, &BTreeSet::new(alloc), row);
     }
+}
+
+/// The marks that the row watches. It watches none then.
+fn take_marks<M: Ord + Copied>(
+    alloc: Global,
+    rows: &mut BTreeMap<u64, BTreeSet<M>>,
+    row: u64,
+) -> BTreeSet<M>
+    ensures marks { (m : _) → contains M.cmp result m ≡ watches M.cmp rows.old row m }
+    ensures watched { Rewatches M.cmp (λ m. false) row rows.old rows.new }
+{
+    match rows.remove(&row) {
+        Some(marks) => marks,
+        None => BTreeSet::new(alloc),
+    }
+}
+
+/// Moves the row from the old marks, at which it stands, to the new ones.
+fn move_row<M: Ord + Copied>(
+    alloc: Global,
+    by: &mut BTreeMap<M, BTreeSet<u64>>,
+    old: &BTreeSet<M>,
+    new: &BTreeSet<M>,
+    row: u64,
+) -> Result<(), Memory>
+    ensures moved { OnOk result (MovesRow M.cmp old.now new.now row by.old by.new) }
+    ensures kept { AllHaveRows M.cmp by.old → OnOk result (AllHaveRows M.cmp by.new) }
+{
+    take_old(by, old, new, row);
+    put_new(alloc, by, old, new, row)?;
+    Ok(())
 }
