@@ -10,7 +10,7 @@ use Rattle.feed_history.specs.Optional.{Becomes, Becomes-weaker, Extends}
 use Rattle.feed_history.specs.Output.{lines_unless}
 use Rattle.mesh_hub.specs.Replies.{done_reply, drain_reply}
 use Rattle.feed_history.specs.Text.{frame_line, oversize_line}
-use Rattle.mesh_hub.specs.Subscriptions.{LiveSubscription}
+use Rattle.subscriptions.specs.Live.{LiveSubscription}
 use Rattle.mesh_hub.specs.declared.machine.Reply.{Reply}
 use Rattle.mesh_hub.specs.declared.machine.Reply.TheVariants as replies
 use Rattle.feed_history.specs.declared.refusal.HubFault.{HubFault}

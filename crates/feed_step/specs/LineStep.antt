@@ -21,7 +21,7 @@ use Rattle.feed_history.specs.Program.{Program}
 use Rattle.mesh_hub.specs.HubAfter.{seen}
 use Rattle.feed_history.specs.Text.{oversize_line}
 use Rattle.feed_history.specs.VerdictText.{verdict_line}
-use Rattle.mesh_hub.specs.Subscriptions.{LiveSubscription}
+use Rattle.subscriptions.specs.Live.{LiveSubscription}
 use Rattle.mesh_hub.specs.declared.machine.Reply.{Reply}
 use Rattle.feed_history.specs.declared.refusal.HubFault.{HubFault}
 use Rattle.feed_history.specs.declared.refusal.HubFault.TheVariants as faults

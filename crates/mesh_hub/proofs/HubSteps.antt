@@ -15,7 +15,7 @@ use Rattle.feed_history.specs.Ids.{at_id, ended, in_place, subscribe_refusal, un
 use Rattle.feed_history.specs.Program.{Program}
 use Rattle.feed_history.proofs.Placed.{stays}
 use Rattle.mesh_hub.specs.HubAfter.{seen, seen_sub}
-use Rattle.mesh_hub.specs.Subscriptions.{LiveSubscription}
+use Rattle.subscriptions.specs.Live.{LiveSubscription}
 use Rattle.feed_history.specs.declared.refusal.HubFault.{HubFault}
 
 -- ---- what stands under an id, and in its place

@@ -5,7 +5,7 @@ use Rattle.view_rules.specs.Views.{view_before}
 use Rattle.feed_history.specs.History.{Asked, State}
 use Rattle.mesh_hub.specs.Hub.{HubState}
 use Rattle.feed_history.specs.Program.{Program}
-use Rattle.mesh_hub.specs.Subscriptions.{LiveSubscription}
+use Rattle.subscriptions.specs.Live.{LiveSubscription}
 
 -- A subscription was last shown the view over what was held when it was last drained.
 abbrev pub seen_sub : Config → Asked → LiveSubscription

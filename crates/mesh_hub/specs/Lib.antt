@@ -8,4 +8,3 @@ pub mod HubAfter
 pub mod Replies
 pub mod Scripts
 pub mod Sending
-pub mod Subscriptions

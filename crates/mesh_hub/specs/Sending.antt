@@ -5,7 +5,7 @@ use Rattle.view_rules.specs.Fold.{IsOrderlyIfShown}
 use Rattle.view_rules.specs.Views.{view_of}
 use Rattle.feed_history.specs.Drains.{frames_of, too_long}
 use Rattle.mesh_hub.specs.Hub.{HubState, messages_for}
-use Rattle.mesh_hub.specs.Subscriptions.{LiveSubscription}
+use Rattle.subscriptions.specs.Live.{LiveSubscription}
 use Rattle.feed_history.specs.declared.refusal.HubFault.{HubFault}
 use Rattle.feed_history.specs.declared.refusal.HubFault.TheVariants.{Oversize}
 

@@ -1,5 +1,4 @@
 pub mod AtKeys
-pub mod FirstMatch
 pub mod Needs
 pub mod QueryMarks
 pub mod Refer

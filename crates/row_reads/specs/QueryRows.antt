@@ -31,22 +31,6 @@ first_row (query.Profile target ctx) = row.Profile (record { target = target; cl
 first_row (query.Port ns pod port) = row.Server (record { ns = ns; pod = pod; port = port })
 first_row (query.Traffic target) = row.Outbound target
 
--- ---- the Server of a port, among keys
-
--- the Server, if it is in the namespace and selects the Pod and the port
-abbrev pub as_match : ServerKey → Pod → Object → Option ServerSpec
-as_match key pod (object.Server server) = if is_for_port key.ns pod key.port server then Some server else None
-as_match key pod _ = None
-
-abbrev pub match_found : ServerKey → Pod → Option Object → Option ServerSpec
-match_found key pod None = None
-match_found key pod (Some o) = as_match key pod o
-
--- the first such Server at these keys
-abbrev pub first_match : ObjectMap → ServerKey → Pod → List ObjKey → Option ServerSpec
-first_match held key pod [] = None
-first_match held key pod (at ∷ rest) = option_or (match_found key pod (get held at)) (first_match held key pod rest)
-
 -- ---- the rows behind it
 
 -- what the authorizations of a Server or of a route read, mark by mark

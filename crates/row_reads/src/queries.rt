@@ -9,10 +9,11 @@ ghost use Rattle.view_rules.specs.PolicyLaws.{AreLawful, server_key};
 ghost use Rattle.view_rules.specs.Servers.{chosen_server, is_for_port};
 ghost use Rattle.mark_rules.specs.Reads.{query_reads};
 ghost use Rattle.mark_rules.specs.Rows.{name_in, server_part};
-ghost use Rattle.row_reads.specs.QueryRows.{authz_from, behind_name, behind_row, behind_server, first_match, first_row, match_found};
+ghost use Rattle.row_reads.specs.QueryRows.{authz_from, behind_name, behind_row, behind_server, first_row};
 ghost use Rattle.row_reads.specs.References.{HaveSame};
 
 use crate::at_mark::Reader;
+use crate::rows::add_routes;
 use mark_rules::keys::{EndpointKey, ProfileKey, RowKey, ServerKey};
 use mesh_base::copied::Copied;
 use mesh_base::key::{Kind, ObjKey};
@@ -20,7 +21,7 @@ use mesh_base::list::List;
 use mesh_base::memory::Memory;
 use mesh_base::steps::Steps;
 use mesh_base::text::Text;
-use policy_rows::server::is_for_port;
+use policy_rows::server::chosen_server;
 use std::alloc::Global;
 use view_types::mark::Mark;
 use view_types::object::Object;
@@ -69,7 +70,7 @@ impl Reader<'_> {
             ++ behind_name self.now.store.now.objects key.now.ns
             (name_in (server_part self.now.config.now self.now.store.now.objects key.now))) }
     {
-        let name = self.server_name(key, steps);
+        let name = self.server_name(key, steps)?;
         self.add_behind_name(&key.ns, name, marks, steps)
     }
 
@@ -123,13 +124,16 @@ impl Reader<'_> {
     }
 
     // The name of the Server that is chosen for a port. There is none where the Pod isn't held.
-    fn server_name<L>(&self, key: &ServerKey, steps: &mut Steps<L>) -> Option<&Text>
-        ensures { self.now.store.now.spent ≡ false → option_copied result
-            ≡ name_in (server_part self.now.config.now self.now.store.now.objects key.now) }
+    fn server_name<L>(&self, key: &ServerKey, steps: &mut Steps<L>) -> Result<Option<&Text>, Memory>
+        ensures { IfOk result (λ name. option_copied name
+            ≡ name_in (server_part self.now.config.now self.now.store.now.objects key.now)) }
     {
         match self.pod(key, steps) {
-            Some(pod) => name_of(self.chosen_server(key, pod, steps)),
-            None => None,
+            Some(pod) => {
+                let server = chosen_server(self.store, &key.ns, pod, key.port, steps)?;
+                Ok(name_of(server))
+            }
+            None => Ok(None),
         }
     }
 
@@ -142,66 +146,6 @@ impl Reader<'_> {
             _ => None,
         }
     }
-
-    fn chosen_server<L>(
-        &self,
-        key: &ServerKey,
-        pod: &Pod,
-        steps: &mut Steps<L>,
-    ) -> Option<&ServerSpec>
-        ensures { self.now.store.now.spent ≡ false → option_copied result
-            ≡ chosen_server self.now.store.now.objects key.now.ns pod.now key.now.port }
-    {
-        self.store.stand_at_keys();
-        let keys = self.store.servers_in(&key.ns);
-        self.first_match(keys, key, pod, steps)
-    }
-
-    // The first Server at the keys that selects the Pod and the port.
-    fn first_match<L>(
-        &self,
-        keys: &[ObjKey],
-        key: &ServerKey,
-        pod: &Pod,
-        steps: &mut Steps<L>,
-    ) -> Option<&ServerSpec>
-        ensures { option_copied result
-            ≡ first_match self.now.store.now.objects key.now pod.now keys.now }
-    {
-        for at in keys {
-            match self.match_at(at, key, pod, steps) {
-                Some(server) => return Some(server),
-                None => {}
-            }
-        }
-        None
-    }
-
-    fn match_at<L>(
-        &self,
-        at: &ObjKey,
-        key: &ServerKey,
-        pod: &Pod,
-        steps: &mut Steps<L>,
-    ) -> Option<&ServerSpec>
-        ensures { option_copied result
-            ≡ match_found key.now pod.now (get self.now.store.now.objects at.now) }
-    {
-        match self.store.get(at, steps)? {
-            Object::Server(server) => if_match(key, pod, server.get()),
-            _ => None,
-        }
-    }
-}
-
-fn if_match<'a>(key: &ServerKey, pod: &Pod, server: &'a ServerSpec) -> Option<&'a ServerSpec>
-    ensures { option_copied result ≡ if is_for_port key.now.ns pod.now key.now.port server.now
-        then Some server.now else None }
-{
-    if is_for_port(&key.ns, pod, key.port, server) {
-        return Some(server);
-    }
-    None
 }
 
 fn name_of(server: Option<&ServerSpec>) -> Option<&Text>
@@ -222,13 +166,6 @@ fn server_key(ns: &Text, name: &Text) -> Result<ObjKey, Memory>
         ns: ns.copy()?,
         name: name.copy()?,
     })
-}
-
-// Adds the mark of the routes that name a Server as a parent.
-fn add_routes(marks: &mut List<Mark>, ns: &Text, name: &Text) -> Result<(), Memory>
-    ensures { OnOk result (marks.new ≡ marks.old ++ RouteOn ns.now parent.Server name.now ∷ []) }
-{
-    marks.add(Mark::RouteOn(ns.copy()?, ParentKind::Server, name.copy()?))
 }
 
 // The first row of a query, which is the only one unless the query is of a port.

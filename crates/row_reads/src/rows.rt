@@ -43,8 +43,15 @@ pub fn route_reads(alloc: Global, key: &RouteKey) -> Result<List<Mark>, Memory>
     ensures { IfOk result (λ marks. marks ≡ route_reads key.now) }
 {
     let mut marks = List::new(alloc);
-    marks.add(Mark::RouteOn(key.ns.copy()?, ParentKind::Server, key.server.copy()?))?;
+    add_routes(&mut marks, &key.ns, &key.server)?;
     Ok(marks)
+}
+
+/// Adds the mark of the routes with the Server as a parent.
+pub(crate) fn add_routes(marks: &mut List<Mark>, ns: &Text, name: &Text) -> Result<(), Memory>
+    ensures { OnOk result (marks.new ≡ marks.old ++ RouteOn ns.now parent.Server name.now ∷ []) }
+{
+    marks.add(routes_on(ns, ParentKind::Server, name)?)
 }
 
 fn slices_of(ns: &Text, name: &Text) -> Result<Mark, Memory>
@@ -53,10 +60,11 @@ fn slices_of(ns: &Text, name: &Text) -> Result<Mark, Memory>
     Ok(Mark::SlicesOf(ns.copy()?, name.copy()?))
 }
 
-fn routes_of(ns: &Text, name: &Text) -> Result<Mark, Memory>
-    ensures { IfOk result (λ mark. mark ≡ RouteOn ns.now parent.Service name.now) }
+/// The mark of the routes with a parent of this kind and name.
+fn routes_on(ns: &Text, kind: ParentKind, name: &Text) -> Result<Mark, Memory>
+    ensures { IfOk result (λ mark. mark ≡ RouteOn ns.now kind name.now) }
 {
-    Ok(Mark::RouteOn(ns.copy()?, ParentKind::Service, name.copy()?))
+    Ok(Mark::RouteOn(ns.copy()?, kind, name.copy()?))
 }
 
 impl Reader<'_> {
@@ -103,7 +111,7 @@ impl Reader<'_> {
             ++ service_outbound_reads self.now.store.now.objects ns.now name.now) }
     {
         add_key(marks, Kind::Service, ns, name)?;
-        let routes = routes_of(ns, name)?;
+        let routes = routes_on(ns, ParentKind::Service, name)?;
         self.add_read(&routes, Reference::Backends, marks, steps)
     }
 

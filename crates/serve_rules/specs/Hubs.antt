@@ -10,7 +10,7 @@ use Rattle.view_types.specs.declared.config.Config.{Config}
 use Rattle.feed_history.specs.History.{after}
 use Rattle.mesh_hub.specs.Hub.{HubState, frames_at, sub_at}
 use Rattle.feed_history.specs.Marks.{MarkedRow}
-use Rattle.mesh_hub.specs.Subscriptions.{LiveSubscription}
+use Rattle.subscriptions.specs.Live.{LiveSubscription}
 use Rattle.feed_history.specs.declared.refusal.HubFault.{HubFault}
 use Rattle.feed_history.specs.declared.refusal.HubFault.TheVariants as faults
 use Rattle.serve_rules.specs.FedLines.{FedRow, held_after, serve_of, up_to}

@@ -1,2 +1,0 @@
--- A live subscription, as contracts see it.
-pub use Rattle.subscriptions.specs.Live.{LiveSubscription}
