@@ -1,7 +1,7 @@
 use crate::end::{Case, report_text};
 use line_run::Status;
 use run_report::HeldObjects;
-use std::alloc::{AllocError, Global};
+use std::alloc::Global;
 use std::process::Abort;
 use std::test::Fail;
 
@@ -41,14 +41,6 @@ fn assert_report(
         assert_eq!(rt; text.as_str(), expected);
     }
     Ok(())
-}
-
-fn joined(alloc: Global, lines: &[&str]) -> Result<String, AllocError> {
-    let mut input = String::new(alloc);
-    for line in lines {
-        input.push_str(line)?;
-    }
-    Ok(input)
 }
 
 // What was recorded in place of a feed, by the first line that was refused, and what makes a feed of it.
@@ -188,6 +180,20 @@ fn named(name: &str) -> Option<&'static str> {
         "service" => Some(SERVICE),
         "slices" => Some(SLICES),
         "pod" => Some(POD),
+        "pods" => Some(PODS),
+        "page" => Some(PAGE),
+        "linkerd_routes" => Some(
+            "{\"kind\":\"HTTPRouteList\",\"apiVersion\":\"policy.linkerd.io/v1beta3\",\"items\":[]}\n",
+        ),
+        "gateway_routes" => Some(
+            "{\"kind\":\"HTTPRouteList\",\"apiVersion\":\"gateway.networking.k8s.io/v1\",\"items\":[]}\n",
+        ),
+        "linkerd_routes_at_end" => Some(
+            "{\"apiVersion\":\"policy.linkerd.io/v1beta3\",\"items\":[{\"kind\":\"HTTPRoute\"}],\"kind\":\"HTTPRouteList\"}\n",
+        ),
+        "gateway_routes_at_end" => Some(
+            "{\"apiVersion\":\"gateway.networking.k8s.io/v1\",\"items\":[{\"kind\":\"HTTPRoute\"}],\"kind\":\"HTTPRouteList\"}\n",
+        ),
         "subscribe" => Some("{\"id\":1,\"control\":\"subscribe\",\"query\":{}}\n"),
         "simulate" => Some("{\"control\": \"simulate\"}"),
         "spec_first" => Some(
@@ -275,45 +281,30 @@ fn servers(alloc: Global, end: &str) -> Result<String, Fail> {
     Ok(list)
 }
 
-// Pages and second lists of a built-in kind.
+// The names of an input's lines, and what is told of pages and second lists of a built-in kind. There are two kinds of routes.
+const LISTS: &str = "\
+subscribe page pods => warning: line 2 is one page of a list of kind Pod: it counts as the whole list and replaces all objects of the kind
+pods subscribe pods => warning: line 3 lists kind Pod again after line 1: each list counts as the whole and replaces all objects of the kind
+slices pods subscribe => -
+linkerd_routes gateway_routes subscribe => -
+linkerd_routes_at_end gateway_routes_at_end subscribe => -
+pods pod pods subscribe => -";
+
 #[test]
 fn lists(rt: HostRuntime) -> Result<(), Fail> {
     let alloc = rt.alloc();
-    for (lines, expected) in [
-        (
-            [SUBSCRIBE, PAGE, PODS],
-            "linkerd_cli: warning: line 2 is one page of a list of kind Pod: it counts as the whole list and replaces all objects of the kind\n",
-        ),
-        (
-            [PODS, SUBSCRIBE, PODS],
-            "linkerd_cli: warning: line 3 lists kind Pod again after line 1: each list counts as the whole and replaces all objects of the kind\n",
-        ),
-        ([SLICES, PODS, SUBSCRIBE], ""),
-        // Two kinds of this name.
-        (
-            [
-                "{\"kind\":\"HTTPRouteList\",\"apiVersion\":\"policy.linkerd.io/v1beta3\",\"items\":[]}\n",
-                "{\"kind\":\"HTTPRouteList\",\"apiVersion\":\"gateway.networking.k8s.io/v1\",\"items\":[]}\n",
-                SUBSCRIBE,
-            ],
-            "",
-        ),
-        (
-            [
-                "{\"apiVersion\":\"policy.linkerd.io/v1beta3\",\"items\":[{\"kind\":\"HTTPRoute\"}],\"kind\":\"HTTPRouteList\"}\n",
-                "{\"apiVersion\":\"gateway.networking.k8s.io/v1\",\"items\":[{\"kind\":\"HTTPRoute\"}],\"kind\":\"HTTPRouteList\"}\n",
-                SUBSCRIBE,
-            ],
-            "",
-        ),
-    ] {
-        let input = joined(alloc, &lines)?;
-        let case = case_of("replay", input.as_bytes(), "");
-        assert_report(&rt, alloc, case, expected)?;
+    for row in LISTS.lines() {
+        let (names, message) = row.split_once(" => ").ok_or("a row has no message")?;
+        let input = input_of(alloc, names)?;
+        let expected = message_of(alloc, message)?;
+        assert_report(
+            &rt,
+            alloc,
+            case_of("replay", input.as_bytes(), ""),
+            &expected,
+        )?;
     }
-    let input = joined(alloc, &[PODS, POD, PODS, SUBSCRIBE])?;
-    let case = case_of("replay", input.as_bytes(), "");
-    assert_report(&rt, alloc, case, "")
+    Ok(())
 }
 
 // Pages and second lists of a custom resource.

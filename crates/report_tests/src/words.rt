@@ -20,13 +20,29 @@ impl CommandReader for Refusing<'_> {
     }
 }
 
-const PATH: &str =
-    "NAME.NAMESPACE.svc.DOMAIN[:PORT] with the cluster domain, or for GetProfile and Watch also IP[:PORT]";
+// Words, and which of them is wrong, what is accepted, and what may have been meant.
+const WRONG: &str = "\
+replya => \"replya\" is not a command: the first word is replay, diagnose, fold or sample (did you mean replay?)
+listen --port 80 => \"listen\" is not a command: the first word is replay, diagnose, fold or sample
+diagnose --id 1 --method get --path a.b.svc.cluster.local => --method \"get\" is not accepted: it is Get, GetProfile, WatchPort or Watch (did you mean Get?)
+diagnose --id 1 --method WatchPort --workload a:b --port http => --port \"http\" is not accepted: it is a number from 1 to 65535
+diagnose --id=x --method Get --port http => --id \"x\" is not accepted: it is a number from 0 to 4294967295
+diagnose --method Get --path a.b.svc.cluster.local => diagnose needs --id: a number from 0 to 4294967295
+diagnose --id 1 --method WatchPort --port 80 => diagnose needs --workload: NAMESPACE:POD
+sample => sample needs NUMBER: from 0 to 1000
+sample -- 5000 => NUMBER \"5000\" is not accepted: it is from 0 to 1000
+fold --id 1 --id=2 --method Get => --id is given twice: each option is given once
+fold --id --method Get => --id has no value: it is a number from 0 to 4294967295
+fold --method Get --id => --id has no value: it is a number from 0 to 4294967295
+fold --id 1 --method Get out.txt => \"out.txt\" is neither an option nor a value: options are written --name VALUE or --name=VALUE, and the input is standard input
+fold --id 1 --metod=Get => fold has no option \"--metod\": its options are --id, --method (did you mean --method?)
+fold --id 1 --method Get --path x => fold has no option --path, an option of diagnose: its options are --id, --method
+diagnose --id 1 --method Get --path web.app => --path \"web.app\" is not accepted: it is NAME.NAMESPACE.svc.DOMAIN[:PORT] with the cluster domain, or for GetProfile and Watch also IP[:PORT]
+diagnose --id 1 --method Get => diagnose needs --path: NAME.NAMESPACE.svc.DOMAIN[:PORT] with the cluster domain, or for GetProfile and Watch also IP[:PORT]
+replay -v => replay has no option \"-v\": its options are --cluster-domain, --trust-domain, --control-plane-namespace, --cluster-networks, --default-policy
+sample 5 --id=1 => sample has no option --id, an option of diagnose and fold: its options are --cluster-domain, --trust-domain, --control-plane-namespace, --cluster-networks, --default-policy
+replay --default-policy=open => --default-policy \"open\" is not accepted: it is all-unauthenticated, all-authenticated, cluster-unauthenticated, cluster-authenticated, deny or audit";
 
-const CONFIGURATION: &str =
-    "--cluster-domain, --trust-domain, --control-plane-namespace, --cluster-networks, --default-policy";
-
-// Which word is wrong, what is accepted, and what may have been meant.
 #[test]
 fn wrong_words(rt: HostRuntime) -> Result<(), Fail> {
     let alloc = rt.alloc();
@@ -41,65 +57,8 @@ fn wrong_words(rt: HostRuntime) -> Result<(), Fail> {
     let reader = Refusing {
         words: refused.as_slice(),
     };
-    for (words, wrong) in [
-        (
-            "replya",
-            "\"replya\" is not a command: the first word is replay, diagnose, fold or sample (did you mean replay?)",
-        ),
-        (
-            "listen --port 80",
-            "\"listen\" is not a command: the first word is replay, diagnose, fold or sample",
-        ),
-        (
-            "diagnose --id 1 --method get --path a.b.svc.cluster.local",
-            "--method \"get\" is not accepted: it is Get, GetProfile, WatchPort or Watch (did you mean Get?)",
-        ),
-        (
-            "diagnose --id 1 --method WatchPort --workload a:b --port http",
-            "--port \"http\" is not accepted: it is a number from 1 to 65535",
-        ),
-        (
-            "diagnose --id=x --method Get --port http",
-            "--id \"x\" is not accepted: it is a number from 0 to 4294967295",
-        ),
-        (
-            "diagnose --method Get --path a.b.svc.cluster.local",
-            "diagnose needs --id: a number from 0 to 4294967295",
-        ),
-        (
-            "diagnose --id 1 --method WatchPort --port 80",
-            "diagnose needs --workload: NAMESPACE:POD",
-        ),
-        ("sample", "sample needs NUMBER: from 0 to 1000"),
-        (
-            "sample -- 5000",
-            "NUMBER \"5000\" is not accepted: it is from 0 to 1000",
-        ),
-        (
-            "fold --id 1 --id=2 --method Get",
-            "--id is given twice: each option is given once",
-        ),
-        (
-            "fold --id --method Get",
-            "--id has no value: it is a number from 0 to 4294967295",
-        ),
-        (
-            "fold --method Get --id",
-            "--id has no value: it is a number from 0 to 4294967295",
-        ),
-        (
-            "fold --id 1 --method Get out.txt",
-            "\"out.txt\" is neither an option nor a value: options are written --name VALUE or --name=VALUE, and the input is standard input",
-        ),
-        (
-            "fold --id 1 --metod=Get",
-            "fold has no option \"--metod\": its options are --id, --method (did you mean --method?)",
-        ),
-        (
-            "fold --id 1 --method Get --path x",
-            "fold has no option --path, an option of diagnose: its options are --id, --method",
-        ),
-    ] {
+    for row in WRONG.lines() {
+        let (words, wrong) = row.split_once(" => ").ok_or("a row has no fault")?;
         let texts = words_of(alloc, words)?;
         let text = format!(in alloc; "{}", WrongWords::of(alloc, &texts, &reader))?;
         let expected = format!(in alloc; "{USAGE_LINE}linkerd_cli: {wrong}\n")?;
@@ -108,47 +67,9 @@ fn wrong_words(rt: HostRuntime) -> Result<(), Fail> {
     Ok(())
 }
 
-// The wrong words that are told at length: a target, whose words depend on other options, and options of a configuration.
-#[test]
-fn long_lines(rt: HostRuntime) -> Result<(), Fail> {
-    let alloc = rt.alloc();
-    let reader = Refusing {
-        words: ["--default-policy=open"].as_slice(),
-    };
-    for (words, wrong, accepted) in [
-        (
-            "diagnose --id 1 --method Get --path web.app",
-            "--path \"web.app\" is not accepted: it is ",
-            PATH,
-        ),
-        (
-            "diagnose --id 1 --method Get",
-            "diagnose needs --path: ",
-            PATH,
-        ),
-        (
-            "replay -v",
-            "replay has no option \"-v\": its options are ",
-            CONFIGURATION,
-        ),
-        (
-            "sample 5 --id=1",
-            "sample has no option --id, an option of diagnose and fold: its options are ",
-            CONFIGURATION,
-        ),
-        (
-            "replay --default-policy=open",
-            "--default-policy \"open\" is not accepted: it is ",
-            "all-unauthenticated, all-authenticated, cluster-unauthenticated, cluster-authenticated, deny or audit",
-        ),
-    ] {
-        let texts = words_of(alloc, words)?;
-        let text = format!(in alloc; "{}", WrongWords::of(alloc, &texts, &reader))?;
-        let expected = format!(in alloc; "{USAGE_LINE}linkerd_cli: {wrong}{accepted}\n")?;
-        assert_eq!(rt; text.as_str(), expected.as_str());
-    }
-    Ok(())
-}
+// What the usage names.
+const USED: &str =
+    "--cluster-domain|--trust-domain|--control-plane-namespace|--cluster-networks|--default-policy|all-unauthenticated\n|all-authenticated,|cluster-unauthenticated,|cluster-authenticated,|deny,|audit\n|--id|--method|Get,|GetProfile,|WatchPort or Watch\n|--path|--workload|--port|--token|10.0.0.0/8,100.64.0.0/10,172.16.0.0/12,192.168.0.0/16\n";
 
 // The usage is told whole where there are no words, where they ask for help, and where nothing is found wrong. It begins as scripts
 // expect it, names all words, and fits a terminal of 80 columns.
@@ -174,29 +95,7 @@ fn usage(rt: HostRuntime) -> Result<(), Fail> {
     for line in USAGE.lines() {
         assert!(rt; line.len() <= 80, "{line}");
     }
-    for word in [
-        "--cluster-domain",
-        "--trust-domain",
-        "--control-plane-namespace",
-        "--cluster-networks",
-        "--default-policy",
-        "all-unauthenticated\n",
-        "all-authenticated,",
-        "cluster-unauthenticated,",
-        "cluster-authenticated,",
-        "deny,",
-        "audit\n",
-        "--id",
-        "--method",
-        "Get,",
-        "GetProfile,",
-        "WatchPort or Watch\n",
-        "--path",
-        "--workload",
-        "--port",
-        "--token",
-        "10.0.0.0/8,100.64.0.0/10,172.16.0.0/12,192.168.0.0/16\n",
-    ] {
+    for word in USED.split('|') {
         assert!(rt; USAGE.contains(word), "{word}");
     }
     Ok(())
