@@ -1,0 +1,3 @@
+pub mod Kept
+pub mod OpenLists
+pub mod OpenTraces

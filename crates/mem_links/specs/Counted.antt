@@ -1,0 +1,19 @@
+-- What links that play a script count.
+use Rattle.std.specs.Prelude.{ℕ, Bool, true, false}
+use Rattle.mesh_links.specs.Counts.{Counts}
+use Rattle.mesh_links.specs.declared.links.LinkFault.{LinkFault}
+use Rattle.mesh_links.specs.declared.links.LinkFault.TheVariants as faults
+
+-- one number for the polls that failed, and one each for the failures and the answers `Pending` of all links
+abbrev pub counts_of : ℕ → ℕ → ℕ → Counts
+counts_of polls faults pendings = record { polls = polls; faults = λ link. faults; pendings = λ link. pendings }
+
+abbrev pub is_failed : LinkFault → Bool
+is_failed faults.Failed = true
+is_failed faults.Pending = false
+is_failed faults.Memory = false
+
+abbrev pub is_pending : LinkFault → Bool
+is_pending faults.Failed = false
+is_pending faults.Pending = true
+is_pending faults.Memory = false
