@@ -2,12 +2,12 @@ ghost use Rattle.std.specs.Prelude.{◌≡◌, ◌≤◌, ◌++◌, IfOk, OnOk, 
 ghost use Rattle.std.specs.Option.{option_copied};
 ghost use Rattle.mesh_base.specs.Keyed.{IsKeyed};
 ghost use Rattle.view_rules.specs.Endpoints.{pair_cmp, pair_of};
-ghost use Rattle.view_rules.specs.Batch.{endpoint_batch, messages_to_none, messages_to_rows, rows_before, IsOrderlyBefore, is_news};
+ghost use Rattle.view_rules.specs.Batch.{endpoint_batch, in_pieces, messages_to_none, messages_to_rows, rows_before, IsOrderlyBefore, is_news};
 ghost use Rattle.view_rules.specs.Fold.{IsOrderly};
 ghost use Rattle.view_types.specs.declared.message.Message.TheVariants.{Add, Remove};
 
 use crate::cut::in_pieces;
-use crate::merge::find_changes;
+use crate::merge::{Changes, find_changes};
 use mesh_base::limits::Limits;
 use mesh_base::list::List;
 use mesh_base::memory::Memory;
@@ -66,8 +66,7 @@ fn rows_before<'a>(old: Option<&'a EndpointView>) -> &'a [EndpointRow]
     }
 }
 
-/// First the new and changed rows, then the addresses gone, each in messages of `size` addresses, of which the last may
-/// have fewer. Both lists are in the order of the addresses, each address with its port once.
+/// Both lists are in the order of the addresses, each address with its port once.
 fn to_rows(
     alloc: Global,
     old: &[EndpointRow],
@@ -79,10 +78,24 @@ fn to_rows(
     requires new { IsKeyed pair_cmp pair_of (λ row. row) new.now }
     ensures { IfOk result (λ messages. messages ≡ messages_to_rows size old.now new.now) }
 {
-    let found = find_changes(alloc, old, new)?;
+    messages_of(alloc, find_changes(alloc, old, new)?, size)
+}
+
+/// First the changed rows, then the addresses gone, each in messages of `size` addresses, of which
+/// the last may have fewer.
+pub(crate) fn messages_of(
+    alloc: Global,
+    found: Changes,
+    size: usize,
+) -> Result<List<Message>, Memory>
+    requires { 1 ≤ size }
+    ensures { IfOk result (λ messages. messages
+        ≡ map Add (in_pieces size found.changed) ++ map Remove (in_pieces size found.gone)) }
+{
+    let Changes { changed, gone } = found;
     let mut messages = List::new(alloc);
-    add_changed(&mut messages, in_pieces(alloc, found.changed, size)?)?;
-    add_gone(&mut messages, in_pieces(alloc, found.gone, size)?)?;
+    add_changed(&mut messages, in_pieces(alloc, changed, size)?)?;
+    add_gone(&mut messages, in_pieces(alloc, gone, size)?)?;
     Ok(messages)
 }
 

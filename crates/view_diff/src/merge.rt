@@ -16,12 +16,25 @@ use std::cmp::Ordering;
 use view_rules::order::compare_rows;
 use view_types::endpoint::EndpointRow;
 
+/// What has changed between two views.
 #[derive(Drop)]
 pub struct Changes {
     /// The rows that are new or have changed.
     pub changed: List<EndpointRow>,
     /// The addresses at which there is no row any more.
     pub gone: List<(Ip, u16)>,
+}
+
+impl Changes {
+    /// Nothing has changed yet.
+    pub fn new(alloc: Global) -> Changes
+        ensures { result ≡ record { changed = []; gone = [] } }
+    {
+        Changes {
+            changed: List::new(alloc),
+            gone: List::new(alloc),
+        }
+    }
 }
 
 /// Both lists are in the order of the addresses, each address with its port once.
@@ -35,10 +48,7 @@ pub fn find_changes(
     ensures changed { IfOk result (λ found. found.changed ≡ changed_rows old.now new.now) }
     ensures gone { IfOk result (λ found. found.gone ≡ gone_pairs old.now new.now) }
 {
-    let mut found = Changes {
-        changed: List::new(alloc),
-        gone: List::new(alloc),
-    };
+    let mut found = Changes::new(alloc);
     let mut olds = old;
     let mut news = new;
     while !olds.is_empty() && !news.is_empty() {
@@ -87,7 +97,8 @@ fn first<'a>(rows: &'a [EndpointRow]) -> (&'a EndpointRow, &'a [EndpointRow])
     (&rows[0], &rows[1..])
 }
 
-fn add_if_changed(
+/// Adds the row, unless it is the same as the one that was there.
+pub fn add_if_changed(
     alloc: Global,
     changed: &mut List<EndpointRow>,
     was: &EndpointRow,
