@@ -1,2 +1,3 @@
 pub mod Laws
+pub mod Rise
 pub mod Sets

@@ -1,8 +1,10 @@
 ghost use Rattle.std.specs.Prelude.{◌≡◌, None, Some, OnOk, OnErr};
 ghost use Rattle.std.specs.Option.{option_copied};
-ghost use Rattle.view_rules.specs.Endpoints.{no_endpoints};
+ghost use Rattle.mesh_base.specs.Keyed.{IsKeyed};
+ghost use Rattle.view_rules.specs.Endpoints.{no_endpoints, pair_cmp, pair_of};
 ghost use Rattle.view_rules.specs.Fold.{seen, shown_after, with_rows, without_pairs};
 ghost use Rattle.view_types.specs.declared.view.View.TheVariants.{Endpoints};
+ghost use Rattle.view_fold.specs.Rise.{RowsRise};
 
 use crate::rows::{put_rows, take_out};
 use mesh_base::list::List;
@@ -17,6 +19,7 @@ use view_types::view::View;
 #[derive(Drop)]
 pub struct Fold {
     pub(crate) view: Option<View>,
+    ghost rows_rise: { RowsRise view },
 }
 
 impl Fold {
@@ -92,6 +95,7 @@ fn no_endpoints(alloc: Global) -> EndpointView
 }
 
 fn add_rows(alloc: Global, view: &mut EndpointView, rows: List<EndpointRow>) -> Result<(), Memory>
+    requires { IsKeyed pair_cmp pair_of (λ row. row) view.old.rows }
     ensures ok { OnOk result (view.new ≡ with_rows rows view.old) }
     ensures err { OnErr result (view.new ≡ view.old) }
 {

@@ -1,9 +1,11 @@
 //! The view that messages leave.
 //!
-//! Stands on view_types and view_rules, whose `Fold` says what is seen by folding messages.
+//! Stands on view_types, row_places and view_rules, whose `Fold` says what is seen by folding
+//! messages. A message costs what it changes, unless it has many addresses.
 #![tactic(auto)]
 
 pub mod folding;
 pub mod laws;
+mod many;
 mod order;
 mod rows;

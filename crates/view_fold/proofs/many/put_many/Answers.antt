@@ -1,7 +1,7 @@
 use Rattle.std.proofs.Common.{◌++◌, reverse, ap, ◌∙◌}
 use Rattle.view_rules.specs.Endpoints.{first_rows}
 use Rattle.view_fold.proofs.Folded.{in_order, put_after}
-use Rattle.view_fold.proofs.rows.add_to.Goals as goal
+use Rattle.view_fold.proofs.many.put_many.Goals as goal
 
 pub returns-in-Ok-clause-ok : goal.returns-in-Ok-clause-ok
 returns-in-Ok-clause-ok c =

@@ -2,7 +2,7 @@ use Rattle.std.proofs.Common.{refl}
 use Rattle.std.proofs.lemmas.List.{take_more}
 use Rattle.net_cidr.specs.declared.ip.Ip.TheVariants.{V4, V6}
 use Rattle.view_fold.proofs.Seen.{one_more}
-use Rattle.view_fold.proofs.rows.set_of.Goals as goal
+use Rattle.view_fold.proofs.many.set_of.Goals as goal
 
 pub loop-pair-preserved : goal.loop-pair-preserved
 loop-pair-preserved c =
