@@ -1,4 +1,6 @@
-pub mod ByNumber
-pub mod InPlace
-pub mod RefreshRows
-pub mod RefreshCost
+mod ByCmp
+mod Followed
+mod Keys
+mod MarkLists
+mod Tied
+mod Users

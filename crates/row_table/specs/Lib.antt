@@ -1,1 +1,3 @@
+pub mod IndexRows
+pub mod RowLaws
 pub mod TableRows

@@ -1,12 +1,13 @@
 // Rows by keys: what every index promises.
-ghost use Rattle.std.specs.Prelude.{◌≡◌, ℕ, ◌≤◌, ◌+◌, ◌<◌, ◌^◌, List, map, IfOk, OnOk, IfSome, IfNone};
-ghost use Rattle.std.specs.List.{filter, sum_by};
+ghost use Rattle.std.specs.Prelude.{◌≡◌, ◌≤◌, ◌+◌, ◌&&◌, if◌then◌else◌, nat_lt, ℕ, Bool, true, false, List, Option, IsErr, IfOk, OnOk};
+ghost use Rattle.std.specs.FinMap.{IsAntisymmetric};
+ghost use Rattle.std.specs.List.{sum_by};
 ghost use Rattle.std.specs.Option.{option_copied};
-ghost use Rattle.row_table.specs.declared.row_index.IndexRow.{IndexRow};
-ghost use Rattle.row_table.specs.TableRows.{StandsFor, key_of, users_of, keys_met};
+ghost use Rattle.view_types.specs.Objects.{ObjectMap};
 ghost use Rattle.view_types.specs.declared.mark.Mark.{Mark};
 ghost use Rattle.mark_rules.specs.Changes.{Leads};
-ghost use Rattle.view_types.specs.Objects.{ObjectMap};
+ghost use Rattle.mark_rules.specs.Reads.{cost};
+ghost use Rattle.row_table.specs.IndexRows.{AreMet, Filter, IsCurrent, OneLess, OneMore};
 
 use mesh_base::list::List;
 use mesh_base::memory::Memory;
@@ -15,32 +16,54 @@ use object_store::change::Change;
 use object_store::store::Store;
 use view_types::mark::Mark;
 
-/// A key that has users, with its row and the marks that the row reads.
-#[derive(Drop)]
-pub struct IndexRow<K, R> {
-    pub key: K,
-    pub users: u64,
-    pub row: R,
-    pub marks: List<Mark>,
-}
-
-/// Rows by keys, each equal to its filter over the objects held.
+/// Rows by keys, each equal to its filter over the objects held while its key has users. After Memory an index is spent: no row
+/// can be entered or brought up to a change any more.
 pub trait RowIndex {
-    type Key;
+    type Key: Ord;
 
     type Row;
 
-    /// The rows of the keys that have users.
-    ghost index_rows: { Self → List (IndexRow Self.Key Self.Row) };
+    /// The row of each key as a filter over the objects held, and the marks that this reads.
+    ghost filter: { Self → Filter Self.Key Self.Row };
 
-    /// The row of a key, as a filter over the objects.
-    ghost row_of: { Self → ObjectMap → Self.Key → Self.Row };
+    /// How many users a key has.
+    ghost users: { Self → Self.Key → ℕ };
 
-    /// The marks that the filter reads.
-    ghost reads: { Self → ObjectMap → Self.Key → List Mark };
+    /// The row that is kept for a key.
+    ghost row_at: { Self → Self.Key → Option Self.Row };
 
-    /// How many objects may be read to compute a row.
-    ghost spend: { Self → ObjectMap → Self.Key → ℕ };
+    /// The marks that are kept for it.
+    ghost marks_at: { Self → Self.Key → List Mark };
+
+    ghost is_spent: { Self → Bool };
+
+    /// The rows stand for these objects.
+    ghost stands: { Self → ObjectMap → Type 0 };
+
+    /// Counts one user more of the key. A key that had none gets its row over the objects held.
+    fn enter<L>(
+        &mut self,
+        store: &Store,
+        key: Self::Key,
+        steps: &mut Steps<L>,
+    ) -> Result<(), Memory>
+        ensures users { OnOk result
+            (OneMore Self.Key.Ord.cmp key (users self.old) (users self.new)) }
+        ensures stands { OnOk result
+            (stands self.old store.now.objects → stands self.new store.now.objects) }
+        ensures steps { steps.new ≤ steps.old + (if nat_lt 0 (users self.old key) then 0
+            else cost store.now.objects ((filter self.old).reads store.now.objects key)) }
+        ensures filter { filter self.new ≡ filter self.old }
+        ensures going { OnOk result (is_spent self.new ≡ false) }
+        ensures spent { IsErr result → is_spent self.new ≡ true }
+        ensures was_spent { is_spent self.old ≡ true → IsErr result };
+
+    /// Counts one user less of the key. Its row goes with the last.
+    fn leave(&mut self, key: &Self::Key)
+        ensures users { OneLess Self.Key.Ord.cmp key.now (users self.old) (users self.new) }
+        ensures stands { (held : ObjectMap) → stands self.old held → stands self.new held }
+        ensures filter { filter self.new ≡ filter self.old }
+        ensures spent { is_spent self.new ≡ is_spent self.old };
 
     /// Brings the rows up to a change of the store, and gives the keys whose rows read a mark of it.
     fn on_change<L>(
@@ -49,14 +72,30 @@ pub trait RowIndex {
         change: &Change,
         steps: &mut Steps<L>,
     ) -> Result<List<Self::Key>, Memory>
-        ensures keys { IfOk result (λ keys. keys ≡ keys_met change.now.marks (index_rows self.old)) }
-        ensures users { OnOk result (map users_of (index_rows self.new)
-            ≡ map users_of (index_rows self.old)) }
-        ensures stands { OnOk result ((held : ObjectMap)
-            → StandsFor (row_of self.old) (reads self.old) held (index_rows self.old)
-            → Leads change.now.marks held store.now.objects
-            → StandsFor (row_of self.old) (reads self.old) store.now.objects
-            (index_rows self.new)) }
-        ensures steps { steps.new ≤ steps.old + sum_by (spend self.old store.now.objects)
-            (keys_met change.now.marks (index_rows self.old)) };
+        ensures keys { IfOk result (AreMet Self.Key.Ord.cmp change.now.marks (marks_at self.old)) }
+        ensures users { OnOk result ((key : Self.Key) → users self.new key ≡ users self.old key) }
+        ensures stands { OnOk result ((held : ObjectMap) → stands self.old held
+            → Leads change.now.marks held store.now.objects → stands self.new store.now.objects) }
+        ensures steps { IfOk result (λ keys. steps.new ≤ steps.old + sum_by (λ key.
+            cost store.now.objects ((filter self.old).reads store.now.objects key)) keys) }
+        ensures filter { filter self.new ≡ filter self.old }
+        ensures going { OnOk result (is_spent self.new ≡ false) }
+        ensures spent { IsErr result → is_spent self.new ≡ true }
+        ensures was_spent { is_spent self.old ≡ true → IsErr result };
+
+    /// The row of a key that has users.
+    fn row(&self, key: &Self::Key) -> Option<&Self::Row>
+        ensures { option_copied result ≡ row_at self.now key.now };
+
+    /// The marks that the row of a key reads, if it has users. Each may stand more than once.
+    fn marks(&self, key: &Self::Key) -> &[Mark]
+        ensures { result.now ≡ marks_at self.now key.now };
+
+    /// An index that stands for the objects held has for each key with users its row and its marks, and for no other.
+    ghost current: { (index : Self) (held : ObjectMap) → stands index held → (key : Self.Key)
+        → IsCurrent (filter index) held key (users index key) (row_at index key)
+        (marks_at index key) };
+
+    /// Equal keys are the same key.
+    ghost exact: { IsAntisymmetric Self.Key.Ord.cmp };
 }

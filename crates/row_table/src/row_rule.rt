@@ -1,51 +1,123 @@
-// What one kind of row is: its filter and the marks that this reads.
-ghost use Rattle.std.specs.Prelude.{◌≡◌, ◌≤◌, ◌+◌, ℕ, List, IfOk};
-ghost use Rattle.view_types.specs.declared.mark.Mark.{Mark};
-ghost use Rattle.mark_rules.specs.Laws.{Stays};
+// What one sort of rows is: its filter, what is kept of a row, and how this follows a change.
+ghost use Rattle.std.specs.Prelude.{◌≡◌, ◌≤◌, ◌+◌, false, List, IfOk, OnOk};
+ghost use Rattle.std.specs.FinMap.{IsAntisymmetric};
 ghost use Rattle.view_types.specs.Objects.{ObjectMap};
+ghost use Rattle.view_types.specs.declared.mark.Mark.{Mark};
+ghost use Rattle.mark_rules.specs.Changes.{Leads};
+ghost use Rattle.mark_rules.specs.Reads.{cost};
+ghost use Rattle.object_store.specs.declared.change.Change.{Change};
+ghost use Rattle.row_table.specs.IndexRows.{Filter, HaveSame, KeptShows, KeptStays};
+ghost use Rattle.row_table.specs.declared.row_rule.MarksAfter.TheVariants.{Same};
 
 use mesh_base::copied::Copied;
-use mesh_base::list::List;
 use mesh_base::memory::Memory;
 use mesh_base::steps::Steps;
+use object_store::change::Change;
 use object_store::store::Store;
 use std::alloc::Global;
 use view_types::mark::Mark;
 
-/// A row and the marks that it reads.
-#[derive(Drop)]
-pub struct RowWithMarks<R> {
-    pub row: R,
-    pub marks: List<Mark>,
+/// A store, and what the last call changed of it.
+#[derive(Clone, Copy)]
+pub struct StoreChange<'a> {
+    pub alloc: Global,
+    pub store: &'a Store,
+    pub change: &'a Change,
 }
 
-/// How a row is computed from the objects held.
+/// The marks that a row reads after a change.
+#[derive(Clone, Copy, Debug, PartialEq, Eq)]
+pub enum MarksAfter {
+    /// Those that it read before.
+    Same,
+    /// They may be others.
+    Other,
+}
+
+/// How the rows of one sort are found and kept.
 pub trait RowRule: Drop {
     type Key: Ord + Copied;
 
-    type Row: Drop;
+    type Row;
 
-    /// The row of a key, as a filter over the objects.
-    ghost row_of: { Self → ObjectMap → Self.Key → Self.Row };
+    /// What is kept of a row: at least the row and its marks, and whatever helps to bring it up to a change.
+    type Kept: Drop;
 
-    /// The marks that the filter reads.
-    ghost reads: { Self → ObjectMap → Self.Key → List Mark };
+    /// What is noted of one change while the rows follow it, so that an object is fetched once for all of them.
+    type Notes: Drop;
 
-    /// How many objects may be read to compute a row.
-    ghost spend: { Self → ObjectMap → Self.Key → ℕ };
+    /// The row of each key as a filter over the objects held, and the marks that this reads.
+    ghost filter: { Self → Filter Self.Key Self.Row };
 
-    /// Computes the row of a key.
+    /// What is kept stands for the row of the key over these objects.
+    ghost keeps: { Self → ObjectMap → Self.Key → Self.Kept → Type 0 };
+
+    /// The row in what is kept.
+    ghost row_in: { Self.Kept → Self.Row };
+
+    /// The marks in what is kept.
+    ghost marks_in: { Self.Kept → List Mark };
+
+    /// The notes are right of this change, which led to these objects.
+    ghost notes_hold: { Self → ObjectMap → Change → Self.Notes → Type 0 };
+
+    /// What is kept after a change tells of what was kept before it.
+    ghost tells: { Self.Kept → Self.Kept → Type 0 };
+
+    /// Finds the row of a key and its marks.
     fn find<L>(
         &self,
         alloc: Global,
         store: &Store,
         key: &Self::Key,
         steps: &mut Steps<L>,
-    ) -> Result<RowWithMarks<Self::Row>, Memory>
-        ensures row { IfOk result (λ found. found.row ≡ row_of self.now store.now.objects key.now) }
-        ensures marks { IfOk result (λ found. found.marks ≡ reads self.now store.now.objects key.now) }
-        ensures steps { steps.new ≤ steps.old + spend self.now store.now.objects key.now };
+    ) -> Result<Self::Kept, Memory>
+        requires { store.now.spent ≡ false }
+        ensures kept { IfOk result (keeps self.now store.now.objects key.now) }
+        ensures steps { steps.new ≤ steps.old
+            + cost store.now.objects ((filter self.now).reads store.now.objects key.now) };
 
-    /// A row that reads no mark of a change is the same after it, and reads the same.
-    ghost stays: { (rule : Self) → Stays (row_of rule) (reads rule) };
+    /// The notes before any row has followed a change.
+    fn no_notes(&self, alloc: Global) -> Self::Notes
+        ensures { (held : ObjectMap) (change : Change) → notes_hold self.now held change result };
+
+    /// Brings what is kept of a row up to a change, of which the row reads a mark.
+    fn follow<L>(
+        &self,
+        after: &StoreChange,
+        key: &Self::Key,
+        kept: &mut Self::Kept,
+        notes: &mut Self::Notes,
+        steps: &mut Steps<L>,
+    ) -> Result<MarksAfter, Memory>
+        requires going { after.now.store.now.spent ≡ false }
+        requires notes { notes_hold self.now after.now.store.now.objects after.now.change.now
+            notes.old }
+        ensures kept { OnOk result ((held : ObjectMap) → keeps self.now held key.now kept.old
+            → Leads after.now.change.now.marks held after.now.store.now.objects
+            → keeps self.now after.now.store.now.objects key.now kept.new) }
+        ensures tells { OnOk result ((held : ObjectMap) → keeps self.now held key.now kept.old
+            → Leads after.now.change.now.marks held after.now.store.now.objects
+            → tells kept.old kept.new) }
+        ensures marks { IfOk result (λ marks. marks ≡ Same
+            → HaveSame (marks_in kept.new) (marks_in kept.old)) }
+        ensures notes { OnOk result
+            (notes_hold self.now after.now.store.now.objects after.now.change.now notes.new) }
+        ensures steps { steps.new ≤ steps.old + cost after.now.store.now.objects
+            ((filter self.now).reads after.now.store.now.objects key.now) };
+
+    fn row(kept: &Self::Kept) -> &Self::Row
+        ensures { result.now ≡ row_in kept.now };
+
+    fn marks(kept: &Self::Kept) -> &[Mark]
+        ensures { result.now ≡ marks_in kept.now };
+
+    /// What is kept gives the row and its marks.
+    ghost shows: { (rule : Self) → KeptShows (filter rule) (keeps rule) row_in marks_in };
+
+    /// What is kept of a row that reads no mark of a change stands after it.
+    ghost stays: { (rule : Self) → KeptStays (filter rule) (keeps rule) };
+
+    /// Equal keys are the same key.
+    ghost exact: { IsAntisymmetric Self.Key.Ord.cmp };
 }

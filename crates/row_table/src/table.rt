@@ -1,12 +1,17 @@
 // One table for all indexes.
-ghost use Rattle.std.specs.Prelude.{◌≡◌, ◌≤◌, ◌+◌, List, map, if◌then◌else◌, [], ◌∷◌, ◌++◌, IfOk, OnOk};
+ghost use Rattle.std.specs.Prelude.{◌≡◌, ◌≤◌, ◌+◌, false, true, None, IsErr, IfOk, OnOk, option_map};
 ghost use Rattle.std.specs.List.{sum_by};
-ghost use Rattle.row_table.specs.TableRows.{StandsFor, key_of, users_of, is_met, keys_met, refresh, IsDue};
+ghost use Rattle.std.specs.Option.{option_copied};
+ghost use Rattle.mark_rules.specs.Changes.{Leads};
+ghost use Rattle.mark_rules.specs.Reads.{cost};
+ghost use Rattle.view_types.specs.Objects.{ObjectMap};
+ghost use Rattle.row_table.specs.IndexRows.{AreMet, has_key};
+ghost use Rattle.row_table.specs.TableRows.{AllStand, AreTied, Follow, PutsAt, kept_in, marks_of, row_at, users_in};
+ghost use Rattle.row_table.specs.RowLaws.{current_row};
 
-use crate::row_index::{IndexRow, RowIndex};
-use crate::row_rule::RowRule;
-use mark_rules::marks::meets;
-use mesh_base::copied::Copied;
+use crate::row_index::RowIndex;
+use crate::row_rule::{RowRule, StoreChange};
+use crate::table_rows::{RuleChange, TableRows};
 use mesh_base::list::List;
 use mesh_base::memory::Memory;
 use mesh_base::steps::Steps;
@@ -19,8 +24,80 @@ use view_types::mark::Mark;
 #[derive(Drop)]
 pub struct RowTable<F: RowRule> {
     rule: F,
-    rows: Vec<IndexRow<F::Key, F::Row>>,
+    table: TableRows<F>,
+    spent: bool,
     alloc: Global,
+    ghost tied: { spent ≡ false → AreTied F.Key.Ord.cmp F.marks_in table.rows table.keys
+        table.graph.rows table.next },
+}
+
+impl<F: RowRule> RowTable<F> {
+    /// A table without users. It stands for all objects.
+    pub fn new(alloc: Global, rule: F) -> RowTable<F>
+        ensures rule { result.rule ≡ rule }
+        ensures none { (key : F.Key) → row_at F.Key.Ord.cmp result.table.rows key ≡ None }
+        ensures stands { (held : ObjectMap)
+            → AllStand F.Key.Ord.cmp (F.keeps rule) held result.table.rows }
+        ensures going { result.spent ≡ false }
+    {
+        RowTable {
+            rule,
+            table: TableRows::new(alloc),
+            spent: false,
+            alloc,
+        }
+    }
+
+    /// What is kept of the row of a key that has users.
+    pub fn kept(&self, key: &F::Key) -> Option<&F::Kept>
+        ensures { option_copied result
+            ≡ kept_in (row_at F.Key.Ord.cmp self.now.table.rows key.now) }
+    {
+        match self.table.rows.get(key) {
+            Some(row) => Some(&row.kept),
+            None => None,
+        }
+    }
+
+    /// Brings the rows up to a change of the store that read a mark of it, and gives their keys. What is kept of each tells
+    /// what was kept before.
+    pub fn follow_change<L>(
+        &mut self,
+        store: &Store,
+        change: &Change,
+        steps: &mut Steps<L>,
+    ) -> Result<List<F::Key>, Memory>
+        ensures keys { IfOk result (AreMet F.Key.Ord.cmp change.now.marks
+            (λ key. marks_of F.marks_in (row_at F.Key.Ord.cmp self.old.table.rows key))) }
+        ensures rows { IfOk result (λ keys. Follow F.Key.Ord.cmp (F.keeps self.old.rule) F.tells
+            change.now.marks store.now.objects (has_key F.Key.Ord.cmp keys) self.old.table.rows
+            self.new.table.rows) }
+        ensures steps { IfOk result (λ keys. steps.new ≤ steps.old + sum_by (λ key.
+            cost store.now.objects ((F.filter self.old.rule).reads store.now.objects key)) keys) }
+        ensures rule { self.new.rule ≡ self.old.rule }
+        ensures going { OnOk result (self.new.spent ≡ false) }
+        ensures spent { IsErr result → self.new.spent ≡ true }
+        ensures was_spent { self.old.spent ≡ true → IsErr result }
+    {
+        if self.spent {
+            return Err(Memory);
+        }
+        self.spent = true;
+        if store.is_spent() {
+            return Err(Memory);
+        }
+        let by = RuleChange {
+            rule: &self.rule,
+            after: StoreChange {
+                alloc: self.alloc,
+                store,
+                change,
+            },
+        };
+        let keys = self.table.follow(&by, steps)?;
+        self.spent = false;
+        Ok(keys)
+    }
 }
 
 impl<F: RowRule> RowIndex for RowTable<F> {
@@ -28,13 +105,35 @@ impl<F: RowRule> RowIndex for RowTable<F> {
 
     type Row = F::Row;
 
-    ghost index_rows = { λ s. s.rows.items };
+    ghost filter = { λ s. F.filter s.rule };
 
-    ghost row_of = { λ s. F.row_of s.rule };
+    ghost users = { λ s key. users_in (row_at F.Key.Ord.cmp s.table.rows key) };
 
-    ghost reads = { λ s. F.reads s.rule };
+    ghost row_at = { λ s key. option_map (λ r. F.row_in r.kept)
+        (row_at F.Key.Ord.cmp s.table.rows key) };
 
-    ghost spend = { λ s. F.spend s.rule };
+    ghost marks_at = { λ s key. marks_of F.marks_in (row_at F.Key.Ord.cmp s.table.rows key) };
+
+    ghost is_spent = { λ s. s.spent };
+
+    ghost stands = { λ s held. AllStand F.Key.Ord.cmp (F.keeps s.rule) held s.table.rows };
+
+    fn enter<L>(&mut self, store: &Store, key: F::Key, steps: &mut Steps<L>) -> Result<(), Memory> {
+        if self.spent {
+            return Err(Memory);
+        }
+        self.spent = true;
+        if store.is_spent() {
+            return Err(Memory);
+        }
+        self.table.enter(&self.rule, store, key, steps)?;
+        self.spent = false;
+        Ok(())
+    }
+
+    fn leave(&mut self, key: &F::Key) {
+        self.table.drop_user(key);
+    }
 
     fn on_change<L>(
         &mut self,
@@ -42,92 +141,23 @@ impl<F: RowRule> RowIndex for RowTable<F> {
         change: &Change,
         steps: &mut Steps<L>,
     ) -> Result<List<F::Key>, Memory> {
-        refresh_all(
-            self.alloc,
-            &self.rule,
-            store,
-            change.marks.as_slice(),
-            self.rows.as_mut_slice(),
-            steps,
-        )
+        self.follow_change(store, change, steps)
     }
-}
 
-fn refresh_all<F: RowRule, L>(
-    alloc: Global,
-    rule: &F,
-    store: &Store,
-    changed: &[Mark],
-    rows: &mut [IndexRow<F::Key, F::Row>],
-    steps: &mut Steps<L>,
-) -> Result<List<F::Key>, Memory>
-    ensures rows { OnOk result (rows.new
-        ≡ map (refresh (F.row_of rule.now) (F.reads rule.now) store.now.objects changed.now)
-        rows.old) }
-    ensures keys { IfOk result (λ keys. keys ≡ keys_met changed.now rows.old) }
-    ensures steps { steps.new ≤ steps.old + sum_by (F.spend rule.now store.now.objects)
-        (keys_met changed.now rows.old) }
-{
-    let mut keys = List::new(alloc);
-    for index_row in rows.iter_mut() {
-        refresh_one(alloc, rule, store, changed, index_row, &mut keys, steps)?;
+    fn row(&self, key: &F::Key) -> Option<&F::Row> {
+        Some(F::row(self.kept(key)?))
     }
-    Ok(keys)
-}
 
-fn refresh_one<F: RowRule, L>(
-    alloc: Global,
-    rule: &F,
-    store: &Store,
-    changed: &[Mark],
-    index_row: &mut IndexRow<F::Key, F::Row>,
-    keys: &mut List<F::Key>,
-    steps: &mut Steps<L>,
-) -> Result<(), Memory>
-    ensures row { OnOk result (index_row.new
-        ≡ refresh (F.row_of rule.now) (F.reads rule.now) store.now.objects changed.now
-        index_row.old) }
-    ensures keys { OnOk result (keys.new
-        ≡ keys.old ++ (if is_met changed.now index_row.old then index_row.old.key ∷ [] else [])) }
-    ensures steps { steps.new ≤ steps.old +
-        (if is_met changed.now index_row.old then F.spend rule.now store.now.objects
-        index_row.old.key else 0) }
-{
-    if meets(index_row.marks.as_slice(), changed) {
-        keys.add(index_row.key.copy(alloc)?)?;
-        let found = rule.find(alloc, store, &index_row.key, steps)?;
-        index_row.row = found.row;
-        index_row.marks = found.marks;
+    fn marks(&self, key: &F::Key) -> &[Mark] {
+        match self.kept(key) {
+            Some(kept) => F::marks(kept),
+            None => &[],
+        }
     }
-    Ok(())
-}
 
-/// Computes anew the rows of these numbers, which are those that read a mark of the change.
-pub fn refresh_due<F: RowRule, L>(
-    alloc: Global,
-    rule: &F,
-    store: &Store,
-    changed: &[Mark],
-    rows: &mut [IndexRow<F::Key, F::Row>],
-    due: &[u64],
-    keys: &mut List<F::Key>,
-    steps: &mut Steps<L>,
-) -> Result<(), Memory>
-    requires { IsDue changed.now rows.old due.now }
-    ensures { OnOk result (rows.new
-        ≡ map (refresh (F.row_of rule.now) (F.reads rule.now) store.now.objects changed.now)
-        rows.old) }
-{
-    for number in due {
-        refresh_one(
-            alloc,
-            rule,
-            store,
-            changed,
-            &mut rows[*number as usize],
-            keys,
-            steps,
-        )?;
-    }
-    Ok(())
+    ghost current = { λ s held stands key. current_row (F.filter s.rule) F.row_in F.marks_in
+        F.Key.Ord.cmp (F.keeps s.rule) (F.shows s.rule) held key
+        (row_at F.Key.Ord.cmp s.table.rows key) (stands key) };
+
+    ghost exact = { F.exact };
 }

@@ -1,17 +1,26 @@
-use Rattle.std.proofs.Common.{◌≡◌, length, sym, ap, ◌∙◌}
-use Rattle.row_table.proofs.RefreshRows.{users_after, stands_after}
+use Rattle.std.proofs.Common.{◌≡◌, Result, Ok, Err, IfOk, OnOk, List, subst, sym}
+use Rattle.view_types.specs.Objects.{ObjectMap}
+use Rattle.mark_rules.specs.Changes.{Leads}
+use Rattle.row_table.specs.IndexRows.{AreMet, has_key}
+use Rattle.row_table.specs.TableRows.{AllStand, Follow, marks_of, row_at}
+use Rattle.row_table.proofs.Followed.{all_stand}
 use Rattle.row_table.proofs.table.RowTableRowIndex.on_change.Goals as goal
 
-pub returns-clause-users : goal.returns-clause-users
-returns-clause-users g c =
-    let long : length c.args.self.now.rows.items ≡ c.args.self.now.rows.len = ap length (sym c.as_mut_slice.ensures.value) ∙ c.as_mut_slice.ensures.len in
-    users_after (g.F.RowRule.row_of c.args.self.now.rule) (g.F.RowRule.reads c.args.self.now.rule) c.args.store.now.objects c.args.change.now.marks c.args.self.now.rows.items c.refresh_all.new.rows _ _ long
-    c.refresh_all.result (rw (c.as_mut_slice.ensures.value, c.as_slice.ensures) at c.refresh_all.ensures.rows)
+-- two clauses on a result give a third
+both_then : {A E : Type 0} {P Q : A → Type 0} {R : Type 0} (r : Result A E) → IfOk r P → IfOk r Q → ((a : A) → P a → Q a → R) → OnOk r R
+both_then (Ok a) p q f = f a p q
+both_then (Err e) p q f = tt
 
 pub returns-clause-stands : goal.returns-clause-stands
 returns-clause-stands g c =
-    let long : length c.args.self.now.rows.items ≡ c.args.self.now.rows.len = ap length (sym c.as_mut_slice.ensures.value) ∙ c.as_mut_slice.ensures.len in
-    stands_after (g.F.RowRule.row_of c.args.self.now.rule) (g.F.RowRule.reads c.args.self.now.rule) c.args.store.now.objects c.args.change.now.marks c.args.self.now.rows.items c.refresh_all.new.rows _ _ long
-    (λ before key leads misses. (g.met.F.RowRule.stays c.args.self.now.rule key _ before c.args.store.now.objects leads misses).0)
-    (λ before key leads misses. (g.met.F.RowRule.stays c.args.self.now.rule key _ before c.args.store.now.objects leads misses).1)
-    c.refresh_all.result (rw (c.as_mut_slice.ensures.value, c.as_slice.ensures) at c.refresh_all.ensures.rows)
+    let cmp = g.F.Key.Ord.cmp in
+    let rule = c.args.self.now.rule in
+    let old = c.args.self.now.table.rows in
+    let new = c.follow_change.new.self.table.rows in
+    let changed = c.args.change.now.marks in
+    let after = c.args.store.now.objects in
+    let keeps = g.F.RowRule.keeps rule in
+    both_then {P = AreMet cmp changed (λ k. marks_of g.F.RowRule.marks_in (row_at cmp old k))} {Q = λ keys. Follow cmp keeps g.F.RowRule.tells changed after (has_key cmp keys) old new} c.follow_change.result c.follow_change.ensures.keys c.follow_change.ensures.rows
+    (λ keys met follow held stand leads.
+    subst (λ (rule : g.row.F.Denot). AllStand cmp (g.F.RowRule.keeps rule) after new) (sym c.follow_change.ensures.rule)
+    (all_stand cmp g.met.F.Key.Ord.total g.met.F.RowRule.exact keeps g.F.RowRule.tells changed after (g.F.RowRule.filter rule) g.F.RowRule.row_in g.F.RowRule.marks_in (g.met.F.RowRule.shows rule) (g.met.F.RowRule.stays rule) held leads keys old new met follow stand))

@@ -1,0 +1,190 @@
+-- Rows that have followed a change, one after the other.
+use Rattle.std.proofs.Common.{◌≡◌, inl, inr, ℕ, zero, suc, ◌+◌, ◌<◌, ◌||◌, Bool, true, false, List, [], ◌∷◌, ◌++◌, Option, Some, None, length, get_or, take, nat_eq, refl, sym, ap, subst, ◌∙◌, arith}
+use Rattle.std.specs.BTreeMap as tree
+use Rattle.std.specs.BTreeMap.{BTreeMap}
+use Rattle.std.specs.BTreeSet.{BTreeSet}
+use Rattle.std.specs.Cmp.{IsTotalOrder, tied_itself}
+use Rattle.std.specs.FinMap.{IsAntisymmetric}
+use Rattle.std.specs.List.{AllByRecursion, IsDistinct, list_any}
+use Rattle.std.specs.List.Sorted.{IsStrictlySortedBy}
+use Rattle.std.specs.Option.{option_to_list}
+use Rattle.std.specs.Ordering.{eq_by_cmp, nat_cmp}
+use Rattle.std.specs.declared.cmp.Ordering.{Ordering}
+use Rattle.std.specs.declared.cmp.Ordering.TheVariants.{Less, Equal}
+use Rattle.std.proofs.lemmas.Cmp.{nat_cmp_total}
+use Rattle.std.proofs.lemmas.List.{append-nil}
+use Rattle.std.proofs.lemmas.Bool.{eq-eqb, eqb-true, false≢true, ne_eqb, or_from}
+use Rattle.view_types.specs.Objects.{ObjectMap}
+use Rattle.view_types.specs.declared.mark.Mark.{Mark}
+use Rattle.mark_graph.specs.RowMarks.{has_row, watches}
+use Rattle.mark_rules.specs.Changes.{Leads}
+use Rattle.mark_rules.specs.Marks.{has_mark, mark_cmp, meets}
+use Rattle.row_table.specs.IndexRows.{AreMet, Filter, KeptShows, KeptStays, has_key}
+use Rattle.row_table.specs.TableRows.{AllStand, AreTied, Follow, RowAfter, StandsAt, is_among, marks_behind, marks_of, number_in, row_at, users_in}
+use Rattle.row_table.specs.declared.table_rows.KeptRow.{KeptRow}
+use Rattle.row_table.proofs.Keys.{distinct_more, distinct_none, has_more, is_itself, is_other, is_same, is_same_back, tells}
+use Rattle.row_table.proofs.MarkLists.{meets_back, meets_same, same_any}
+use Rattle.row_table.proofs.Tied.{none_is_not_some, some_is}
+
+module _ {Key Kept : Type 0} (cmp : Key → Key → Ordering) (total : IsTotalOrder cmp) (exact : IsAntisymmetric cmp) where
+  module _ (keeps : ObjectMap → Key → Kept → Type 0) (tells_of : Kept → Kept → Type 0) (changed : List Mark) (after : ObjectMap) where
+    abbrev After : Bool → Key → Option (KeptRow Kept) → Option (KeptRow Kept) → Type 0
+    After = RowAfter cmp keeps tells_of changed after
+
+    -- first some follow, then others
+    pub follow_more : (keys added : List Key) (start middle end : BTreeMap Key (KeptRow Kept)) → Follow cmp keeps tells_of changed after (has_key cmp keys) start middle
+        → Follow cmp keeps tells_of changed after (has_key cmp added) middle end → ((k : Key) → has_key cmp added k ≡ true → has_key cmp keys k ≡ false)
+        → Follow cmp keeps tells_of changed after (has_key cmp (keys ++ added)) start end
+    follow_more keys added start middle end first second apart k =
+        subst (λ (b : Bool). After b k (row_at cmp start k) (row_at cmp end k)) (sym (has_more cmp keys added k))
+        (by (has_key cmp keys k) (has_key cmp added k) (apart k) (first k) (second k))
+      where
+        by : (some more : Bool) → (more ≡ true → some ≡ false) → After some k (row_at cmp start k) (row_at cmp middle k) → After more k (row_at cmp middle k) (row_at cmp end k)
+            → After (some || more) k (row_at cmp start k) (row_at cmp end k)
+        by true true apart f s = absurd (false≢true (sym (apart refl)))
+        by true false apart f s = subst (λ (row : Option (KeptRow Kept)). After true k (row_at cmp start k) row) (sym s) f
+        by false true apart f s = subst (λ (row : Option (KeptRow Kept)). After true k row (row_at cmp end k)) f s
+        by false false apart f s = s ∙ f
+
+    -- users stay
+    pub users_stay : (some : Bool) (k : Key) (old new : Option (KeptRow Kept)) → After some k old new → users_in new ≡ users_in old
+    users_stay false k old new stays = ap users_in stays
+    users_stay true k None None follows = refl
+    users_stay true k None (Some n) follows = absurd follows
+    users_stay true k (Some o) None follows = absurd follows
+    users_stay true k (Some o) (Some n) follows = follows.users
+
+    -- all stand for the objects after the change
+    module _ {Row : Type 0} (filter : Filter Key Row) (row_in : Kept → Row) (marks_in : Kept → List Mark) (shows : KeptShows filter keeps row_in marks_in) (stays : KeptStays filter keeps) (held : ObjectMap) (leads : Leads changed held after) where
+      one_stands : (some : Bool) (k : Key) (old new : Option (KeptRow Kept)) → some ≡ meets (marks_of marks_in old) changed → After some k old new → StandsAt cmp keeps held k old → StandsAt cmp keeps after k new
+      one_stands true k None None met follows stands = tt
+      one_stands true k None (Some n) met follows stands = absurd follows
+      one_stands true k (Some o) None met follows stands = absurd follows
+      one_stands true k (Some o) (Some n) met follows stands =
+          (subst (λ (users : ℕ). 0 < users) (sym follows.users) stands.0, (follows.kept held stands.1 leads).0)
+      one_stands false k None new met same stands = subst (λ (row : Option (KeptRow Kept)). StandsAt cmp keeps after k row) (sym same) tt
+      one_stands false k (Some o) new met same stands = subst (λ (row : Option (KeptRow Kept)). StandsAt cmp keeps after k row) (sym same)
+          (stands.0, stays k o.kept changed held after leads (sym (meets_same (marks_in o.kept) (filter.reads held k) changed (shows held k o.kept stands.1).are_read) ∙ sym met) stands.1)
+
+      pub all_stand : (keys : List Key) (old new : BTreeMap Key (KeptRow Kept)) → AreMet cmp changed (λ k. marks_of marks_in (row_at cmp old k)) keys → Follow cmp keeps tells_of changed after (has_key cmp keys) old new
+          → AllStand cmp keeps held old → AllStand cmp keeps after new
+      all_stand keys old new met follow stand k = one_stands (has_key cmp keys k) k (row_at cmp old k) (row_at cmp new k) (met.each k) (follow k) (stand k)
+
+  -- ---- the keys of the numbers that are due
+
+  module _ (marks_in : Kept → List Mark) (rows : BTreeMap Key (KeptRow Kept)) (keys : BTreeMap ℕ Key) (watched : BTreeMap ℕ (BTreeSet Mark)) (next : ℕ) (tied : AreTied cmp marks_in rows keys watched next) where
+    abbrev number_at : Key → Option ℕ
+    number_at k = number_in (row_at cmp rows k)
+
+    -- the keys are those of rows with these numbers
+    abbrev pub Among : List ℕ → List Key → Type 0
+    Among numbers found = (k : Key) → has_key cmp found k ≡ is_among numbers (number_in (row_at cmp rows k))
+
+    among_none : (o : Option ℕ) → false ≡ is_among [] o
+    among_none None = refl
+    among_none (Some n) = refl
+
+    pub among_start : Among [] []
+    among_start k = among_none (number_at k)
+
+    abbrev is_number : ℕ → Option ℕ → Bool
+    is_number n None = false
+    is_number n (Some m) = nat_eq m n
+
+    snoc : (m n : ℕ) (numbers : List ℕ) → has_row m (numbers ++ n ∷ []) ≡ (has_row m numbers || nat_eq m n)
+    snoc m n [] = or_false (nat_eq m n)
+      where
+        or_false : (b : Bool) → (b || false) ≡ b
+        or_false true = refl
+        or_false false = refl
+    snoc m n (x ∷ xs) = ap (λ b. nat_eq m x || b) (snoc m n xs) ∙ joined (nat_eq m x) (has_row m xs) (nat_eq m n)
+      where
+        joined : (a b c : Bool) → (a || (b || c)) ≡ ((a || b) || c)
+        joined true b c = refl
+        joined false b c = refl
+
+    among_more : (n : ℕ) (numbers : List ℕ) (o : Option ℕ) → is_among (numbers ++ n ∷ []) o ≡ (is_among numbers o || is_number n o)
+    among_more n numbers None = refl
+    among_more n numbers (Some m) = snoc m n numbers
+
+    -- the key of a number, if it has one
+    added : ℕ → List Key
+    added n = option_to_list (tree.get nat_cmp keys n)
+
+    -- it is the key of the row with the number
+    added_is : (n : ℕ) (k : Key) → has_key cmp (option_to_list (tree.get nat_cmp keys n)) k ≡ is_number n (number_at k)
+    added_is n k = by (tree.get nat_cmp keys n) refl (number_at k) refl
+      where
+        number_is : (m : ℕ) → nat_eq m n ≡ true → number_at k ≡ Some m → tree.get nat_cmp keys n ≡ Some k
+        number_is m e is = ap (tree.get nat_cmp keys) (sym (eqb-true m n e)) ∙ tied.numbers k m is
+
+        by : (found : Option Key) → tree.get nat_cmp keys n ≡ found → (o : Option ℕ) → number_at k ≡ o → has_key cmp (option_to_list found) k ≡ is_number n o
+        by None at None is = refl
+        by None at (Some m) is = case (nat_eq m n) refl
+          where
+            case : (b : Bool) → nat_eq m n ≡ b → false ≡ b
+            case true e = none_is_not_some (tree.get nat_cmp keys n) k at (number_is m e is)
+            case false e = refl
+        by (Some key) at None is = elim (tells cmp total exact k key) as (λ _. has_key cmp (key ∷ []) k ≡ false) [
+          | inl same ↦ none_is_not_some (number_at k) n is (ap number_at same.1 ∙ tied.keys_of n key at)
+          | inr apart ↦ ap (λ b. b || false) apart.0
+        ]
+        by (Some key) at (Some m) is = elim (tells cmp total exact k key) as (λ _. has_key cmp (key ∷ []) k ≡ nat_eq m n) [
+          | inl same ↦ ap (λ b. b || false) same.0 ∙ sym (eq-eqb m n (some_is m n (sym is ∙ ap number_at same.1 ∙ tied.keys_of n key at)))
+          | inr apart ↦ ap (λ b. b || false) apart.0 ∙ sym (ne_eqb m n (λ e. apart.1 (sym (some_is key k (sym at ∙ number_is m (eq-eqb m n e) is)))))
+        ]
+
+    pub among_step : (n : ℕ) (numbers : List ℕ) (found : List Key) → Among numbers found → Among (numbers ++ n ∷ []) (found ++ option_to_list (tree.get nat_cmp keys n))
+    among_step n numbers found so_far k =
+        has_more cmp found (option_to_list (tree.get nat_cmp keys n)) k ∙ (λ i. so_far k i || added_is n k i) ∙ sym (among_more n numbers (number_at k))
+
+    -- a key that is added wasn't there, where the number is new
+    pub added_apart : (n : ℕ) (numbers : List ℕ) (found : List Key) → Among numbers found → has_row n numbers ≡ false → (k : Key) → has_key cmp (option_to_list (tree.get nat_cmp keys n)) k ≡ true → has_key cmp found k ≡ false
+    added_apart n numbers found so_far fresh k has = so_far k ∙ by (number_at k) (sym (added_is n k) ∙ has)
+      where
+        by : (o : Option ℕ) → is_number n o ≡ true → is_among numbers o ≡ false
+        by None e = refl
+        by (Some m) e = ap (λ m. has_row m numbers) (eqb-true m n e) ∙ fresh
+
+    pub once_more : (n : ℕ) (numbers : List ℕ) (found : List Key) → Among numbers found → has_row n numbers ≡ false → IsDistinct (eq_by_cmp cmp) found
+        → IsDistinct (eq_by_cmp cmp) (found ++ option_to_list (tree.get nat_cmp keys n))
+    once_more n numbers found so_far fresh once = by (tree.get nat_cmp keys n) (added_apart n numbers found so_far fresh)
+      where
+        by : (key : Option Key) → ((k : Key) → has_key cmp (option_to_list key) k ≡ true → has_key cmp found k ≡ false) → IsDistinct (eq_by_cmp cmp) (found ++ option_to_list key)
+        by None apart = subst (IsDistinct (eq_by_cmp cmp)) (sym (append-nil found)) once
+        by (Some key) apart = distinct_more cmp total exact found key once (apart key (ap (λ b. b || false) (is_itself cmp total exact key)))
+
+    -- the keys of all numbers that are due are those whose rows read a mark of the change
+    pub all_met : (changed : List Mark) (due : List ℕ) (found : List Key) → ((n : ℕ) → has_row n due ≡ list_any (λ mark. watches mark_cmp watched n mark) changed)
+        → Among due found → IsDistinct (eq_by_cmp cmp) found → AreMet cmp changed (λ k. marks_of marks_in (row_at cmp rows k)) found
+    all_met changed due found due_is among once = record {
+      each = λ k. among k ∙ by k (row_at cmp rows k) refl;
+      once = once;
+    }
+      where
+        by : (k : Key) (row : Option (KeptRow Kept)) → row_at cmp rows k ≡ row → is_among due (number_in row) ≡ meets (marks_of marks_in row) changed
+        by k None is = refl
+        by k (Some r) is =
+            let at : tree.get nat_cmp keys r.number ≡ Some k = tied.numbers k r.number (ap number_in is) in
+            due_is r.number
+            ∙ same_any (λ mark. watches mark_cmp watched r.number mark) (has_mark (marks_in r.kept))
+            (λ mark. tied.watch r.number mark ∙ ap (λ key. has_mark (marks_behind cmp marks_in rows key) mark) at ∙ ap (λ row. has_mark (marks_of marks_in row) mark) is) changed
+            ∙ meets_back (marks_in r.kept) changed
+
+-- ---- numbers that rise
+
+all_at : (P : ℕ → Type 0) (xs : List ℕ) → AllByRecursion P xs → (i : ℕ) → i < length xs → P (get_or xs i 0)
+all_at P [] all i lt = absurd (omega arith)
+all_at P (x ∷ xs) all zero lt = all.0
+all_at P (x ∷ xs) all (suc i) lt = all_at P xs all.1 i (omega arith)
+
+above : (x y : ℕ) → nat_cmp x y ≡ Less → nat_eq y x ≡ false
+above x y less = ne_eqb y x (λ e. absurd (cc (less, ap (nat_cmp x) e, tied_itself nat_cmp_total x)))
+
+-- each isn't among those before it
+pub fresh_at : (due : List ℕ) → IsStrictlySortedBy nat_cmp due → (i : ℕ) → i < length due → has_row (get_or due i 0) (take i due) ≡ false
+unfolding IsStrictlySortedBy
+fresh_at [] rise i lt = absurd (omega arith)
+fresh_at (x ∷ xs) rise zero lt = refl
+fresh_at (x ∷ xs) rise (suc i) lt =
+    or_from (nat_eq (get_or xs i 0) x) (has_row (get_or xs i 0) (take i xs)) (above x (get_or xs i 0) (all_at (λ y. nat_cmp x y ≡ Less) xs rise.0 i (omega arith))) (fresh_at xs rise.1 i (omega arith))

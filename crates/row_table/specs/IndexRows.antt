@@ -1,0 +1,58 @@
+-- The rows of an index by their keys, and when they stand for the objects held.
+use Rattle.std.specs.Prelude.{◌≡◌, ◌<◌, ◌+◌, ◌-◌, if◌then◌else◌, ℕ, Bool, false, List, [], Option, Some, None}
+use Rattle.std.specs.List.{IsDistinct, list_any}
+use Rattle.std.specs.Ordering.{eq_by_cmp}
+use Rattle.std.specs.declared.cmp.Ordering.{Ordering}
+use Rattle.view_types.specs.Objects.{ObjectMap}
+use Rattle.view_types.specs.declared.mark.Mark.{Mark}
+use Rattle.mark_rules.specs.Changes.{Leads}
+use Rattle.mark_rules.specs.Marks.{has_mark, meets}
+
+-- The rows of one sort: the row of each key, as a filter over the objects held, and the marks that this reads.
+pub record Filter (Key Row : Type 0) : Type 0 where
+  pub row_of : ObjectMap → Key → Row
+  pub reads : ObjectMap → Key → List Mark
+
+-- two lists have the same marks
+abbrev pub HaveSame : List Mark → List Mark → Type 0
+HaveSame marks others = (mark : Mark) → has_mark marks mark ≡ has_mark others mark
+
+module _ {Key Row : Type 0} (filter : Filter Key Row) (held : ObjectMap) where
+  -- the row of the key over the objects held, and the marks that it reads
+  pub record IsRow (key : Key) (row : Row) (marks : List Mark) : Type 0 where
+    pub is_filter : row ≡ filter.row_of held key
+    pub are_read : HaveSame marks (filter.reads held key)
+
+  -- a key with users has its row and its marks, and one without has neither
+  pub record IsCurrent (key : Key) (users : ℕ) (row : Option Row) (marks : List Mark) : Type 0 where
+    pub unused : users ≡ 0 → (row ≡ None) × (marks ≡ [])
+    pub used : 0 < users → (row ≡ Some (filter.row_of held key)) × HaveSame marks (filter.reads held key)
+
+-- What is kept of a row that reads no mark of a change stands after it as before.
+abbrev pub KeptStays : {Key Row Kept : Type 0} → Filter Key Row → (ObjectMap → Key → Kept → Type 0) → Type 0
+KeptStays {Key} {Row} {Kept} filter keeps = (key : Key) (kept : Kept) (changed : List Mark) (before after : ObjectMap) → Leads changed before after
+    → meets (filter.reads before key) changed ≡ false → keeps before key kept → keeps after key kept
+
+-- What is kept of a row gives the row of its key and the marks that this reads.
+abbrev pub KeptShows : {Key Row Kept : Type 0} → Filter Key Row → (ObjectMap → Key → Kept → Type 0) → (Kept → Row) → (Kept → List Mark) → Type 0
+KeptShows {Key} {Row} {Kept} filter keeps row_in marks_in = (held : ObjectMap) (key : Key) (kept : Kept) → keeps held key kept → IsRow filter held key (row_in kept) (marks_in kept)
+
+-- ---- users
+
+module _ {Key : Type 0} (cmp : Key → Key → Ordering) where
+  -- the list contains the key
+  abbrev pub has_key : List Key → Key → Bool
+  has_key keys key = list_any (eq_by_cmp cmp key) keys
+
+  -- the key has one user more, and each other key as many
+  abbrev pub OneMore : Key → (Key → ℕ) → (Key → ℕ) → Type 0
+  OneMore key old new = (k : Key) → new k ≡ old k + (if eq_by_cmp cmp k key then 1 else 0)
+
+  -- the key has one user less, if it had any, and each other key as many
+  abbrev pub OneLess : Key → (Key → ℕ) → (Key → ℕ) → Type 0
+  OneLess key old new = (k : Key) → new k ≡ old k - (if eq_by_cmp cmp k key then 1 else 0)
+
+  -- these are the keys whose marks share one with the change, each once
+  pub record AreMet (changed : List Mark) (marks_at : Key → List Mark) (keys : List Key) : Type 0 where
+    pub each : (k : Key) → has_key keys k ≡ meets (marks_at k) changed
+    pub once : IsDistinct (eq_by_cmp cmp) keys

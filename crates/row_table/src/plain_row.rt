@@ -1,0 +1,122 @@
+// Rows that are found anew at each change.
+ghost use Rattle.std.specs.Prelude.{◌≡◌, ◌≤◌, ◌+◌, false, IfOk};
+ghost use Rattle.std.specs.FinMap.{IsAntisymmetric};
+ghost use Rattle.mark_rules.specs.Laws.{Stays};
+ghost use Rattle.mark_rules.specs.Reads.{cost};
+ghost use Rattle.row_table.specs.IndexRows.{Filter, IsRow};
+ghost use Rattle.row_table.specs.declared.row_rule.MarksAfter.TheVariants.{Same};
+ghost use Rattle.row_table.specs.RowLaws.{found_stays};
+
+use crate::row_rule::{MarksAfter, RowRule, StoreChange};
+use mesh_base::copied::Copied;
+use mesh_base::list::List;
+use mesh_base::memory::Memory;
+use mesh_base::steps::Steps;
+use object_store::store::Store;
+use std::alloc::Global;
+use view_types::mark::Mark;
+
+/// A row and the marks that it reads.
+#[derive(Drop)]
+pub struct PlainRow<R> {
+    pub row: R,
+    pub marks: List<Mark>,
+}
+
+/// How a row is found.
+pub trait RowFinder: Drop {
+    type Key: Ord + Copied;
+
+    type Row: Drop;
+
+    /// The row of each key as a filter over the objects held, and the marks that this reads.
+    ghost filter: { Self → Filter Self.Key Self.Row };
+
+    /// Finds the row of a key and its marks.
+    fn find<L>(
+        &self,
+        alloc: Global,
+        store: &Store,
+        key: &Self::Key,
+        steps: &mut Steps<L>,
+    ) -> Result<PlainRow<Self::Row>, Memory>
+        requires { store.now.spent ≡ false }
+        ensures row { IfOk result (λ found.
+            IsRow (filter self.now) store.now.objects key.now found.row found.marks) }
+        ensures steps { steps.new ≤ steps.old
+            + cost store.now.objects ((filter self.now).reads store.now.objects key.now) };
+
+    /// A row that reads no mark of a change is the same after it, and so is what it reads.
+    ghost stays: { (finder : Self) → Stays ((filter finder).row_of) ((filter finder).reads) };
+
+    /// Equal keys are the same key.
+    ghost exact: { IsAntisymmetric Self.Key.Ord.cmp };
+}
+
+/// A rule by which each row is found anew at a change of which it reads a mark.
+#[derive(Drop)]
+pub struct FindAnew<F: RowFinder> {
+    pub finder: F,
+}
+
+impl<F: RowFinder> RowRule for FindAnew<F> {
+    type Key = F::Key;
+
+    type Row = F::Row;
+
+    type Kept = PlainRow<F::Row>;
+
+    type Notes = ();
+
+    ghost filter = { λ rule. F.filter rule.finder };
+
+    ghost keeps = { λ rule held key kept.
+        IsRow (F.filter rule.finder) held key kept.row kept.marks };
+
+    ghost row_in = { λ kept. kept.row };
+
+    ghost marks_in = { λ kept. kept.marks };
+
+    ghost notes_hold = { λ rule held change notes. Unit {0} };
+
+    ghost tells = { λ before after. Unit {0} };
+
+    fn find<L>(
+        &self,
+        alloc: Global,
+        store: &Store,
+        key: &F::Key,
+        steps: &mut Steps<L>,
+    ) -> Result<PlainRow<F::Row>, Memory> {
+        self.finder.find(alloc, store, key, steps)
+    }
+
+    fn no_notes(&self, _alloc: Global) {}
+
+    fn follow<L>(
+        &self,
+        after: &StoreChange,
+        key: &F::Key,
+        kept: &mut PlainRow<F::Row>,
+        _notes: &mut (),
+        steps: &mut Steps<L>,
+    ) -> Result<MarksAfter, Memory> {
+        *kept = self.finder.find(after.alloc, after.store, key, steps)?;
+        Ok(MarksAfter::Other)
+    }
+
+    fn row(kept: &PlainRow<F::Row>) -> &F::Row {
+        &kept.row
+    }
+
+    fn marks(kept: &PlainRow<F::Row>) -> &[Mark] {
+        kept.marks.as_slice()
+    }
+
+    ghost shows = { λ rule held key kept stands. stands };
+
+    ghost stays = { λ rule. found_stays (F.filter rule.finder) (λ kept. kept.row)
+        (λ kept. kept.marks) (F.stays rule.finder) };
+
+    ghost exact = { F.exact };
+}

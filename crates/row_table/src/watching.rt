@@ -1,0 +1,64 @@
+// Which marks each number watches, in the order of marks.
+ghost use Rattle.std.specs.Prelude.{◌≡◌, ℕ, false, true, IfOk, OnOk};
+ghost use Rattle.std.specs.List.{list_any};
+ghost use Rattle.std.specs.List.Sorted.{IsStrictlySortedBy};
+ghost use Rattle.std.specs.Ordering.{nat_cmp};
+ghost use Rattle.view_types.specs.declared.mark.Mark.{Mark as TheMark};
+ghost use Rattle.mark_graph.specs.RowMarks.{Rewatches, has_row, watches};
+ghost use Rattle.mark_rules.specs.Marks.{has_mark, mark_cmp};
+
+use mark_graph::graph::Graph;
+use mesh_base::copied::Copied;
+use mesh_base::list::List;
+use mesh_base::memory::Memory;
+use std::alloc::Global;
+use view_types::mark::Mark;
+
+/// A graph in which nothing is watched.
+pub fn new_graph(alloc: Global) -> Graph<Mark>
+    ensures none { (n : ℕ) (mark : TheMark) → watches mark_cmp result.rows n mark ≡ false }
+    ensures going { result.spent ≡ false }
+{
+    Graph::new(alloc)
+}
+
+/// Lets the number watch these marks, and no others.
+pub fn watch(
+    alloc: Global,
+    graph: &mut Graph<Mark>,
+    number: u64,
+    marks: &[Mark],
+) -> Result<(), Memory>
+    ensures watched { OnOk result
+        (Rewatches mark_cmp (has_mark marks.now) number graph.old.rows graph.new.rows) }
+    ensures going { OnOk result (graph.new.spent ≡ false) }
+{
+    graph.watch(number, copy_marks(alloc, marks)?)
+}
+
+/// Lets the number watch nothing.
+pub fn unwatch(graph: &mut Graph<Mark>, number: u64)
+    ensures watched { Rewatches mark_cmp (λ mark. false) number graph.old.rows graph.new.rows }
+    ensures going { graph.new.spent ≡ graph.old.spent }
+{
+    graph.unwatch(number);
+}
+
+/// The numbers that watch one of these marks, ascending.
+pub fn due(graph: &Graph<Mark>, marks: &[Mark]) -> Result<List<u64>, Memory>
+    ensures due { IfOk result (λ numbers. (n : ℕ)
+        → has_row n numbers ≡ list_any (λ mark. watches mark_cmp graph.now.rows n mark) marks.now) }
+    ensures in_order { IfOk result (λ numbers. IsStrictlySortedBy nat_cmp numbers) }
+{
+    graph.due(marks)
+}
+
+fn copy_marks(alloc: Global, marks: &[Mark]) -> Result<List<Mark>, Memory>
+    ensures { IfOk result (λ copy. copy ≡ marks.now) }
+{
+    let mut copy = List::new(alloc);
+    for mark in marks {
+        copy.add(mark.copy(alloc)?)?;
+    }
+    Ok(copy)
+}
