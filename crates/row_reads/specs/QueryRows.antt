@@ -1,26 +1,18 @@
 -- The rows of a query: the first of them, and what those behind it read.
-use Rattle.std.specs.Prelude.{ℕ, ◌++◌, if◌then◌else◌, List, [], ◌∷◌, Option, Some, None, flat_map}
-use Rattle.std.specs.FinMap.{get}
-use Rattle.std.specs.Option.{option_or}
+use Rattle.std.specs.Prelude.{ℕ, ◌++◌, List, [], ◌∷◌, Option, Some, None, flat_map}
 use Rattle.mesh_base.specs.declared.key.ObjKey.{ObjKey}
 use Rattle.view_types.specs.Objects.{ObjectMap}
 use Rattle.view_types.specs.declared.config.Config.{Config}
 use Rattle.view_types.specs.declared.mark.Mark.{Mark}
 use Rattle.view_types.specs.declared.mark.Mark.TheVariants.{RouteOn}
-use Rattle.view_types.specs.declared.object.Object.{Object}
-use Rattle.view_types.specs.declared.object.Object.TheVariants as object
-use Rattle.view_types.specs.declared.pod.Pod.{Pod}
 use Rattle.view_types.specs.declared.query.Query.{Query}
 use Rattle.view_types.specs.declared.query.Query.TheVariants as query
 use Rattle.view_types.specs.declared.route.ParentKind.TheVariants as parent
-use Rattle.view_types.specs.declared.server.ServerSpec.{ServerSpec}
 use Rattle.view_rules.specs.PolicyLaws.{server_key}
-use Rattle.view_rules.specs.Servers.{is_for_port}
 use Rattle.mark_rules.specs.MarkLookups.{keys_at}
 use Rattle.mark_rules.specs.Rows.{name_in, server_part}
 use Rattle.mark_rules.specs.declared.keys.RowKey.{RowKey}
 use Rattle.mark_rules.specs.declared.keys.RowKey.TheVariants as row
-use Rattle.mark_rules.specs.declared.keys.ServerKey.{ServerKey}
 use Rattle.row_reads.specs.References.{authz_at}
 
 -- ---- the first row

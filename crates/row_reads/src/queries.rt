@@ -1,12 +1,8 @@
 // The marks that the rows of a query read.
-ghost use Rattle.std.specs.Prelude.{◌≡◌, ◌++◌, [], ◌∷◌, Some, None, false, if◌then◌else◌, IfOk, OnOk, flat_map, option_map};
-ghost use Rattle.std.specs.FinMap.{get};
+ghost use Rattle.std.specs.Prelude.{◌≡◌, ◌++◌, Some, None, false, IfOk, OnOk, flat_map, option_map};
 ghost use Rattle.std.specs.Option.{option_copied};
-ghost use Rattle.view_types.specs.declared.mark.Mark.TheVariants.{RouteOn};
-ghost use Rattle.view_types.specs.declared.route.ParentKind.TheVariants as parent;
 ghost use Rattle.view_rules.specs.PodRows.{pod_held};
 ghost use Rattle.view_rules.specs.PolicyLaws.{AreLawful, server_key};
-ghost use Rattle.view_rules.specs.Servers.{chosen_server, is_for_port};
 ghost use Rattle.mark_rules.specs.Reads.{query_reads};
 ghost use Rattle.mark_rules.specs.Rows.{name_in, server_part};
 ghost use Rattle.row_reads.specs.QueryRows.{authz_from, behind_name, behind_row, behind_server, first_row};
