@@ -10,7 +10,7 @@ use Rattle.std.specs.List.Sorted.{IsStrictlySortedBy}
 use Rattle.std.specs.Option.{option_to_list}
 use Rattle.std.specs.Ordering.{eq_by_cmp, nat_cmp}
 use Rattle.std.specs.declared.cmp.Ordering.{Ordering}
-use Rattle.std.specs.declared.cmp.Ordering.TheVariants.{Less, Equal}
+use Rattle.std.specs.declared.cmp.Ordering.TheVariants.{Less}
 use Rattle.std.proofs.lemmas.Cmp.{nat_cmp_total}
 use Rattle.std.proofs.lemmas.List.{append-nil}
 use Rattle.std.proofs.lemmas.Bool.{eq-eqb, eqb-true, false≢true, ne_eqb, or_from}
@@ -22,7 +22,7 @@ use Rattle.mark_rules.specs.Marks.{has_mark, mark_cmp, meets}
 use Rattle.row_table.specs.IndexRows.{AreMet, Filter, KeptShows, KeptStays, has_key}
 use Rattle.row_table.specs.TableRows.{AllStand, AreTied, Follow, RowAfter, StandsAt, is_among, marks_behind, marks_of, number_in, row_at, users_in}
 use Rattle.row_table.specs.declared.table_rows.KeptRow.{KeptRow}
-use Rattle.row_table.proofs.Keys.{distinct_more, distinct_none, has_more, is_itself, is_other, is_same, is_same_back, tells}
+use Rattle.row_table.proofs.Keys.{distinct_more, has_more, is_itself, tells}
 use Rattle.row_table.proofs.MarkLists.{meets_back, meets_same, same_any}
 use Rattle.row_table.proofs.Tied.{none_is_not_some, some_is}
 

@@ -1,11 +1,11 @@
 -- The parts of a table stay tied when a row is put, changed or removed.
-use Rattle.std.proofs.Common.{◌≡◌, inl, inr, ℕ, ◌+◌, ◌<◌, ◌≤◌, Bool, true, false, cond, nat_eq, List, [], ◌∷◌, Option, Some, None, refl, sym, ap, subst, ◌∙◌, arith}
+use Rattle.std.proofs.Common.{◌≡◌, inl, inr, ℕ, ◌+◌, false, cond, nat_eq, List, Option, Some, None, refl, sym, ap, subst, ◌∙◌, arith}
 use Rattle.std.specs.BTreeMap as tree
 use Rattle.std.specs.BTreeMap.{BTreeMap}
 use Rattle.std.specs.BTreeSet.{BTreeSet}
 use Rattle.std.specs.Cmp.{IsTotalOrder}
 use Rattle.std.specs.FinMap.{IsAntisymmetric}
-use Rattle.std.specs.Ordering.{eq_by_cmp, nat_cmp}
+use Rattle.std.specs.Ordering.{nat_cmp}
 use Rattle.std.specs.declared.cmp.Ordering.{Ordering}
 use Rattle.std.proofs.lemmas.Bool.Decides.{eqb_tells}
 use Rattle.view_types.specs.declared.mark.Mark.{Mark}
@@ -16,7 +16,7 @@ use Rattle.row_table.specs.TableRows.{AreTied, PutsAt, Rewatched, marks_behind, 
 use Rattle.row_table.specs.declared.row_rule.MarksAfter.{MarksAfter}
 use Rattle.row_table.specs.declared.row_rule.MarksAfter.TheVariants.{Same, Other}
 use Rattle.row_table.specs.declared.table_rows.KeptRow.{KeptRow}
-use Rattle.row_table.proofs.Keys.{is_itself, is_same_back, tells}
+use Rattle.row_table.proofs.Keys.{is_itself, tells}
 
 -- ---- options
 

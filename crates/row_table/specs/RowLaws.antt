@@ -1,5 +1,5 @@
 -- The laws of a table and of a rule that finds its rows anew.
-use Rattle.std.proofs.Common.{◌≡◌, ◌<◌, ℕ, List, Option, Some, None, refl, sym, ap, subst, ◌∙◌}
+use Rattle.std.proofs.Common.{◌<◌, ℕ, List, Option, Some, None, refl, sym, ap, subst, ◌∙◌}
 use Rattle.std.specs.Prelude.{option_map}
 use Rattle.std.specs.Cmp.{below_irrefl}
 use Rattle.std.specs.declared.cmp.Ordering.{Ordering}

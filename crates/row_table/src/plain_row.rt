@@ -4,7 +4,6 @@ ghost use Rattle.std.specs.FinMap.{IsAntisymmetric};
 ghost use Rattle.mark_rules.specs.Laws.{Stays};
 ghost use Rattle.mark_rules.specs.Reads.{cost};
 ghost use Rattle.row_table.specs.IndexRows.{Filter, IsRow};
-ghost use Rattle.row_table.specs.declared.row_rule.MarksAfter.TheVariants.{Same};
 ghost use Rattle.row_table.specs.RowLaws.{found_stays};
 
 use crate::row_rule::{MarksAfter, RowRule, StoreChange};

@@ -1,5 +1,5 @@
 // Rows by keys: what every index promises.
-ghost use Rattle.std.specs.Prelude.{◌≡◌, ◌≤◌, ◌+◌, ◌&&◌, if◌then◌else◌, nat_lt, ℕ, Bool, true, false, List, Option, IsErr, IfOk, OnOk};
+ghost use Rattle.std.specs.Prelude.{◌≡◌, ◌≤◌, ◌+◌, if◌then◌else◌, nat_lt, ℕ, Bool, true, false, List, Option, IsErr, IfOk, OnOk};
 ghost use Rattle.std.specs.FinMap.{IsAntisymmetric};
 ghost use Rattle.std.specs.List.{sum_by};
 ghost use Rattle.std.specs.Option.{option_copied};

@@ -2,11 +2,10 @@
 ghost use Rattle.std.specs.Prelude.{◌≡◌, ◌≤◌, ◌+◌, false, true, None, IsErr, IfOk, OnOk, option_map};
 ghost use Rattle.std.specs.List.{sum_by};
 ghost use Rattle.std.specs.Option.{option_copied};
-ghost use Rattle.mark_rules.specs.Changes.{Leads};
 ghost use Rattle.mark_rules.specs.Reads.{cost};
 ghost use Rattle.view_types.specs.Objects.{ObjectMap};
 ghost use Rattle.row_table.specs.IndexRows.{AreMet, has_key};
-ghost use Rattle.row_table.specs.TableRows.{AllStand, AreTied, Follow, PutsAt, kept_in, marks_of, row_at, users_in};
+ghost use Rattle.row_table.specs.TableRows.{AllStand, AreTied, Follow, kept_in, marks_of, row_at, users_in};
 ghost use Rattle.row_table.specs.RowLaws.{current_row};
 
 use crate::row_index::RowIndex;

@@ -1,10 +1,9 @@
 // The rows of a table, each with a number by which the graph knows it.
-ghost use Rattle.std.specs.Prelude.{◌≡◌, ◌<◌, ◌≤◌, ◌+◌, ◌-◌, ◌++◌, [], ◌∷◌, ℕ, false, Some, None, IfOk, OnOk, if◌then◌else◌, is_some, nat_lt, option_map};
+ghost use Rattle.std.specs.Prelude.{◌≡◌, ◌<◌, ◌≤◌, ◌+◌, ◌-◌, ◌++◌, false, Some, None, IfOk, OnOk, if◌then◌else◌, is_some, nat_lt, option_map};
 ghost use Rattle.std.specs.BTreeMap as tree;
 ghost use Rattle.std.specs.List.{sum_by};
-ghost use Rattle.std.specs.Option.{option_copied, option_to_list};
+ghost use Rattle.std.specs.Option.{option_to_list};
 ghost use Rattle.std.specs.Ordering.{eq_by_cmp, nat_cmp};
-ghost use Rattle.mark_rules.specs.Marks.{has_mark, mark_cmp};
 ghost use Rattle.mark_rules.specs.Reads.{cost};
 ghost use Rattle.row_table.specs.IndexRows.{AreMet, OneMore, has_key};
 ghost use Rattle.row_table.specs.TableRows.{AllStand, AreTied, Follow, PutsAt, Rewatched, TakesOne, TakesUser, marks_of, number_in, one_less, one_more, row_at, users_in};

@@ -1,6 +1,4 @@
-use Rattle.std.proofs.Common.{◌≡◌, Result, Ok, Err, IfOk, OnOk, List, subst, sym}
-use Rattle.view_types.specs.Objects.{ObjectMap}
-use Rattle.mark_rules.specs.Changes.{Leads}
+use Rattle.std.proofs.Common.{Result, Ok, Err, IfOk, OnOk, subst, sym}
 use Rattle.row_table.specs.IndexRows.{AreMet, has_key}
 use Rattle.row_table.specs.TableRows.{AllStand, Follow, marks_of, row_at}
 use Rattle.row_table.proofs.Followed.{all_stand}

@@ -1,14 +1,13 @@
-use Rattle.std.proofs.Common.{◌≡◌, ◌+◌, ◌++◌, ◌∷◌, [], ℕ, false, List, get_or, length, take, sym, ap, subst, ◌∙◌, refl, arith}
+use Rattle.std.proofs.Common.{◌≡◌, ◌+◌, ◌++◌, ◌∷◌, [], false, List, get_or, take, sym, ap, subst, ◌∙◌, refl, arith}
 use Rattle.std.specs.BTreeMap as tree
-use Rattle.std.specs.List.{IsDistinct, list_any, sum_by}
+use Rattle.std.specs.List.{IsDistinct, sum_by}
 use Rattle.std.specs.List.Sorted.{IsStrictlySortedBy}
 use Rattle.std.specs.Option.{option_to_list}
 use Rattle.std.specs.Ordering.{eq_by_cmp, nat_cmp}
 use Rattle.std.proofs.lemmas.List.{take_all, take_more}
 use Rattle.std.proofs.lemmas.List.Sums.{sum_by-append}
 use Rattle.view_types.specs.declared.mark.Mark.{Mark}
-use Rattle.mark_graph.specs.RowMarks.{has_row, watches}
-use Rattle.mark_rules.specs.Marks.{mark_cmp}
+use Rattle.mark_graph.specs.RowMarks.{has_row}
 use Rattle.mark_rules.specs.Reads.{cost}
 use Rattle.row_table.specs.IndexRows.{AreMet, has_key}
 use Rattle.row_table.specs.TableRows.{Follow, is_among, marks_of, number_in, row_at}
