@@ -1,0 +1,52 @@
+-- The addresses that have changed since they were told.
+use Rattle.std.specs.Prelude.{ℕ, Bool, true, List, [], ◌∷◌, Option, Some, None, if◌then◌else◌, is_some}
+use lib.Dec.{T}
+use Rattle.std.specs.FinMap.{FinMap, get, insert}
+use Rattle.std.specs.List.{list_all}
+use Rattle.mesh_base.specs.Keyed.{IsKeyed, keyed_map}
+use Rattle.net_cidr.specs.declared.ip.Ip.{Ip}
+use Rattle.view_diff.specs.Earlier.{Stood, address, earlier_endpoints}
+use Rattle.view_rules.specs.Batch.{same_pair}
+use Rattle.view_rules.specs.Endpoints.{pair_cmp, pair_of}
+use Rattle.view_types.specs.declared.endpoint.EndpointRow.{EndpointRow}
+use Rattle.view_types.specs.declared.endpoint.EndpointView.{EndpointView}
+
+-- by each address, what was told of it
+abbrev pub Pending : Type 0
+Pending = FinMap pair_cmp Stood
+
+abbrev pub pending_of : List Stood → Pending
+pending_of stood = keyed_map pair_cmp address (λ s. s) stood
+
+-- an address more, unless it is noted already
+abbrev pub note_one : Stood → Pending → Pending
+note_one s pending = if is_some (get pending (address s)) then pending else insert pending (address s) s
+
+-- the addresses that aren't noted yet, with what stood there
+abbrev pub with_notes : List Stood → Pending → Pending
+with_notes [] pending = pending
+with_notes (s ∷ before) pending = with_notes before (note_one s pending)
+
+-- ---- what holds of the addresses that are pending
+
+-- their addresses rise
+abbrev pub AreKeyed : List Stood → Type 0
+AreKeyed stood = IsKeyed pair_cmp address (λ s. s) stood
+
+-- whether the row, if there is one, stands at the address
+abbrev pub is_at : Ip × ℕ → Option EndpointRow → Bool
+is_at pair None = true
+is_at pair (Some row) = same_pair (pair_of row) pair
+
+abbrev pub IsOwn : Stood → Type 0
+IsOwn s = T (is_at (address s) s.2)
+
+-- each row stands at its own address
+abbrev pub AreOwn : List Stood → Type 0
+AreOwn stood = T (list_all (λ s. is_at (address s) s.2) stood)
+
+-- ---- what was told
+
+-- the endpoints as they were last told: those noted as they were told, and all others as they are now
+abbrev pub last_view : Bool → List Stood → EndpointView → EndpointView
+last_view exists pending now = earlier_endpoints exists pending now

@@ -1,0 +1,82 @@
+ghost use Rattle.std.specs.Prelude.{◌≡◌, ◌≤◌, [], Some, IfOk, OnErr, OnOk};
+ghost use Rattle.view_diff.specs.Earlier.{IsByAddress};
+ghost use Rattle.view_rules.specs.Batch.{endpoint_batch};
+ghost use Rattle.view_rules.specs.Fold.{IsOrderly};
+ghost use Rattle.pending_rows.specs.Pending.{AreKeyed, AreOwn, last_view, with_notes, pending_of};
+
+use crate::noting::{copied, note_each};
+use mesh_base::limits::Limits;
+use mesh_base::list::List;
+use mesh_base::memory::Memory;
+use net_cidr::ip::Ip;
+use std::alloc::Global;
+use view_diff::since::batch_since;
+use view_types::endpoint::{EndpointRow, EndpointView};
+use view_types::message::Message;
+
+/// What a subscriber was last told, by what it is now.
+#[derive(Drop)]
+pub struct PendingRows {
+    /// Whether the Service was there.
+    pub(crate) exists: bool,
+    /// The addresses that may have changed since, in order, each with the row that was told.
+    pub(crate) pending: Vec<(Ip, u16, Option<EndpointRow>)>,
+    ghost keyed: { AreKeyed pending.items },
+    ghost own: { AreOwn pending.items },
+}
+
+impl PendingRows {
+    /// All rows were told as they are now.
+    pub fn new(alloc: Global, exists: bool) -> PendingRows
+        ensures exists { result.exists ≡ exists }
+        ensures pending { result.pending.items ≡ [] }
+    {
+        PendingRows {
+            exists,
+            pending: Vec::new(alloc),
+        }
+    }
+
+    /// Notes addresses whose rows have changed, each with the row that stood there before. The rows
+    /// are copied. An address that is noted already keeps its row. Where memory runs out none is
+    /// noted.
+    pub fn note(
+        &mut self,
+        alloc: Global,
+        before: &[(Ip, u16, Option<EndpointRow>)],
+    ) -> Result<(), Memory>
+        requires { IsByAddress before.now }
+        ensures exists { self.new.exists ≡ self.old.exists }
+        ensures ok { OnOk result (pending_of self.new.pending.items
+            ≡ with_notes before.now (pending_of self.old.pending.items)) }
+        ensures err { OnErr result (self.new.pending.items ≡ self.old.pending.items) }
+    {
+        let stood = copied(alloc, before)?;
+        self.pending.reserve(stood.len())?;
+        note_each(&mut self.pending, stood);
+        Ok(())
+    }
+
+    /// The messages that bring the subscriber from what it was last told to the endpoints now, and
+    /// nothing is pending any more. Where memory runs out nothing is told.
+    pub fn drain(
+        &mut self,
+        alloc: Global,
+        now: &EndpointView,
+        limits: &Limits,
+    ) -> Result<List<Message>, Memory>
+        requires limit { 1 ≤ limits.now.frame_addrs }
+        requires now { IsOrderly now.now }
+        ensures batch { IfOk result (λ messages. messages ≡ endpoint_batch
+            (Some (last_view self.old.exists self.old.pending.items now.now)) now.now limits.now) }
+        ensures exists { OnOk result (self.new.exists ≡ now.now.exists) }
+        ensures pending { OnOk result (self.new.pending.items ≡ []) }
+        ensures err_exists { OnErr result (self.new.exists ≡ self.old.exists) }
+        ensures err_pending { OnErr result (self.new.pending.items ≡ self.old.pending.items) }
+    {
+        let messages = batch_since(alloc, self.exists, self.pending.as_slice(), now, limits)?;
+        self.pending.clear();
+        self.exists = now.exists;
+        Ok(messages)
+    }
+}

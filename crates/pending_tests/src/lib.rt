@@ -1,0 +1,12 @@
+//! Tests of what a subscriber of endpoints is told after rows have changed. They stand apart, since a
+//! crate with tests is proved twice.
+//!
+//! Stands on pending_rows, and on view_fold for views with their rows in order.
+#![tactic(auto)]
+
+#[cfg(test)]
+mod rows;
+#[cfg(test)]
+mod views;
+#[cfg(test)]
+mod words;
