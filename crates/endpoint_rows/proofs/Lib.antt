@@ -1,0 +1,9 @@
+pub mod Agreeing
+pub mod ByKey
+pub mod Edits
+pub mod Found
+pub mod KeysAt
+pub mod LeastKey
+pub mod Orders
+pub mod Service
+pub mod Showing

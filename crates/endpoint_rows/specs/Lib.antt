@@ -1,0 +1,3 @@
+pub mod Before
+pub mod Kept
+pub mod Laws
