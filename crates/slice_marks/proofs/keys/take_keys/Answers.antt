@@ -1,0 +1,15 @@
+use Rattle.std.proofs.Common.{◌≡◌, ◌&&◌, not, ◌++◌, [], ◌∷◌, take, sym, ap, subst, ◌∙◌}
+use Rattle.std.proofs.lemmas.List.{take_more}
+use Rattle.mesh_base.specs.declared.key.ObjKey.{ObjKey}
+use Rattle.key_lists.specs.Keys.{is_key, key_at}
+use Rattle.mark_rules.specs.Marks.{has_mark, mark_cmp}
+use Rattle.view_types.specs.declared.mark.Mark.{Mark}
+use Rattle.endpoint_rows.proofs.KeysAt.{one_taken}
+use Rattle.slice_marks.proofs.keys.take_keys.Goals as goal
+
+pub loop-mark-preserved : goal.loop-mark-preserved
+loop-mark-preserved c =
+    let done = take c.loop-mark.mark-index c.args.marks.now in
+    let more = take_more c.args.marks.now c.loop-mark.mark-index c.mark-item.result c.loop-mark-test.true ∙ ap (λ mark. done ++ mark ∷ []) (sym c.mark-item.is) in
+    subst (λ marks. (m : Mark) (k : ObjKey) → key_at mark_cmp c.take_key.new.by m k ≡ (not (has_mark marks m && is_key k c.args.key.now) && key_at mark_cmp c.args.by.now m k)) (sym more)
+    (one_taken mark_cmp (λ mark. mark) done c.mark-item.result c.args.key.now c.args.by.now c.loop-mark.by c.take_key.new.by c.loop-mark.invariant c.take_key.ensures)

@@ -1,0 +1,10 @@
+use Rattle.std.proofs.Common.{◌≡◌, ◌&&◌, not, take}
+use Rattle.mesh_base.specs.declared.key.ObjKey.{ObjKey}
+use Rattle.key_lists.specs.Keys.{is_key, key_at}
+use Rattle.mark_rules.specs.Marks.{has_mark, mark_cmp}
+use Rattle.view_types.specs.declared.mark.Mark.{Mark}
+use Rattle.slice_marks.proofs.keys.take_keys.Given as goal
+
+-- the key stands at none of the marks so far
+abbrev pub invariant-loop-mark : goal.invariant-loop-mark
+invariant-loop-mark l = (m : Mark) (k : ObjKey) → key_at mark_cmp l.by m k ≡ (not (has_mark (take l.mark-index l.marks) m && is_key k l.key) && key_at mark_cmp l.initial.by m k)

@@ -1,0 +1,28 @@
+-- Slices by the marks that their rows read.
+use Rattle.std.specs.Prelude.{◌≡◌, List, [], Option, Some, None}
+use Rattle.std.specs.BTreeMap as tree
+use Rattle.std.specs.BTreeMap.{BTreeMap}
+use Rattle.key_lists.specs.Keys.{key_at}
+use Rattle.mark_rules.specs.Marks.{has_mark, mark_cmp}
+use Rattle.mesh_base.specs.KeyOrder.{key_cmp}
+use Rattle.mesh_base.specs.declared.key.ObjKey.{ObjKey}
+use Rattle.view_types.specs.declared.mark.Mark.{Mark}
+use Rattle.slice_marks.specs.declared.slices.SliceMarks.{SliceMarks}
+
+abbrev pub MarksBySlice : Type 0
+MarksBySlice = BTreeMap ObjKey (List Mark)
+
+abbrev pub KeysByMark : Type 0
+KeysByMark = BTreeMap Mark (List ObjKey)
+
+abbrev pub marks_given : Option (List Mark) → List Mark
+marks_given None = []
+marks_given (Some marks) = marks
+
+-- the marks that the slice at a key reads
+abbrev pub marks_at : MarksBySlice → ObjKey → List Mark
+marks_at by key = marks_given (tree.get key_cmp by key)
+
+-- at each mark stand the keys of the slices that read it
+pub record Agree (s : SliceMarks) : Type 0 where
+  pub keys : (mark : Mark) (key : ObjKey) → key_at mark_cmp s.by_mark mark key ≡ has_mark (marks_at s.by_slice key) mark
