@@ -1,5 +1,5 @@
-//! Tests of the rows of endpoints by slices, and of slices by the marks that their rows read. They stand apart, since a crate
-//! with tests is proved twice.
+//! Tests of the rows of endpoints by slices, and of slices by the marks that their rows read. They
+//! stand apart, since a crate with tests is proved twice.
 //!
 //! Stands on endpoint_rows and slice_marks.
 #![tactic(auto)]

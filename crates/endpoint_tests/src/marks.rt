@@ -1,4 +1,4 @@
-use crate::names::{key, slice};
+use crate::names::{key, slice, split};
 use mesh_base::key::Kind;
 use mesh_base::list::List;
 use mesh_base::memory::Memory;
@@ -7,22 +7,47 @@ use std::alloc::{AllocError, Global};
 use std::test::Fail;
 use view_types::mark::Mark;
 
+// A slice, the Pods that it is put with, none if it is taken, and then the slices at each of three
+// Pods.
+const ROWS: &str = "b x x => x:b y: z:
+a y x => x:ab y:a z:
+a z => x:b y: z:a
+b => x: y: z:a";
+
 fn pod(alloc: Global, name: &str) -> Result<Mark, Memory> {
     Ok(Mark::Obj(key(alloc, Kind::Pod, name)?))
 }
 
-fn pods(alloc: Global, names: &[&str]) -> Result<List<Mark>, Memory> {
+fn pods(alloc: Global, names: &str) -> Result<List<Mark>, Memory> {
     let mut marks = List::new(alloc);
-    for name in names {
+    for name in names.split(' ') {
         marks.add(pod(alloc, name)?)?;
     }
     Ok(marks)
 }
 
-fn slices_of(alloc: Global, read: &SliceMarks, mark: &Mark) -> Result<String, AllocError> {
-    let mut all = String::new(alloc);
+fn step(alloc: Global, read: &mut SliceMarks, step: &str) -> Result<(), Memory> {
+    match step.split_once(' ') {
+        Some((name, names)) => read.put(slice(alloc, name)?, pods(alloc, names)?),
+        None => {
+            read.take(&slice(alloc, step)?);
+            Ok(())
+        }
+    }
+}
+
+fn push_slices(all: &mut String, read: &SliceMarks, mark: &Mark) -> Result<(), AllocError> {
     for key in read.at(mark) {
         all.push_str(key.name.as_str())?;
+    }
+    Ok(())
+}
+
+fn found(alloc: Global, read: &SliceMarks) -> Result<String, Fail> {
+    let mut all = String::new(alloc);
+    for (before, name) in [("x:", "x"), (" y:", "y"), (" z:", "z")] {
+        all.push_str(before)?;
+        push_slices(&mut all, read, &pod(alloc, name)?)?;
     }
     Ok(all)
 }
@@ -31,20 +56,10 @@ fn slices_of(alloc: Global, read: &SliceMarks, mark: &Mark) -> Result<String, Al
 fn slices_are_found_by_their_pods(rt: HostRuntime) -> Result<(), Fail> {
     let alloc = rt.alloc();
     let mut read = SliceMarks::new(alloc);
-    let shared = pod(alloc, "shared")?;
-    let own = pod(alloc, "own")?;
-    read.put(slice(alloc, "b")?, pods(alloc, &["shared", "shared"])?)?;
-    read.put(slice(alloc, "a")?, pods(alloc, &["own", "shared"])?)?;
-    assert_eq!(rt; slices_of(alloc, &read, &shared)?.as_str(), "ab");
-    assert_eq!(rt; slices_of(alloc, &read, &own)?.as_str(), "a");
-    read.put(slice(alloc, "a")?, pods(alloc, &["other"])?)?;
-    assert_eq!(rt; slices_of(alloc, &read, &shared)?.as_str(), "b");
-    assert_eq!(rt; slices_of(alloc, &read, &own)?.as_str(), "");
-    read.take(&slice(alloc, "b")?);
-    assert_eq!(rt; slices_of(alloc, &read, &shared)?.as_str(), "");
-    assert_eq!(rt;
-        slices_of(alloc, &read, &pod(alloc, "other")?)?.as_str(),
-        "a"
-    );
+    for row in ROWS.lines() {
+        let (words, expected) = split(row)?;
+        step(alloc, &mut read, words)?;
+        assert_eq!(rt; found(alloc, &read)?.as_str(), expected, "at {row}");
+    }
     Ok(())
 }

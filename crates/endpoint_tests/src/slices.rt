@@ -1,149 +1,138 @@
-use crate::names::slice;
+use crate::names::{slice, split};
 use endpoint_rows::rows::EndpointRows;
 use mesh_base::labels::Labels;
 use mesh_base::list::List;
 use mesh_base::memory::Memory;
 use mesh_base::text::Text;
 use net_cidr::ip::Ip;
-use std::alloc::{AllocError, Global};
+use std::alloc::Global;
 use std::test::Fail;
 use view_types::endpoint::EndpointRow;
 
-fn labels(alloc: Global, value: &str) -> Result<Labels, Memory> {
+// What happens to the slices, and the rows that are shown then, with what stood where they differ
+// from those shown before. A row is its address, its weight, and its label if it has one, each a
+// single character.
+const ROWS: &str = "put b 31 11 32 => 11 31, 1 was none 3 was none
+put a 17 27 31 => 17 27 31, 1 was 11 2 was none
+put c 19 99 => 17 27 31 99, 9 was none
+take a => 11 31 99, 1 was 17 2 was 27
+take b => 19 99, 1 was 11 3 was 31
+take c; put b 19 99 => 19 99,
+put b 19 99w => 19 99w, 9 was 99
+put b 19 99 => 19 99, 9 was 99w
+restart; put b 99 => 99, 1 was 19
+take none => 99,
+restart => , 9 was 99";
+
+fn labels(alloc: Global, label: &str) -> Result<Labels, Memory> {
     let mut labels = Labels::new(alloc);
-    if !value.is_empty() {
-        labels.put(Text::from_str(alloc, "app")?, Text::from_str(alloc, value)?)?;
+    if !label.is_empty() {
+        labels.put(Text::from_str(alloc, "app")?, Text::from_str(alloc, label)?)?;
     }
     Ok(labels)
 }
 
-fn row(alloc: Global, ip: u32, weight: u32, label: &str) -> Result<EndpointRow, Memory> {
+fn digit(word: &str, at: usize) -> Result<u32, Fail> {
+    match word.as_bytes().get(at) {
+        Some(byte) if byte.is_ascii_digit() => Ok(u32::from(*byte - b'0')),
+        _ => Err(Fail::new("a row lacks a digit")),
+    }
+}
+
+fn label_of(word: &str) -> &str {
+    match word.get(2..) {
+        Some(label) => label,
+        None => "",
+    }
+}
+
+fn row(alloc: Global, word: &str) -> Result<EndpointRow, Fail> {
     Ok(EndpointRow {
-        ip: Ip::V4(ip),
+        ip: Ip::V4(digit(word, 0)?),
         port: 80,
-        weight,
-        labels: labels(alloc, label)?,
+        weight: digit(word, 1)?,
+        labels: labels(alloc, label_of(word))?,
         identity: None,
         tunnel: None,
         h2: false,
     })
 }
 
-fn rows(alloc: Global, places: &[(u32, u32)]) -> Result<List<EndpointRow>, Memory> {
+fn rows(alloc: Global, words: &str) -> Result<List<EndpointRow>, Fail> {
     let mut all = List::new(alloc);
-    for (ip, weight) in places {
-        all.add(row(alloc, *ip, *weight, "")?)?;
+    for word in words.split(' ') {
+        all.add(row(alloc, word)?)?;
     }
     Ok(all)
 }
 
-fn label_text(row: &EndpointRow) -> &str {
-    match row.labels.get(b"app") {
+fn step(alloc: Global, kept: &mut EndpointRows, step: &str) -> Result<(), Fail> {
+    if step == "restart" {
+        kept.restart(true)?;
+    } else if let Some(name) = step.strip_prefix("take ") {
+        kept.take_slice(&slice(alloc, name)?)?;
+    } else if let Some((name, words)) = put_of(step) {
+        kept.put_slice(slice(alloc, name)?, rows(alloc, words)?)?;
+    }
+    Ok(())
+}
+
+fn put_of(step: &str) -> Option<(&str, &str)> {
+    step.strip_prefix("put ")?.split_once(' ')
+}
+
+fn push_row(alloc: Global, all: &mut String, row: &EndpointRow) -> Result<(), Fail> {
+    let label = match row.labels.get(b"app") {
         Some(value) => value.as_str(),
         None => "",
+    };
+    if let Ip::V4(ip) = row.ip {
+        let weight = row.weight;
+        all.push_str(format!(in alloc; "{ip}{weight}{label}")?.as_str())?;
     }
+    Ok(())
 }
 
-fn push_was(
+fn push_note(
     alloc: Global,
     all: &mut String,
-    ip: u32,
-    was: Option<&EndpointRow>,
-) -> Result<(), AllocError> {
-    match was {
-        Some(row) => {
-            let (weight, label) = (row.weight, label_text(row));
-            all.push_str(format!(in alloc; " {ip} was {weight}{label}")?.as_str())
-        }
-        None => all.push_str(format!(in alloc; " {ip} was none")?.as_str()),
+    note: &(Ip, u16, Option<EndpointRow>),
+) -> Result<(), Fail> {
+    if let Ip::V4(ip) = note.0 {
+        all.push_str(format!(in alloc; " {ip} was ")?.as_str())?;
+    }
+    match &note.2 {
+        Some(row) => push_row(alloc, all, row),
+        None => Ok(all.push_str("none")?),
     }
 }
 
-// The rows that are shown, and what stood where they differ from those shown before.
-fn shown(alloc: Global, kept: &EndpointRows) -> Result<String, AllocError> {
+fn shown(alloc: Global, kept: &EndpointRows) -> Result<String, Fail> {
     let mut all = String::new(alloc);
     for row in kept.view().rows.as_slice() {
-        if let Ip::V4(ip) = row.ip {
-            let (weight, label) = (row.weight, label_text(row));
-            all.push_str(format!(in alloc; "{ip}:{weight}{label} ")?.as_str())?;
+        if !all.is_empty() {
+            all.push_str(" ")?;
         }
+        push_row(alloc, &mut all, row)?;
     }
-    all.push_str("|")?;
+    all.push_str(",")?;
     for note in kept.before() {
-        if let Ip::V4(ip) = note.0 {
-            push_was(alloc, &mut all, ip, note.2.as_ref())?;
-        }
+        push_note(alloc, &mut all, note)?;
     }
     Ok(all)
 }
 
 #[test]
-fn the_first_slice_gives_the_row(rt: HostRuntime) -> Result<(), Fail> {
+fn slices_come_and_go(rt: HostRuntime) -> Result<(), Fail> {
     let alloc = rt.alloc();
     let mut kept = EndpointRows::new(alloc, true);
-    kept.put_slice(slice(alloc, "b")?, rows(alloc, &[(3, 1), (1, 1), (3, 2)])?)?;
-    kept.settle()?;
-    assert_eq!(rt;
-        shown(alloc, &kept)?.as_str(),
-        "1:1 3:1 | 1 was none 3 was none"
-    );
-    kept.put_slice(slice(alloc, "a")?, rows(alloc, &[(1, 7), (2, 7), (3, 1)])?)?;
-    kept.settle()?;
-    assert_eq!(rt;
-        shown(alloc, &kept)?.as_str(),
-        "1:7 2:7 3:1 | 1 was 1 2 was none"
-    );
-    kept.put_slice(slice(alloc, "c")?, rows(alloc, &[(1, 9), (9, 9)])?)?;
-    kept.settle()?;
-    assert_eq!(rt;
-        shown(alloc, &kept)?.as_str(),
-        "1:7 2:7 3:1 9:9 | 9 was none"
-    );
-    kept.take_slice(&slice(alloc, "a")?)?;
-    kept.settle()?;
-    assert_eq!(rt;
-        shown(alloc, &kept)?.as_str(),
-        "1:1 3:1 9:9 | 1 was 7 2 was 7"
-    );
-    kept.take_slice(&slice(alloc, "b")?)?;
-    kept.settle()?;
-    assert_eq!(rt; shown(alloc, &kept)?.as_str(), "1:9 9:9 | 1 was 1 3 was 1");
-    Ok(())
-}
-
-#[test]
-fn equal_rows_are_no_change(rt: HostRuntime) -> Result<(), Fail> {
-    let alloc = rt.alloc();
-    let mut kept = EndpointRows::new(alloc, true);
-    kept.put_slice(slice(alloc, "c")?, rows(alloc, &[(1, 9), (9, 9)])?)?;
-    kept.settle()?;
-    kept.take_slice(&slice(alloc, "c")?)?;
-    kept.put_slice(slice(alloc, "b")?, rows(alloc, &[(1, 9), (9, 9)])?)?;
-    kept.settle()?;
-    assert_eq!(rt; shown(alloc, &kept)?.as_str(), "1:9 9:9 |");
-    kept.restart(true)?;
-    kept.put_slice(slice(alloc, "b")?, rows(alloc, &[(9, 9)])?)?;
-    kept.settle()?;
-    assert_eq!(rt; shown(alloc, &kept)?.as_str(), "9:9 | 1 was 9");
-    kept.settle()?;
-    assert_eq!(rt; shown(alloc, &kept)?.as_str(), "9:9 |");
-    Ok(())
-}
-
-#[test]
-fn a_pod_loses_its_label(rt: HostRuntime) -> Result<(), Fail> {
-    let alloc = rt.alloc();
-    let mut kept = EndpointRows::new(alloc, true);
-    let mut given = rows(alloc, &[(1, 1)])?;
-    given.add(row(alloc, 2, 1, "web")?)?;
-    kept.put_slice(slice(alloc, "a")?, given)?;
-    kept.settle()?;
-    assert_eq!(rt;
-        shown(alloc, &kept)?.as_str(),
-        "1:1 2:1web | 1 was none 2 was none"
-    );
-    kept.put_slice(slice(alloc, "a")?, rows(alloc, &[(1, 1), (2, 1)])?)?;
-    kept.settle()?;
-    assert_eq!(rt; shown(alloc, &kept)?.as_str(), "1:1 2:1 | 2 was 1web");
+    for row in ROWS.lines() {
+        let (steps, expected) = split(row)?;
+        for word in steps.split("; ") {
+            step(alloc, &mut kept, word)?;
+        }
+        kept.settle()?;
+        assert_eq!(rt; shown(alloc, &kept)?.as_str(), expected, "at {row}");
+    }
     Ok(())
 }
