@@ -1,6 +1,7 @@
 pub mod Addresses
 pub mod EqualLists
 pub mod Authz
+pub mod Counts
 pub mod MarkLookups
 pub mod EachOnce
 pub mod Endpoints

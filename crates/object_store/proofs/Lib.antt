@@ -2,6 +2,7 @@ pub mod Arranged
 pub mod AsideKeys
 pub mod AtKeys
 pub mod ByCmp
+pub mod Counts
 pub mod Kept
 pub mod KeptAt
 pub mod Leading

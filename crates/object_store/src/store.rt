@@ -1,7 +1,8 @@
 ghost use Rattle.std.specs.Prelude.{◌≡◌, ◌≤◌, ◌+◌, ◌-◌, ◌^◌, min, true, false, is_some, if◌then◌else◌, IsErr, IfSome, IfOk, IfErr, OnOk, OnErr, IsErrOf};
 ghost use Rattle.std.specs.Option.{option_copied};
 ghost use Rattle.std.specs.FinMap as map;
-ghost use Rattle.view_types.specs.declared.mark.Mark.TheVariants.{IpPod, IpService, PolicyOn, RouteOn, ServerAuthzIn, ServersIn, SlicesOf};
+ghost use Rattle.mark_rules.specs.Reads.{count_at};
+ghost use Rattle.view_types.specs.declared.mark.Mark.TheVariants.{IpPod, IpService, Obj, PolicyOn, RouteOn, ServerAuthzIn, ServersIn, SlicesOf};
 ghost use Rattle.view_types.specs.Objects.{AtKeys, key_of, IsListOf};
 ghost use Rattle.object_store.specs.Relisted.{Relists, exceeds};
 ghost use Rattle.object_store.specs.KeyLists.{AreKeysOf, FindsFirst, FindsKeys, StayUnlessSpent, is_of_key};
@@ -113,7 +114,9 @@ impl Store {
         ensures at_key { IfSome result (λ o. key_of o.now ≡ key.now) }
         ensures steps { steps.new ≡ (if is_some result then min (steps.old + 1)
             (2 ^ 64 - 1) else steps.old) }
+        ensures counts { steps.new ≤ steps.old + count_at self.now.objects (Obj key.now) }
     {
+        self.objects.stand_at_keys();
         let found = self.objects.get(key);
         tick_if(found.is_some(), steps);
         found
@@ -131,7 +134,10 @@ impl Store {
         ensures at_key { IfSome result (λ o. key_of o.now ≡ key_with kind ns.now name.now) }
         ensures steps { steps.new ≡ (if is_some result then min (steps.old + 1)
             (2 ^ 64 - 1) else steps.old) }
+        ensures counts { steps.new ≤ steps.old
+            + count_at self.now.objects (Obj (key_with kind ns.now name.now)) }
     {
+        self.objects.stand_at_keys();
         let found = self.objects.find(kind, ns, name);
         tick_if(found.is_some(), steps);
         found
