@@ -1,6 +1,8 @@
-ghost use Rattle.std.specs.Prelude.{◌≡◌};
+ghost use Rattle.std.specs.Prelude.{◌≡◌, ◌≤◌, ◌+◌};
 ghost use Rattle.std.specs.Option.{option_copied};
-ghost use Rattle.view_rules.specs.Policies.{mesh_authn_found, mesh_authn_held, net_authn_found, net_authn_held};
+ghost use Rattle.view_types.specs.declared.mark.Mark.TheVariants.{Obj};
+ghost use Rattle.view_rules.specs.Policies.{mesh_authn_found, mesh_authn_held, mesh_authn_key, net_authn_found, net_authn_held, net_authn_key};
+ghost use Rattle.mark_rules.specs.Reads.{count_at};
 
 use mesh_base::key::Kind;
 use mesh_base::steps::Steps;
@@ -16,7 +18,9 @@ pub fn mesh_authn_held<'a, L>(
     name: &Text,
     steps: &mut Steps<L>,
 ) -> Option<&'a MeshAuthn>
-    ensures { option_copied result ≡ mesh_authn_held store.now.objects ns.now name.now }
+    ensures value { option_copied result ≡ mesh_authn_held store.now.objects ns.now name.now }
+    ensures steps { steps.new ≤ steps.old
+        + count_at store.now.objects (Obj (mesh_authn_key ns.now name.now)) }
 {
     mesh_authn_found(store.find(Kind::MeshTLSAuthentication, ns, name, steps))
 }
@@ -37,7 +41,9 @@ pub fn net_authn_held<'a, L>(
     name: &Text,
     steps: &mut Steps<L>,
 ) -> Option<&'a NetAuthn>
-    ensures { option_copied result ≡ net_authn_held store.now.objects ns.now name.now }
+    ensures value { option_copied result ≡ net_authn_held store.now.objects ns.now name.now }
+    ensures steps { steps.new ≤ steps.old
+        + count_at store.now.objects (Obj (net_authn_key ns.now name.now)) }
 {
     net_authn_found(store.find(Kind::NetworkAuthentication, ns, name, steps))
 }

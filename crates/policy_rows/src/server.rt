@@ -1,9 +1,11 @@
-ghost use Rattle.std.specs.Prelude.{◌≡◌, ◌&&◌, ◌==◌, IfOk, filter_map, find, option_to_list};
+ghost use Rattle.std.specs.Prelude.{◌≡◌, ◌≤◌, ◌+◌, ◌&&◌, ◌==◌, IfOk, filter_map, find, if◌then◌else◌, is_some, length, option_to_list};
 ghost use Rattle.std.specs.FinMap.{get};
 ghost use Rattle.std.specs.List.{list_any};
 ghost use Rattle.std.specs.Option.{option_copied};
 ghost use Rattle.std.specs.Str.{bytes_eq};
+ghost use Rattle.view_types.specs.declared.mark.Mark.TheVariants.{ServersIn};
 ghost use Rattle.view_rules.specs.Servers.{chosen_server, is_for_port, is_named, is_server_for, selects_pod, selects_port, server_found};
+ghost use Rattle.mark_rules.specs.Reads.{count_at};
 
 use crate::by_mark::servers_in;
 use crate::selects::selects;
@@ -35,8 +37,9 @@ pub fn chosen_server<'a, L>(
     port: u16,
     steps: &mut Steps<L>,
 ) -> Result<Option<&'a ServerSpec>, Memory>
-    ensures { IfOk result (λ server.
+    ensures value { IfOk result (λ server.
         option_copied server ≡ chosen_server store.now.objects ns.now pod.now port) }
+    ensures steps { steps.new ≤ steps.old + count_at store.now.objects (ServersIn ns.now) }
 {
     rows_by_marks();
     let keys = servers_in(store, ns)?;
@@ -51,9 +54,11 @@ fn first_server<'a, L>(
     asked: &PodPort,
     steps: &mut Steps<L>,
 ) -> Option<&'a Object>
-    ensures { option_copied result
+    ensures value { option_copied result
         ≡ find (is_server_for asked.now.ns.now asked.now.pod.now asked.now.port)
         (filter_map (get store.now.objects) keys.now) }
+    ensures steps { steps.new ≤ steps.old
+        + length (filter_map (get store.now.objects) keys.now) }
 {
     for key in keys {
         match server_at(store, key, asked, steps) {
@@ -65,15 +70,18 @@ fn first_server<'a, L>(
 }
 
 /// The object at the key, if it is a Server for the port.
+#[tactic(auto, using(object_store::proofs::Counts::copied_some))]
 fn server_at<'a, L>(
     store: &'a Store,
     key: &ObjKey,
     asked: &PodPort,
     steps: &mut Steps<L>,
 ) -> Option<&'a Object>
-    ensures { option_copied result
+    ensures value { option_copied result
         ≡ find (is_server_for asked.now.ns.now asked.now.pod.now asked.now.port)
         (option_to_list (get store.now.objects key.now)) }
+    ensures steps { steps.new ≤ steps.old
+        + (if is_some (get store.now.objects key.now) then 1 else 0) }
 {
     match store.get(key, steps) {
         Some(object) if is_server_for(asked.ns, asked.pod, asked.port, object) => Some(object),
