@@ -1,2 +1,4 @@
 mod Found
+mod ProfileSteps
 pub mod Rows
+mod SliceSteps

@@ -1,7 +1,9 @@
-ghost use Rattle.std.specs.Prelude.{◌≡◌, false, IfOk, option_and_then};
+ghost use Rattle.std.specs.Prelude.{◌≡◌, ◌≤◌, ◌+◌, false, IfOk, if◌then◌else◌, is_some, option_and_then};
 ghost use Rattle.std.specs.FinMap.{get};
 ghost use Rattle.std.specs.Option.{option_copied};
+ghost use Rattle.view_types.specs.declared.mark.Mark.TheVariants.{IpPod, IpService};
 ghost use Rattle.view_rules.specs.Profiles.{pod_at, service_at};
+ghost use Rattle.mark_rules.specs.Reads.{count_at};
 
 use crate::pod::pod_found;
 use crate::service::service_found;
@@ -17,12 +19,14 @@ use view_types::pod::Pod;
 use view_types::service::Service;
 
 /// The least Service, by namespace and name, with this cluster IP.
-pub(crate) fn service_at<'a, L>(
+pub fn service_at<'a, L>(
     store: &'a Store,
     ip: Ip,
     steps: &mut Steps<L>,
 ) -> Result<Option<&'a Service>, Memory>
-    ensures { IfOk result (λ service. option_copied service ≡ service_at store.now.objects ip) }
+    ensures value { IfOk result (λ service.
+        option_copied service ≡ service_at store.now.objects ip) }
+    ensures steps { steps.new ≤ steps.old + count_at store.now.objects (IpService ip) }
 {
     addresses_by_mark();
     check_going(store)?;
@@ -31,12 +35,13 @@ pub(crate) fn service_at<'a, L>(
 }
 
 /// The least Pod, by namespace and name, that has this address of its own and hasn't ended.
-pub(crate) fn pod_at<'a, L>(
+pub fn pod_at<'a, L>(
     store: &'a Store,
     ip: Ip,
     steps: &mut Steps<L>,
 ) -> Result<Option<&'a Pod>, Memory>
-    ensures { IfOk result (λ pod. option_copied pod ≡ pod_at store.now.objects ip) }
+    ensures value { IfOk result (λ pod. option_copied pod ≡ pod_at store.now.objects ip) }
+    ensures steps { steps.new ≤ steps.old + count_at store.now.objects (IpPod ip) }
 {
     addresses_by_mark();
     check_going(store)?;
@@ -45,13 +50,15 @@ pub(crate) fn pod_at<'a, L>(
 }
 
 /// The object at the first key of an address, if there is one.
+#[tactic(auto, using(object_store::proofs::Counts::copied_some))]
 fn object_at<'a, L>(
     store: &'a Store,
     first: Option<&ObjKey>,
     steps: &mut Steps<L>,
 ) -> Option<&'a Object>
-    ensures { option_copied result
+    ensures value { option_copied result
         ≡ option_and_then (get store.now.objects) (option_copied first.entry) }
+    ensures steps { steps.new ≤ steps.old + (if is_some (option_copied first.entry) then 1 else 0) }
 {
     match first {
         Some(key) => store.get(key, steps),

@@ -1,9 +1,11 @@
-ghost use Rattle.std.specs.Prelude.{◌≡◌, ◌++◌, ◌&&◌, IfOk, OnOk, filter_map, flat_map, if◌then◌else◌, map, None, option_and_then, option_to_list, Some};
+ghost use Rattle.std.specs.Prelude.{◌≡◌, ◌≤◌, ◌+◌, ◌++◌, ◌∷◌, ◌&&◌, IfOk, OnOk, filter_map, flat_map, if◌then◌else◌, is_some, map, None, option_and_then, option_to_list, Some};
 ghost use Rattle.std.specs.FinMap.{get};
 ghost use Rattle.std.specs.Option.{option_copied};
 ghost use Rattle.std.specs.Str.{bytes_eq};
+ghost use Rattle.view_types.specs.declared.mark.Mark.TheVariants.{SlicesOf};
 ghost use Rattle.view_rules.specs.Endpoints.{has_addresses, is_text, point_rows, service_of, slice_in, slice_rows, slices_held};
 ghost use Rattle.view_rules.specs.PodRows.{row_for};
+ghost use Rattle.mark_rules.specs.Reads.{cost, point_marks, pods_of, target_marks};
 ghost use Rattle.view_scratch.specs.Parts.{number_at, row_at, rows_of_point};
 
 use crate::endpoint::Endpoint;
@@ -33,9 +35,11 @@ pub(crate) fn rows_of_places<L>(
     port_name: &Text,
     steps: &mut Steps<L>,
 ) -> Result<List<EndpointRow>, Memory>
-    ensures { IfOk result (λ rows.
+    ensures value { IfOk result (λ rows.
         rows ≡ flat_map (slice_rows (row_for from.now.config.now from.now.store.now.objects)
         port_name.now) (slices_held from.now.store.now.objects ns.now name.now)) }
+    ensures steps { steps.new ≤ steps.old + cost from.now.store.now.objects
+        (SlicesOf ns.now name.now ∷ flat_map pods_of (slices_held from.now.store.now.objects ns.now name.now)) }
 {
     rows_by_marks();
     let keys = slices_of(from.store, ns, name)?;
@@ -48,15 +52,18 @@ pub(crate) fn rows_of_places<L>(
 }
 
 /// The slice at the key, if it is one of the Service's.
-fn slice_at<'a, L>(
+#[tactic(auto, using(object_store::proofs::Counts::copied_some))]
+pub fn slice_at<'a, L>(
     store: &'a Store,
     key: &ObjKey,
     ns: &Text,
     name: &Text,
     steps: &mut Steps<L>,
 ) -> Option<&'a Slice>
-    ensures { option_copied result
+    ensures value { option_copied result
         ≡ option_and_then (slice_in ns.now name.now) (get store.now.objects key.now) }
+    ensures steps { steps.new ≤ steps.old
+        + (if is_some (get store.now.objects key.now) then 1 else 0) }
 {
     match store.get(key, steps) {
         Some(object) => slice_in(object, ns, name),
@@ -71,9 +78,11 @@ fn add_found<L>(
     port_name: &Text,
     steps: &mut Steps<L>,
 ) -> Result<(), Memory>
-    ensures { OnOk result (rows.new
+    ensures rows { OnOk result (rows.new
         ≡ rows.old ++ flat_map (slice_rows (row_for from.now.config.now from.now.store.now.objects)
         port_name.now) (option_to_list (option_copied slice.entry))) }
+    ensures steps { steps.new ≤ steps.old + cost from.now.store.now.objects
+        (flat_map pods_of (option_to_list (option_copied slice.entry))) }
 {
     match slice {
         Some(slice) => add_slice(from, rows, slice, port_name, steps),
@@ -106,16 +115,19 @@ fn is_of(slice: &Slice, name: &Text) -> bool
     }
 }
 
-fn add_slice<L>(
+/// Adds a row for each place in the slice that gives one at ports of this name.
+pub fn add_slice<L>(
     from: &Snapshot,
     rows: &mut List<EndpointRow>,
     slice: &Slice,
     port_name: &Text,
     steps: &mut Steps<L>,
 ) -> Result<(), Memory>
-    ensures { OnOk result (rows.new
+    ensures rows { OnOk result (rows.new
         ≡ rows.old ++ slice_rows (row_for from.now.config.now from.now.store.now.objects)
         port_name.now slice.now) }
+    ensures steps { steps.new ≤ steps.old
+        + cost from.now.store.now.objects (pods_of slice.now) }
 {
     match slice.family {
         Family::V4 | Family::V6 => add_places(from, rows, slice, port_name, steps),
@@ -130,9 +142,11 @@ fn add_places<L>(
     port_name: &Text,
     steps: &mut Steps<L>,
 ) -> Result<(), Memory>
-    ensures { OnOk result (rows.new
+    ensures rows { OnOk result (rows.new
         ≡ rows.old ++ flat_map (point_rows (row_for from.now.config.now from.now.store.now.objects)
         port_name.now slice.now.ports) slice.now.points) }
+    ensures steps { steps.new ≤ steps.old
+        + cost from.now.store.now.objects (flat_map point_marks slice.now.points) }
 {
     let numbers = numbers_named(from.alloc, slice.ports.as_slice(), port_name)?;
     let points = slice.points.as_slice();
@@ -175,10 +189,12 @@ fn add_points<L>(
     numbers: &[u16],
     steps: &mut Steps<L>,
 ) -> Result<(), Memory>
-    ensures { OnOk result (rows.new
+    ensures rows { OnOk result (rows.new
         ≡ rows.old ++ flat_map
         (rows_of_point (row_for from.now.config.now from.now.store.now.objects) numbers.now)
         points.now) }
+    ensures steps { steps.new ≤ steps.old
+        + cost from.now.store.now.objects (flat_map point_marks points.now) }
 {
     for point in points {
         add_point(from, rows, point, numbers, steps)?;
@@ -193,9 +209,11 @@ fn add_point<L>(
     numbers: &[u16],
     steps: &mut Steps<L>,
 ) -> Result<(), Memory>
-    ensures { OnOk result (rows.new
+    ensures rows { OnOk result (rows.new
         ≡ rows.old ++ rows_of_point (row_for from.now.config.now from.now.store.now.objects)
         numbers.now point.now) }
+    ensures steps { steps.new ≤ steps.old
+        + cost from.now.store.now.objects (point_marks point.now) }
 {
     if point.ready {
         return add_ready(from, rows, point, numbers, steps);
@@ -210,10 +228,12 @@ fn add_ready<L>(
     numbers: &[u16],
     steps: &mut Steps<L>,
 ) -> Result<(), Memory>
-    ensures { OnOk result (rows.new
+    ensures rows { OnOk result (rows.new
         ≡ rows.old ++ flat_map
         (λ ip. map (row_for from.now.config.now from.now.store.now.objects point.now.pod ip)
         numbers.now) point.now.addrs) }
+    ensures steps { steps.new ≤ steps.old
+        + cost from.now.store.now.objects (target_marks point.now.pod) }
 {
     let pod = pod_held(from.store, &point.pod, steps);
     let endpoint = Endpoint::of(from.alloc, from.config, pod)?;

@@ -1,7 +1,9 @@
-ghost use Rattle.std.specs.Prelude.{◌≡◌, IfOk};
+ghost use Rattle.std.specs.Prelude.{◌≡◌, ◌≤◌, ◌+◌, ◌∷◌, IfOk, flat_map};
 ghost use Rattle.std.specs.Option.{option_copied};
+ghost use Rattle.view_types.specs.declared.mark.Mark.TheVariants.{SlicesOf};
 ghost use Rattle.view_rules.specs.Endpoints.{endpoints, no_endpoints, rows_from, slices_held};
 ghost use Rattle.view_rules.specs.PodRows.{row_for};
+ghost use Rattle.mark_rules.specs.Reads.{cost, endpoint_reads, pods_of};
 
 use crate::collect::rows_of_places;
 use crate::pairs::first_rows;
@@ -15,6 +17,7 @@ use std::alloc::Global;
 use view_types::endpoint::{EndpointRow, EndpointView};
 
 /// The endpoints of the Service port, by what is held.
+#[tactic(auto, using(mark_rules::proofs::Counts::cost_cons))]
 pub fn endpoints<L>(
     from: &Snapshot,
     ns: &Text,
@@ -22,8 +25,10 @@ pub fn endpoints<L>(
     port: u16,
     steps: &mut Steps<L>,
 ) -> Result<EndpointView, Memory>
-    ensures { IfOk result (λ view.
+    ensures value { IfOk result (λ view.
         view ≡ endpoints from.now.config.now from.now.store.now.objects ns.now name.now port) }
+    ensures steps { steps.new ≤ steps.old + cost from.now.store.now.objects (endpoint_reads
+        from.now.store.now.objects (record { ns = ns.now; name = name.now; port = port })) }
 {
     match service_held(from.store, ns, name, steps) {
         Some(service) if !service.external => {
@@ -51,9 +56,11 @@ fn rows_held<L>(
     port_name: Option<&Text>,
     steps: &mut Steps<L>,
 ) -> Result<List<EndpointRow>, Memory>
-    ensures { IfOk result (λ rows.
+    ensures value { IfOk result (λ rows.
         rows ≡ rows_from (row_for from.now.config.now from.now.store.now.objects)
         (slices_held from.now.store.now.objects ns.now name.now) (option_copied port_name.entry)) }
+    ensures steps { steps.new ≤ steps.old + cost from.now.store.now.objects
+        (SlicesOf ns.now name.now ∷ flat_map pods_of (slices_held from.now.store.now.objects ns.now name.now)) }
 {
     match port_name {
         Some(port_name) => first_rows(rows_of_places(from, ns, name, port_name, steps)?),

@@ -1,7 +1,9 @@
-ghost use Rattle.std.specs.Prelude.{◌≡◌};
+ghost use Rattle.std.specs.Prelude.{◌≡◌, ◌≤◌, ◌+◌};
 ghost use Rattle.std.specs.FinMap.{get};
 ghost use Rattle.std.specs.Option.{option_copied};
+ghost use Rattle.view_types.specs.declared.mark.Mark.TheVariants.{Obj};
 ghost use Rattle.view_rules.specs.PodRows.{as_pod, pod_found, pod_held, pod_key};
+ghost use Rattle.mark_rules.specs.Reads.{cost, count_at, target_marks};
 
 use mesh_base::key::Kind;
 use mesh_base::steps::Steps;
@@ -16,7 +18,8 @@ pub(crate) fn pod_held<'a, L>(
     target: &Option<(Text, Text)>,
     steps: &mut Steps<L>,
 ) -> Option<&'a Pod>
-    ensures { option_copied result ≡ pod_held store.now.objects target.now }
+    ensures value { option_copied result ≡ pod_held store.now.objects target.now }
+    ensures steps { steps.new ≤ steps.old + cost store.now.objects (target_marks target.now) }
 {
     match target {
         Some((ns, name)) => pod_named(store, ns, name, steps),
@@ -31,7 +34,10 @@ pub(crate) fn pod_named<'a, L>(
     name: &Text,
     steps: &mut Steps<L>,
 ) -> Option<&'a Pod>
-    ensures { option_copied result ≡ pod_found (get store.now.objects (pod_key ns.now name.now)) }
+    ensures value { option_copied result
+        ≡ pod_found (get store.now.objects (pod_key ns.now name.now)) }
+    ensures steps { steps.new ≤ steps.old
+        + count_at store.now.objects (Obj (pod_key ns.now name.now)) }
 {
     pod_found(store.find(Kind::Pod, ns, name, steps))
 }

@@ -1,6 +1,8 @@
-ghost use Rattle.std.specs.Prelude.{◌≡◌, IfOk, None};
+ghost use Rattle.std.specs.Prelude.{◌≡◌, ◌≤◌, ◌+◌, ◌++◌, [], ◌∷◌, IfOk, None};
 ghost use Rattle.std.specs.Option.{option_copied};
-ghost use Rattle.view_rules.specs.Profiles.{address_profile, as_profile, overrides_in, pod_profile, profile, profile_for, profile_found, profile_held, routes_in, service_at, service_profile};
+ghost use Rattle.view_types.specs.declared.mark.Mark.TheVariants.{IpService, Obj};
+ghost use Rattle.view_rules.specs.Profiles.{address_profile, as_profile, overrides_in, pod_profile, profile, profile_for, profile_found, profile_held, profile_key, routes_in, service_at, service_profile};
+ghost use Rattle.mark_rules.specs.Reads.{address_reads, client_marks, cost, count_at, profile_reads_of, service_profile_reads};
 
 use crate::address::{pod_at, service_at};
 use crate::endpoint::row_of;
@@ -26,10 +28,10 @@ use view_types::query::Target;
 
 /// A port of the Service of a namespace and name.
 #[derive(Clone, Copy)]
-struct ServicePort<'a> {
-    ns: &'a Text,
-    name: &'a Text,
-    port: u16,
+pub struct ServicePort<'a> {
+    pub ns: &'a Text,
+    pub name: &'a Text,
+    pub port: u16,
 }
 
 /// The profile of a target, for a client in this namespace if it says one, by what is held.
@@ -39,8 +41,10 @@ pub fn profile<L>(
     client: &Option<Text>,
     steps: &mut Steps<L>,
 ) -> Result<ProfileView, Memory>
-    ensures { IfOk result (λ view.
+    ensures value { IfOk result (λ view.
         view ≡ profile from.now.config.now from.now.store.now.objects target.now client.now) }
+    ensures steps { steps.new ≤ steps.old + cost from.now.store.now.objects (profile_reads_of
+        from.now.config.now from.now.store.now.objects client.now target.now) }
 {
     match target {
         Target::Service { ns, name, port } => {
@@ -51,6 +55,7 @@ pub fn profile<L>(
     }
 }
 
+#[tactic(auto, using(mark_rules::proofs::Counts::cost_cons))]
 fn address_profile<L>(
     from: &Snapshot,
     client: &Option<Text>,
@@ -58,8 +63,11 @@ fn address_profile<L>(
     port: u16,
     steps: &mut Steps<L>,
 ) -> Result<ProfileView, Memory>
-    ensures { IfOk result (λ view.
+    ensures value { IfOk result (λ view.
         view ≡ address_profile from.now.config.now from.now.store.now.objects client.now ip port
+        (service_at from.now.store.now.objects ip)) }
+    ensures steps { steps.new ≤ steps.old + cost from.now.store.now.objects (IpService ip
+        ∷ address_reads (service_profile_reads from.now.config.now client.now) ip
         (service_at from.now.store.now.objects ip)) }
 {
     match service_at(from.store, ip, steps)? {
@@ -75,15 +83,18 @@ fn address_profile<L>(
     }
 }
 
-fn service_profile<L>(
+/// The profile of a Service's port, by the ServiceProfile that the client's namespace or the Service's own holds.
+pub fn service_profile<L>(
     from: &Snapshot,
     client: &Option<Text>,
     asked: &ServicePort,
     steps: &mut Steps<L>,
 ) -> Result<ProfileView, Memory>
-    ensures { IfOk result (λ view.
+    ensures value { IfOk result (λ view.
         view ≡ service_profile from.now.config.now from.now.store.now.objects client.now
         asked.now.ns.now asked.now.name.now asked.now.port) }
+    ensures steps { steps.new ≤ steps.old + cost from.now.store.now.objects (service_profile_reads
+        from.now.config.now client.now asked.now.ns.now asked.now.name.now) }
 {
     let fqn = full_name(from.alloc, from.config, asked.ns, asked.name)?;
     let service = service_held(from.store, asked.ns, asked.name, steps);
@@ -108,7 +119,10 @@ fn profile_for<'a, L>(
     full: &Text,
     steps: &mut Steps<L>,
 ) -> Option<&'a Profile>
-    ensures { option_copied result ≡ profile_for store.now.objects client.now ns.now full.now }
+    ensures value { option_copied result
+        ≡ profile_for store.now.objects client.now ns.now full.now }
+    ensures steps { steps.new ≤ steps.old + cost store.now.objects
+        (client_marks client.now full.now ++ Obj (profile_key ns.now full.now) ∷ []) }
 {
     match client {
         Some(client) => match profile_held(store, client, full, steps) {
@@ -125,7 +139,9 @@ fn profile_held<'a, L>(
     name: &Text,
     steps: &mut Steps<L>,
 ) -> Option<&'a Profile>
-    ensures { option_copied result ≡ profile_held store.now.objects ns.now name.now }
+    ensures value { option_copied result ≡ profile_held store.now.objects ns.now name.now }
+    ensures steps { steps.new ≤ steps.old
+        + count_at store.now.objects (Obj (profile_key ns.now name.now)) }
 {
     profile_found(store.find(Kind::ServiceProfile, ns, name, steps))
 }
@@ -166,7 +182,8 @@ fn overrides_in(alloc: Global, found: Option<&Profile>) -> Result<List<Override>
     }
 }
 
-fn pod_profile(
+/// The profile of an address that no Service has, by the Pod that has it, if there is one.
+pub fn pod_profile(
     alloc: Global,
     config: &Config,
     pod: Option<&Pod>,

@@ -1,6 +1,8 @@
-ghost use Rattle.std.specs.Prelude.{◌≡◌, ◌&&◌, ◌==◌, find, option_map};
+ghost use Rattle.std.specs.Prelude.{◌≡◌, ◌≤◌, ◌+◌, ◌&&◌, ◌==◌, find, option_map};
 ghost use Rattle.std.specs.Option.{option_copied};
-ghost use Rattle.view_rules.specs.Endpoints.{as_service, port_name, service_found, service_held};
+ghost use Rattle.view_types.specs.declared.mark.Mark.TheVariants.{Obj};
+ghost use Rattle.view_rules.specs.Endpoints.{as_service, port_name, service_found, service_held, service_key};
+ghost use Rattle.mark_rules.specs.Reads.{count_at};
 
 use mesh_base::key::Kind;
 use mesh_base::steps::Steps;
@@ -10,13 +12,15 @@ use view_types::object::Object;
 use view_types::service::{NamedPort, Service};
 
 /// The Service of the namespace and name, if it is held.
-pub(crate) fn service_held<'a, L>(
+pub fn service_held<'a, L>(
     store: &'a Store,
     ns: &Text,
     name: &Text,
     steps: &mut Steps<L>,
 ) -> Option<&'a Service>
-    ensures { option_copied result ≡ service_held store.now.objects ns.now name.now }
+    ensures value { option_copied result ≡ service_held store.now.objects ns.now name.now }
+    ensures steps { steps.new ≤ steps.old
+        + count_at store.now.objects (Obj (service_key ns.now name.now)) }
 {
     service_found(store.find(Kind::Service, ns, name, steps))
 }
@@ -40,7 +44,7 @@ fn as_service(object: &Object) -> Option<&Service>
 }
 
 /// The name of the first TCP port of the number.
-pub(crate) fn port_name(ports: &[NamedPort], number: u16) -> Option<&Text>
+pub fn port_name(ports: &[NamedPort], number: u16) -> Option<&Text>
     ensures { option_copied result ≡ port_name number ports.now }
 {
     match tcp_port(ports, number) {

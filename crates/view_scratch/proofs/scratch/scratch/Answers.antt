@@ -7,14 +7,14 @@ use Rattle.view_scratch.proofs.scratch.scratch.Goals as goal
 
 pub returns-in_ok-view-in-Get-clause-value : goal.returns-in_ok-view-in-Get-clause-value
 returns-in_ok-view-in-Get-clause-value g c =
-    ap Endpoints c.in_ok-view-in-Get.ensures ∙ ap (view_of c.args.config.now c.args.store.now.objects) (sym c.in-Get.is)
+    ap Endpoints c.in_ok-view-in-Get.ensures.value ∙ ap (view_of c.args.config.now c.args.store.now.objects) (sym c.in-Get.is)
 
 pub returns-in_ok-view-in-Get-clause-orderly : goal.returns-in_ok-view-in-Get-clause-orderly
-returns-in_ok-view-in-Get-clause-orderly g c = subst IsOrderly (sym c.in_ok-view-in-Get.ensures) (endpoints_are_orderly c.args.config.now _ _ _ _)
+returns-in_ok-view-in-Get-clause-orderly g c = subst IsOrderly (sym c.in_ok-view-in-Get.ensures.value) (endpoints_are_orderly c.args.config.now _ _ _ _)
 
 pub returns-in_ok-view-in-Profile-clause-value : goal.returns-in_ok-view-in-Profile-clause-value
 returns-in_ok-view-in-Profile-clause-value g c =
-    ap Profile c.in_ok-view-in-Profile.ensures ∙ ap (view_of c.args.config.now c.args.store.now.objects) (sym c.in-Profile.is)
+    ap Profile c.in_ok-view-in-Profile.ensures.value ∙ ap (view_of c.args.config.now c.args.store.now.objects) (sym c.in-Profile.is)
 
 pub returns-in_ok-view-in-Port-clause-value : goal.returns-in_ok-view-in-Port-clause-value
 returns-in_ok-view-in-Port-clause-value g c =
