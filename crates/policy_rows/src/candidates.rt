@@ -1,4 +1,4 @@
-ghost use Rattle.std.specs.Prelude.{◌≡◌, ◌++◌, [], ◌∷◌, IfOk, OnOk, filter_map, flat_map, map, option_to_list};
+ghost use Rattle.std.specs.Prelude.{◌≡◌, ◌≤◌, ◌+◌, ◌++◌, [], ◌∷◌, IfOk, OnOk, filter_map, flat_map, length, map, option_to_list};
 ghost use Rattle.std.specs.FinMap.{get};
 ghost use Rattle.std.specs.Option.{option_copied};
 ghost use Rattle.std.specs.Ordering.{is_eq};
@@ -7,7 +7,7 @@ ghost use Rattle.view_types.specs.Objects.{key_of};
 ghost use Rattle.view_types.specs.declared.mark.Mark.TheVariants.{PolicyOn};
 ghost use Rattle.view_rules.specs.InOrder.{in_order_by};
 ghost use Rattle.mark_rules.specs.Marks.{objects_with};
-ghost use Rattle.mark_rules.specs.Reads.{server_authz_marks};
+ghost use Rattle.mark_rules.specs.Reads.{cost, count_at, server_authz_marks};
 
 use crate::by_mark::{policies_on, server_authz_in};
 use mesh_base::key::ObjKey;
@@ -29,10 +29,12 @@ pub(crate) fn server_candidates<'a, L>(
     name: &Text,
     steps: &mut Steps<L>,
 ) -> Result<Vec<&'a Object>, Memory>
-    ensures { IfOk result (λ found. map (λ o. o.now) found.items
+    ensures objects { IfOk result (λ found. map (λ o. o.now) found.items
         ≡ in_order_by key_cmp key_of
         (flat_map (λ mark. objects_with store.now.objects (mark ∷ []))
         (server_authz_marks ns.now name.now))) }
+    ensures steps { steps.new ≤ steps.old
+        + cost store.now.objects (server_authz_marks ns.now name.now) }
 {
     let in_namespace = server_authz_in(store, ns)?;
     let on_server = policies_on(store, ns, RefKind::Server, name)?;
@@ -53,8 +55,10 @@ pub(crate) fn route_candidates<'a, L>(
     target: RefKind,
     steps: &mut Steps<L>,
 ) -> Result<Vec<&'a Object>, Memory>
-    ensures { IfOk result (λ found. map (λ o. o.now) found.items
+    ensures objects { IfOk result (λ found. map (λ o. o.now) found.items
         ≡ objects_with store.now.objects (PolicyOn route.now.ns target route.now.name ∷ [])) }
+    ensures steps { steps.new ≤ steps.old
+        + count_at store.now.objects (PolicyOn route.now.ns target route.now.name) }
 {
     let mut found = Vec::new(alloc);
     let keys = policies_on(store, &route.ns, target, &route.name)?;
@@ -69,8 +73,10 @@ fn add_all<'a, L>(
     found: &mut Vec<&'a Object>,
     steps: &mut Steps<L>,
 ) -> Result<(), Memory>
-    ensures { OnOk result (map (λ o. o.now) found.new.items
+    ensures objects { OnOk result (map (λ o. o.now) found.new.items
         ≡ map (λ o. o.now) found.old.items ++ filter_map (get store.now.objects) keys.now) }
+    ensures steps { steps.new ≤ steps.old
+        + length (filter_map (get store.now.objects) keys.now) }
 {
     for key in keys {
         add(found, store.get(key, steps))?;

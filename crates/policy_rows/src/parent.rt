@@ -1,8 +1,11 @@
-ghost use Rattle.std.specs.Prelude.{◌≡◌, ◌&&◌, Bool, IfOk, not};
+ghost use Rattle.std.specs.Prelude.{◌≡◌, ◌&&◌, ℕ, Bool, List, IfOk, not};
 ghost use Rattle.std.specs.Str.{bytes_eq};
+ghost use Rattle.view_types.specs.declared.mark.Mark.{Mark};
+ghost use Rattle.view_types.specs.declared.mark.Mark.TheVariants.{RouteOn};
 ghost use Rattle.view_types.specs.declared.route.Parent.{Parent as Written};
+ghost use Rattle.view_types.specs.declared.route.ParentKind.TheVariants as parent;
 ghost use Rattle.view_rules.specs.Routes.{is_port_or_none, is_server, is_server_parent, is_service_parent};
-ghost use Rattle.policy_rows.specs.ByMark.{HoldRoutes};
+ghost use Rattle.policy_rows.specs.ByMark.{HoldMarked, HoldRoutes};
 
 use crate::by_mark::routes_on;
 use mark_rules::laws::rows_by_marks;
@@ -16,13 +19,18 @@ use view_types::route::{Parent, ParentKind};
 pub trait Attachment {
     ghost is_parent: { Self → Written → Bool };
 
+    /// The mark of the routes of a namespace that may be attached to it.
+    ghost mark: { Self → List ℕ → Mark };
+
     fn is_parent(&self, parent: &Parent) -> bool
         ensures { result ≡ is_parent self.now parent.now };
 
     /// Keys at which the routes of a namespace that are attached to it are held.
     fn keys<'a>(&self, store: &'a Store, ns: &Text) -> Result<&'a [ObjKey], Memory>
-        ensures { IfOk result (λ keys.
-            HoldRoutes store.now.objects ns.now (is_parent self.now) keys.now) };
+        ensures routes { IfOk result (λ keys.
+            HoldRoutes store.now.objects ns.now (is_parent self.now) keys.now) }
+        ensures marked { IfOk result (λ keys.
+            HoldMarked store.now.objects (mark self.now ns.now) keys.now) };
 }
 
 /// The Server of a name.
@@ -41,6 +49,8 @@ pub struct ServiceAt<'a> {
 impl<'a> Attachment for ServerNamed<'a> {
     ghost is_parent = { λ server. is_server_parent server.name.now };
 
+    ghost mark = { λ server ns. RouteOn ns parent.Server server.name.now };
+
     fn is_parent(&self, parent: &Parent) -> bool {
         is_server(parent.kind) && parent.name == *self.name
     }
@@ -53,6 +63,8 @@ impl<'a> Attachment for ServerNamed<'a> {
 
 impl<'a> Attachment for ServiceAt<'a> {
     ghost is_parent = { λ service. is_service_parent service.name.now service.port };
+
+    ghost mark = { λ service ns. RouteOn ns parent.Service service.name.now };
 
     fn is_parent(&self, parent: &Parent) -> bool {
         !is_server(parent.kind)

@@ -1,4 +1,4 @@
-ghost use Rattle.std.specs.Prelude.{◌≡◌, ◌++◌, ◌&&◌, IfOk, OnOk, filter, map, option_and_then, option_to_list};
+ghost use Rattle.std.specs.Prelude.{◌≡◌, ◌≤◌, ◌+◌, ◌++◌, ◌&&◌, IfOk, OnOk, filter, if◌then◌else◌, is_some, map, option_and_then, option_to_list};
 ghost use Rattle.std.specs.Cmp.Lexicographic.{slice_cmp};
 ghost use Rattle.std.specs.FinMap.{get};
 ghost use Rattle.std.specs.List.{list_any};
@@ -7,6 +7,7 @@ ghost use Rattle.std.specs.Ordering.{is_eq, nat_cmp};
 ghost use Rattle.std.specs.Str.{bytes_eq};
 ghost use Rattle.view_rules.specs.InOrder.{in_order_by};
 ghost use Rattle.view_rules.specs.Routes.{as_route, attached_routes, created_cmp, has_parent, place_of, route_cmp, route_group};
+ghost use Rattle.mark_rules.specs.Reads.{count_at};
 
 use crate::parent::Attachment;
 use mesh_base::key::{Kind, ObjKey};
@@ -27,9 +28,11 @@ pub fn attached_routes<'a, A: Attachment, L>(
     attachment: &A,
     steps: &mut Steps<L>,
 ) -> Result<Vec<&'a Route>, Memory>
-    ensures { IfOk result (λ routes.
+    ensures value { IfOk result (λ routes.
         map (λ route. route.now) routes.items
         ≡ attached_routes store.now.objects ns.now (A.is_parent attachment.now)) }
+    ensures steps { steps.new ≤ steps.old
+        + count_at store.now.objects (A.mark attachment.now ns.now) }
 {
     let keys = attachment.keys(store, ns)?;
     let mut routes = Vec::new(alloc);
@@ -51,6 +54,7 @@ fn add<'a>(routes: &mut Vec<&'a Route>, route: Option<&'a Route>) -> Result<(), 
 }
 
 /// The route at the key, if it is attached.
+#[tactic(auto, using(object_store::proofs::Counts::copied_some))]
 fn route_at<'a, A: Attachment, L>(
     store: &'a Store,
     key: &ObjKey,
@@ -58,9 +62,11 @@ fn route_at<'a, A: Attachment, L>(
     attachment: &A,
     steps: &mut Steps<L>,
 ) -> Option<&'a Route>
-    ensures { option_to_list (option_copied result)
+    ensures value { option_to_list (option_copied result)
         ≡ filter (has_parent ns.now (A.is_parent attachment.now))
         (option_to_list (option_and_then as_route (get store.now.objects key.now))) }
+    ensures steps { steps.new ≤ steps.old
+        + (if is_some (get store.now.objects key.now) then 1 else 0) }
 {
     match store.get(key, steps) {
         Some(object) => attached_route(object, ns, attachment),

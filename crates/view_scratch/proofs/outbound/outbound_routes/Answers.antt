@@ -10,5 +10,5 @@ returns g c =
     let row = outbound_route c.args.from.now.store.now.objects in
     let rows =
     ap (map (λ (route : Bor Route). row route.now)) c.as_slice.ensures.value
-    ∙ map_through row (λ (route : Bor Route). route.now) c.in_ok-routes.routes.items ∙ ap (map row) c.in_ok-routes.ensures in
+    ∙ map_through row (λ (route : Bor Route). route.now) c.in_ok-routes.routes.items ∙ ap (map row) c.in_ok-routes.ensures.value in
     IfOk-weaker c.route_rows.result _ _ (λ shown is. is ∙ rows) c.route_rows.ensures

@@ -5,8 +5,8 @@ use Rattle.view_rules.specs.InOrder.{in_order_by}
 use Rattle.view_rules.specs.Routes.{as_route, has_parent, is_server_parent, place_of, route_cmp}
 use Rattle.policy_rows.proofs.parent.ServerNamedAttachment.keys.Goals as goal
 
-pub returns : goal.returns
-returns c =
+pub returns-clause-routes : goal.returns-clause-routes
+returns-clause-routes c =
     let ns = c.args.ns.now in
     let is_parent = is_server_parent c.args.self.now.name.now in
     IfOk-weaker c.routes_on.result _ _

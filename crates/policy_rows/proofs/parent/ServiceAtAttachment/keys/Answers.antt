@@ -5,8 +5,8 @@ use Rattle.view_rules.specs.InOrder.{in_order_by}
 use Rattle.view_rules.specs.Routes.{as_route, has_parent, is_service_parent, place_of, route_cmp}
 use Rattle.policy_rows.proofs.parent.ServiceAtAttachment.keys.Goals as goal
 
-pub returns : goal.returns
-returns c =
+pub returns-clause-routes : goal.returns-clause-routes
+returns-clause-routes c =
     let ns = c.args.ns.now in
     let is_parent = is_service_parent c.args.self.now.name.now c.args.self.now.port in
     IfOk-weaker c.routes_on.result _ _

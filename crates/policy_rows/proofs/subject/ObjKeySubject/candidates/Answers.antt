@@ -11,7 +11,7 @@ returns-in-Some g c =
     let route = c.args.self.now in
     IfOk-weaker c.route_candidates.result _ _
     (λ found is. among_route held route c.in-Some.target (sym c.in-Some.is ∙ c.route_target.ensures) ∙ ap (filter (applies_to_route held route)) (sym is))
-    c.route_candidates.ensures
+    c.route_candidates.ensures.objects
 
 pub returns-in-None : goal.returns-in-None
 returns-in-None g c =

@@ -9,4 +9,4 @@ pub returns : goal.returns
 returns g c =
     let held = c.args.store.now.objects in
     let server = c.args.self.now in
-    IfOk-weaker c.server_candidates.result _ _ (λ found is. among_server held c.stand_at_keys.ensures server ∙ ap (filter (applies_to_server held server)) (sym is)) c.server_candidates.ensures
+    IfOk-weaker c.server_candidates.result _ _ (λ found is. among_server held c.stand_at_keys.ensures server ∙ ap (filter (applies_to_server held server)) (sym is)) c.server_candidates.ensures.objects
