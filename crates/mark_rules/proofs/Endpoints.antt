@@ -38,7 +38,7 @@ module _ {changed : List Mark} {before after : ObjectMap} (leads : Leads changed
           | false ↦ λ e. refl
         ] misses
 
-    slice_stays : (slice : Slice) → meets (pods_of slice) changed ≡ false → slice_rows (row_for config before) port_name slice ≡ slice_rows (row_for config after) port_name slice
+    pub slice_stays : (slice : Slice) → meets (pods_of slice) changed ≡ false → slice_rows (row_for config before) port_name slice ≡ slice_rows (row_for config after) port_name slice
     slice_stays slice misses =
         elim (has_addresses slice.family) as (λ b. meets (cond b (flat_map point_marks slice.points) []) changed ≡ false
         → cond b (flat_map (point_rows (row_for config before) port_name slice.ports) slice.points) []

@@ -76,7 +76,8 @@ fn has_addresses(family: Family) -> bool
     }
 }
 
-fn add_pods(marks: &mut List<Mark>, slice: &Slice) -> Result<(), Memory>
+/// Adds the marks of the Pods that the ready endpoints of a slice target.
+pub fn add_pods(marks: &mut List<Mark>, slice: &Slice) -> Result<(), Memory>
     ensures { OnOk result (marks.new ≡ marks.old ++ pods_of slice.now) }
 {
     if has_addresses(slice.family) {

@@ -1,5 +1,5 @@
 mod ByCmp
-mod Followed
+pub mod Followed
 mod Keys
 mod MarkLists
 mod Tied

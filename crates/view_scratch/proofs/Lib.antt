@@ -1,4 +1,4 @@
-mod Found
+pub mod Found
 mod ProfileSteps
 pub mod Rows
-mod SliceSteps
+pub mod SliceSteps
