@@ -1,5 +1,5 @@
 -- The row at a pair, in lists of rows.
-use Rattle.std.proofs.Common.{◌≡◌, Bool, true, false, cond, ◌||◌, List, [], ◌∷◌, ◌++◌, map, Option, Some, None, refl, sym, ap, ◌∙◌}
+use Rattle.std.proofs.Common.{◌≡◌, Bool, true, false, cond, ◌||◌, List, [], ◌∷◌, ◌++◌, map, Option, Some, None, IfSome, refl, sym, ap, ◌∙◌}
 use Rattle.std.specs.FinMap.{find, from_entries, get, get-entries, get-from_entries, get-from_sorted}
 use Rattle.std.specs.Option.{is_some, option_or}
 use Rattle.mesh_base.specs.Keyed.{keyed, keyed_map}
@@ -16,6 +16,14 @@ use Rattle.endpoint_rows.specs.Kept.{Pair, Rises, has}
 -- what is found at a pair is of the pair
 pub own_row : (rows : List EndpointRow) (q : Pair) (x : EndpointRow) → row_at rows q ≡ Some x → pair_of x ≡ q
 own_row rows q x e = found_own rows q x e
+
+pub own_found : (rows : List EndpointRow) (q : Pair) (found : Option EndpointRow) → found ≡ row_at rows q → IfSome found (λ row. pair_of row ≡ q)
+own_found rows q None e = tt
+own_found rows q (Some x) e = own_row rows q x (sym e)
+
+pub found_is : (q : Pair) (found : Option EndpointRow) → IfSome found (λ row. pair_of row ≡ q) → (x : EndpointRow) → found ≡ Some x → pair_of x ≡ q
+found_is q None own x e = absurd (cc e)
+found_is q (Some y) own x e = let same : y ≡ x = cc e in ap pair_of (sym same) ∙ own
 
 joined_at : (b : Bool) (r : EndpointRow) (x y : Option EndpointRow) → cond b (Some r) (option_or x y) ≡ option_or (cond b (Some r) x) y
 joined_at true r x y = refl

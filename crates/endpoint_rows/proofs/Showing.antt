@@ -1,15 +1,16 @@
 -- What is shown, and what stood there before.
-use Rattle.std.proofs.Common.{◌≡◌, ℕ, zero, suc, ◌<◌, Bool, true, false, cond, ◌&&◌, ◌||◌, get_or, length, take, map, List, [], ◌∷◌, ◌++◌, Option, Some, None, IfSome, inl, inr, refl, sym, ap, subst, ◌∙◌, arith}
+use Rattle.std.proofs.Common.{◌≡◌, ℕ, zero, suc, ◌<◌, Bool, true, false, cond, ◌&&◌, ◌||◌, get_or, length, take, map, List, [], ◌∷◌, ◌++◌, Option, Some, None, IfSome, inl, inr, refl, sym, ap, subst, ◌∙◌, append-nil, append_assoc, arith}
 use lib.Dec.{T}
 use Rattle.std.specs.BTreeMap.{IsOrdered}
 use Rattle.std.specs.Cmp.{eq_by_cmp_equiv, tied_itself}
 use Rattle.std.specs.FinMap.Entries.{below_all}
-use Rattle.std.specs.List.{AllByRecursion, cons_option, filter_map}
+use Rattle.std.specs.List.{All, AllByRecursion, cons_option, filter_map}
 use Rattle.std.specs.List.Sorted.{IsStrictlySortedBy}
 use Rattle.std.specs.Option.{option_to_list}
 use Rattle.std.specs.Ordering.{is_eq, is_lt}
+use Rattle.std.specs.declared.cmp.Ordering.{Ordering}
 use Rattle.std.specs.declared.cmp.Ordering.TheVariants.{Less}
-use Rattle.std.proofs.lemmas.List.Elements.{All-from_recursion}
+use Rattle.std.proofs.lemmas.List.Elements.{All-append, All-from_recursion}
 use Rattle.std.proofs.lemmas.List.Folds.{list_any-append}
 use Rattle.key_lists.specs.Keys.{is_key}
 use Rattle.mesh_base.proofs.Keyed.{rest_apart}
@@ -28,7 +29,7 @@ use Rattle.view_rules.specs.InOrder.{in_order_by}
 use Rattle.view_rules.specs.Same.{same_option, same_row}
 use Rattle.view_types.specs.declared.endpoint.EndpointRow.{EndpointRow}
 use Rattle.view_diff.specs.Earlier.{IsByAddress, Stood, address}
-use Rattle.endpoint_rows.specs.Before.{TellsBefore, note_at, note_of}
+use Rattle.endpoint_rows.specs.Before.{AddsNote, TellsBefore, note_at, note_of}
 use Rattle.row_places.specs.Rows.{row_at}
 use Rattle.endpoint_rows.specs.Kept.{Pair, Replaces, ReplacesAll, Rises, RowsBySlice, Shows, all_rows, has, rows_of}
 use Rattle.endpoint_rows.proofs.KeysAt.{one_key}
@@ -173,17 +174,22 @@ both : (a b : Bool) → T a → T b → T (a && b)
 both true b p q = q
 both false b p q = absurd p
 
-below : (p : Pair) (ps : List Pair) → AllByRecursion (λ q. pair_cmp p q ≡ Less) (map (λ (pair : Pair). pair) ps) → T (below_all pair_cmp p (keyed pair_cmp (λ (pair : Pair). pair) (λ pair. pair) ps))
-below p [] h = tt
-below p (q ∷ qs) h = both _ _ (subst (λ r. T (is_lt r)) (sym h.0) tt) (below p qs h.1)
+-- a list that strictly rises is in the order of its own items
+module _ {K : Type 0} (cmp : K → K → Ordering) where
+  below : (k : K) (ks : List K) → AllByRecursion (λ x. cmp k x ≡ Less) ks → T (below_all cmp k (keyed cmp (λ (x : K). x) (λ x. x) ks))
+  below k [] h = tt
+  below k (x ∷ xs) h = both _ _ (subst (λ r. T (is_lt r)) (sym h.0) tt) (below k xs h.1)
 
-rises : (ps : List Pair) → IsStrictlySortedBy pair_cmp (map (λ (pair : Pair). pair) ps) → AreInOrder ps
-unfolding IsStrictlySortedBy
-rises [] h = tt
-rises (p ∷ ps) h = both _ _ (below p ps h.0) (rises ps h.1)
+  pub sorted_rises : (ks : List K) → IsStrictlySortedBy cmp ks → IsKeyed cmp (λ (x : K). x) (λ x. x) ks
+  unfolding IsStrictlySortedBy
+  sorted_rises [] h = tt
+  sorted_rises (k ∷ ks) h = both _ _ (below k ks h.0) (sorted_rises ks h.1)
+
+pub once_sorted : (ps : List Pair) → IsStrictlySortedBy pair_cmp (once ps)
+once_sorted ps = subst (IsStrictlySortedBy pair_cmp) (map_same (once ps)) (order_rises pairs_total pairs_exact (λ (pair : Pair). pair) ps)
 
 pub once_rises : (ps : List Pair) → AreInOrder (once ps)
-once_rises ps = rises (once ps) (order_rises pairs_total pairs_exact (λ (pair : Pair). pair) ps)
+once_rises ps = sorted_rises pair_cmp (once ps) (once_sorted ps)
 
 pub replaced_as : (touched pairs : List Pair) (all shown old new rows : List EndpointRow) → pairs ≡ once touched → old ≡ shown → rows ≡ new → ReplacesAll pairs all old new → ReplacesAll (once touched) all shown rows
 replaced_as touched pairs all shown old new rows once_is old_is new_is replaced =
@@ -207,7 +213,7 @@ module _ (touched : List Pair) (all shown rows : List EndpointRow) (shows : Show
 -- ---- notes
 
 -- a row that stood somewhere is of that address and port
-abbrev IsOwn : Stood → Type 0
+abbrev pub IsOwn : Stood → Type 0
 IsOwn s = IfSome s.2 (λ row. pair_of row ≡ address s)
 
 module _ (old all : List EndpointRow) where
@@ -286,3 +292,60 @@ module _ (touched : List Pair) (all shown rows : List EndpointRow) (notes : List
         ap (note_at q) are ∙ noted shown all (once touched) q ∙ unnoted q
         ∙ ap (λ (row : Option EndpointRow). cond {A = Option Stood} (same_option same_row (row_at shown q) row) None (Some (q.0, q.1, row_at shown q))) (sym (shown_at touched all shown rows shows replaced q));
   }
+
+-- where nothing differs nothing is noted
+pub nothing_noted : IsByAddress []
+nothing_noted = record { rise = keys_rise pairs_total pairs_exact address [] tt; own = All-from_recursion IsOwn [] tt }
+
+pub untold : (rows : List EndpointRow) → TellsBefore rows rows []
+untold rows = record {
+  ordered = nothing_noted;
+  each = λ q. sym (ap (λ b. cond {A = Option Stood} b None (Some (q.0, q.1, row_at rows q))) (same_itself (row_at rows q)));
+}
+
+-- ---- the order of notes, whatever the slices are
+
+all_less : (P : Pair → Type 0) (xs : List Pair) (p : Pair) (qs : List Pair) → AllByRecursion P (xs ++ p ∷ qs) → AllByRecursion P (xs ++ qs)
+all_less P [] p qs h = h.1
+all_less P (x ∷ xs) p qs h = (h.0, all_less P xs p qs h.1)
+
+sorted_less : (xs : List Pair) (p : Pair) (qs : List Pair) → IsStrictlySortedBy pair_cmp (xs ++ p ∷ qs) → IsStrictlySortedBy pair_cmp (xs ++ qs)
+unfolding IsStrictlySortedBy
+sorted_less [] p qs h = h.1
+sorted_less (x ∷ xs) p qs h = (all_less (λ y. pair_cmp x y ≡ Less) xs p qs h.0, sorted_less xs p qs h.1)
+
+-- before pairs that rise after those of which it was noted, what was noted rises
+abbrev pub NotesRise : List Pair → List Stood → Type 0
+NotesRise pairs notes = (rest : List Pair) → IsStrictlySortedBy pair_cmp (pairs ++ rest) → IsStrictlySortedBy pair_cmp (map address notes ++ rest)
+
+addresses_more : (notes : List Stood) (s : Stood) (rest : List Pair) → map address (notes ++ s ∷ []) ++ rest ≡ map address notes ++ address s ∷ rest
+addresses_more [] s rest = refl
+addresses_more (n ∷ ns) s rest = ap (λ ps. address n ∷ ps) (addresses_more ns s rest)
+
+pub note_rises : (pairs : List Pair) (pair : Pair) (notes new : List Stood) → NotesRise pairs notes → AddsNote pair notes new → NotesRise (pairs ++ pair ∷ []) new
+note_rises pairs pair notes new rise adds rest rises =
+    subst (λ (all : List Stood). IsStrictlySortedBy pair_cmp (map address all ++ rest)) (sym adds.is) (by adds.note adds.own)
+  where
+    all : IsStrictlySortedBy pair_cmp (map address notes ++ pair ∷ rest)
+    all = rise (pair ∷ rest) (subst (IsStrictlySortedBy pair_cmp) (append_assoc pairs (pair ∷ []) rest) rises)
+
+    by : (note : Option Stood) → IfSome note (λ s. (address s ≡ pair) × IfSome s.2 (λ row. pair_of row ≡ pair)) → IsStrictlySortedBy pair_cmp (map address (notes ++ option_to_list note) ++ rest)
+    by None own = subst (λ (all : List Stood). IsStrictlySortedBy pair_cmp (map address all ++ rest)) (sym (append-nil notes)) (sorted_less (map address notes) pair rest all)
+    by (Some s) own = subst (IsStrictlySortedBy pair_cmp) (ap (λ p. map address notes ++ p ∷ rest) (sym own.0) ∙ sym (addresses_more notes s rest)) all
+
+pub note_owns : (pair : Pair) (notes new : List Stood) → All IsOwn notes → AddsNote pair notes new → All IsOwn new
+note_owns pair notes new owns adds = subst (All IsOwn) (sym adds.is) (All-append IsOwn notes (option_to_list adds.note) owns (All-from_recursion IsOwn (option_to_list adds.note) (by adds.note adds.own)))
+  where
+    own_row_at : (s : Stood) (row : Option EndpointRow) → address s ≡ pair → IfSome row (λ r. pair_of r ≡ pair) → IfSome row (λ r. pair_of r ≡ address s)
+    own_row_at s None at own = tt
+    own_row_at s (Some r) at own = own ∙ sym at
+
+    by : (note : Option Stood) → IfSome note (λ s. (address s ≡ pair) × IfSome s.2 (λ row. pair_of row ≡ pair)) → AllByRecursion IsOwn (option_to_list note)
+    by None own = tt
+    by (Some s) own = (own_row_at s s.2 own.0 own.1, tt)
+
+pub notes_by_address : (pairs : List Pair) (notes : List Stood) → IsStrictlySortedBy pair_cmp pairs → NotesRise pairs notes → All IsOwn notes → IsByAddress notes
+notes_by_address pairs notes sorted rise owns = record {
+  rise = subst (IsStrictlySortedBy pair_cmp) (append-nil (map address notes)) (rise [] (subst (IsStrictlySortedBy pair_cmp) (sym (append-nil pairs)) sorted));
+  own = owns;
+}

@@ -1,8 +1,10 @@
 //! The rows of a Service's port.
 ghost use Rattle.std.specs.Prelude.{◌≡◌, [], IfOk, OnOk, if◌then◌else◌};
+ghost use Rattle.std.proofs.Props.{props};
 ghost use Rattle.mesh_base.specs.declared.key.ObjKey.{ObjKey};
 ghost use Rattle.key_lists.specs.Keys.{is_key};
 ghost use Rattle.mesh_base.specs.Keyed.{IsKeyed};
+ghost use Rattle.view_diff.specs.Earlier.{IsByAddress};
 ghost use Rattle.view_rules.specs.Endpoints.{first_rows, pair_cmp, pair_of};
 
 use crate::pairs::{add_pairs, in_order};
@@ -28,6 +30,7 @@ pub struct EndpointRows {
     pub(crate) notes: List<(Ip, u16, Option<EndpointRow>)>,
     alloc: Global,
     ghost rise: { IsKeyed pair_cmp pair_of (λ row. row) view.rows },
+    ghost by_address: { IsByAddress notes } by { Prim.hlevel props },
 }
 
 impl EndpointRows {
@@ -119,7 +122,8 @@ impl EndpointRows {
     /// The addresses and ports whose rows differ since the view was brought up the time before,
     /// each with the row that stood there.
     pub fn before(&self) -> &[(Ip, u16, Option<EndpointRow>)]
-        ensures { result.now ≡ self.now.notes }
+        ensures value { result.now ≡ self.now.notes }
+        ensures by_address { IsByAddress result.now }
     {
         self.notes.as_slice()
     }

@@ -1,12 +1,14 @@
 //! What is shown, brought up to what slices give.
 ghost use Rattle.std.specs.Prelude.{◌≡◌, ◌++◌, IfOk, OnOk, None, Some, filter_map};
+ghost use Rattle.std.specs.List.Sorted.{IsStrictlySortedBy};
 ghost use Rattle.std.specs.Option.{option_copied, option_to_list};
 ghost use Rattle.mesh_base.specs.Keyed.{IsKeyed};
 ghost use Rattle.row_places.specs.Rows.{row_at};
 ghost use Rattle.view_rules.specs.Endpoints.{pair_cmp, pair_of};
 ghost use Rattle.view_rules.specs.Same.{same_option, same_row};
 ghost use Rattle.view_types.specs.declared.endpoint.EndpointRow.{EndpointRow};
-ghost use Rattle.endpoint_rows.specs.Before.{note_of};
+ghost use Rattle.view_diff.specs.Earlier.{IsByAddress};
+ghost use Rattle.endpoint_rows.specs.Before.{AddsNote, note_of};
 ghost use Rattle.endpoint_rows.specs.Kept.{Agree, Replaces, ReplacesAll, Rises, all_rows};
 
 use crate::row_list::RowList;
@@ -33,6 +35,7 @@ pub(crate) fn settle_all(
         → IsKeyed pair_cmp (λ pair. pair) (λ pair. pair) pairs.now
         → IfOk result (λ notes. notes
         ≡ filter_map (note_of rows.old (all_rows slices.now.by_slice)) pairs.now) }
+    ensures by_address { IsStrictlySortedBy pair_cmp pairs.now → IfOk result IsByAddress }
 {
     let mut notes = List::new(slices.alloc);
     for pair in pairs {
@@ -53,6 +56,7 @@ fn settle_one(
     ensures notes { Agree slices.now
         → OnOk result (notes.new ≡ notes.old
         ++ option_to_list (note_of rows.old (all_rows slices.now.by_slice) pair)) }
+    ensures adds { OnOk result (AddsNote pair notes.old notes.new) }
 {
     let now = slices.first(&pair);
     if is_same(rows.at(&pair), now) {

@@ -1,5 +1,5 @@
 //! The rows of slices by their keys, and the slices by the addresses and ports that they give.
-ghost use Rattle.std.specs.Prelude.{◌≡◌, [], OnOk, if◌then◌else◌};
+ghost use Rattle.std.specs.Prelude.{◌≡◌, [], IfSome, OnOk, if◌then◌else◌};
 ghost use Rattle.std.specs.Option.{option_copied};
 ghost use Rattle.std.specs.BTreeMap.{IsOrdered};
 ghost use Rattle.mesh_base.specs.KeyOrder.{key_cmp};
@@ -7,6 +7,7 @@ ghost use Rattle.mesh_base.specs.declared.key.ObjKey.{ObjKey};
 ghost use Rattle.key_lists.specs.Keys.{is_key};
 ghost use Rattle.endpoint_rows.specs.Kept.{Agree, all_rows, rows_of};
 ghost use Rattle.row_places.specs.Rows.{row_at};
+ghost use Rattle.view_rules.specs.Endpoints.{pair_of};
 
 use crate::pairs::{keys_at, put_keys, take_keys};
 use crate::row_list::RowList;
@@ -43,8 +44,9 @@ impl Slices {
 
     /// The first row at an address and port, in the order of the slices' keys.
     pub(crate) fn first(&self, pair: &(Ip, u16)) -> Option<&EndpointRow>
-        ensures { Agree self.now
+        ensures value { Agree self.now
             → option_copied result ≡ row_at (all_rows self.now.by_slice) pair.now }
+        ensures own { IfSome (option_copied result) (λ row. pair_of row ≡ pair.now) }
     {
         match keys_at(&self.by_pair, pair).first() {
             Some(key) => row_of(&self.by_slice, key, pair),
@@ -83,7 +85,8 @@ fn row_of<'a>(
     key: &ObjKey,
     pair: &(Ip, u16),
 ) -> Option<&'a EndpointRow>
-    ensures { option_copied result ≡ row_at (rows_of by_slice.now key.now) pair.now }
+    ensures value { option_copied result ≡ row_at (rows_of by_slice.now key.now) pair.now }
+    ensures own { IfSome (option_copied result) (λ row. pair_of row ≡ pair.now) }
 {
     match by_slice.get(key) {
         Some(rows) => rows.at(pair),

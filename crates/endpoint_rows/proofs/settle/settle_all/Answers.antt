@@ -4,7 +4,7 @@ use Rattle.std.proofs.lemmas.List.{take_all, take_more}
 use Rattle.net_cidr.specs.declared.ip.Ip.TheVariants.{V4}
 use Rattle.endpoint_rows.specs.Before.{note_of}
 use Rattle.endpoint_rows.specs.Kept.{ReplacesAll, all_rows}
-use Rattle.endpoint_rows.proofs.Showing.{not_yet, notes_more, replaced_more}
+use Rattle.endpoint_rows.proofs.Showing.{NotesRise, not_yet, note_owns, note_rises, notes_by_address, notes_more, replaced_more}
 use Rattle.endpoint_rows.proofs.settle.settle_all.Goals as goal
 
 pub loop-pair-preserved : goal.loop-pair-preserved
@@ -24,6 +24,8 @@ loop-pair-preserved c =
           notes_more done pair all start c.loop-pair.rows c.loop-pair.notes c.settle_one.new.notes so_far (not_yet c.args.pairs.now rises c.loop-pair.pair-index (V4 0, 0) c.loop-pair-test.true)
           (c.loop-pair.invariant.notes agree h rises) (c.in_ok-settle_one.ensures.notes agree)
           ∙ ap (filter_map (note_of start all)) (sym more);
+      rises = subst (λ pairs. NotesRise pairs c.settle_one.new.notes) (sym more) (note_rises done pair c.loop-pair.notes c.settle_one.new.notes c.loop-pair.invariant.rises c.in_ok-settle_one.ensures.adds);
+      owns = note_owns pair c.loop-pair.notes c.settle_one.new.notes c.loop-pair.invariant.owns c.in_ok-settle_one.ensures.adds;
     }
 
 pub returns-clause-rows : goal.returns-clause-rows
@@ -31,3 +33,8 @@ returns-clause-rows c = λ agree h. subst (λ pairs. ReplacesAll pairs (all_rows
 
 pub returns-clause-notes : goal.returns-clause-notes
 returns-clause-notes c = λ agree h rises. c.loop-pair.invariant.notes agree h rises ∙ ap (filter_map (note_of c.args.rows.now (all_rows c.args.slices.now.by_slice))) (take_all _ c.args.pairs.now (search rules))
+
+pub returns-clause-by_address : goal.returns-clause-by_address
+returns-clause-by_address c = λ sorted.
+    notes_by_address c.args.pairs.now c.loop-pair.notes sorted
+    (subst (λ pairs. NotesRise pairs c.loop-pair.notes) (take_all _ c.args.pairs.now (search rules)) c.loop-pair.invariant.rises) c.loop-pair.invariant.owns

@@ -1,11 +1,19 @@
 use Rattle.std.proofs.Common.{◌≡◌, List, sym, ap, subst, ◌∙◌}
 use Rattle.std.specs.List.{filter_map}
+use Rattle.std.specs.List.Sorted.{IsStrictlySortedBy}
+use Rattle.view_rules.specs.Endpoints.{pair_cmp}
 use Rattle.view_types.specs.declared.endpoint.EndpointRow.{EndpointRow}
 use Rattle.view_types.specs.declared.endpoint.EndpointView.{EndpointView}
 use Rattle.endpoint_rows.specs.Before.{note_of}
 use Rattle.endpoint_rows.specs.Kept.{ReplacesAll, Rises, Shows, all_rows}
-use Rattle.endpoint_rows.proofs.Showing.{AreInOrder, all_shown, once, once_rises, replaced_as, settled_shows, tells}
+use Rattle.endpoint_rows.proofs.Showing.{AreInOrder, all_shown, once, once_rises, once_sorted, replaced_as, settled_shows, tells}
 use Rattle.endpoint_rows.proofs.rows.EndpointRows.settle.Goals as goal
+
+pub invariant_of-self-2-clause-by_address : goal.invariant_of-self-2-clause-by_address
+invariant_of-self-2-clause-by_address c =
+    let s = c.args.self.now in
+    let once_is : c.as_slice.result.now ≡ once s.touched = c.as_slice.ensures ∙ c.in_ok-touched.ensures ∙ ap once c.replace-touched.ensures.value in
+    c.in_ok-self.ensures.by_address (subst (IsStrictlySortedBy pair_cmp) (sym once_is) (once_sorted s.touched))
 
 pub returns-clause-keeps : goal.returns-clause-keeps
 returns-clause-keeps c = λ keeps.
