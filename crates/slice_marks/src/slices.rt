@@ -43,6 +43,16 @@ impl SliceMarks {
         keys_at(&self.by_mark, mark)
     }
 
+    /// The marks that a slice reads.
+    pub fn of(&self, key: &ObjKey) -> &[Mark]
+        ensures { result.now ≡ marks_at self.now.by_slice key.now }
+    {
+        match self.by_slice.get(key) {
+            Some(marks) => marks.as_slice(),
+            None => &[],
+        }
+    }
+
     /// Lets the slice read these marks, and no others.
     pub fn put(&mut self, key: ObjKey, marks: List<Mark>) -> Result<(), Memory>
         ensures agree { Agree self.old → OnOk result (Agree self.new) }
