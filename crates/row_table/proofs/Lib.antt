@@ -1,6 +1,6 @@
 mod ByCmp
 pub mod Followed
 mod Keys
-mod MarkLists
+pub mod MarkLists
 mod Tied
 mod Users
