@@ -1,0 +1,3 @@
+pub mod Filling
+pub mod Standing
+pub mod Told

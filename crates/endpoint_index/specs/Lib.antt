@@ -1,0 +1,5 @@
+pub mod EndpointKeys
+pub mod Given
+pub mod Standing
+pub mod Still
+pub mod Told

@@ -1,0 +1,101 @@
+// How the endpoints of ports are found and kept.
+ghost use Rattle.std.specs.Prelude.{◌≡◌};
+ghost use Rattle.mark_rules.specs.Reads.{endpoint_reads};
+ghost use Rattle.mark_rules.specs.Rows.{endpoint_row};
+ghost use Rattle.endpoint_index.specs.EndpointKeys.{endpoint_keys_exact};
+ghost use Rattle.endpoint_index.specs.Still.{stands_still};
+ghost use Rattle.endpoint_index.specs.Standing.{Stands, Tells};
+
+use crate::kept::{KeptEndpoints, find, find_again};
+use mark_rules::keys::EndpointKey;
+use mesh_base::memory::Memory;
+use mesh_base::steps::Steps;
+use object_store::store::Store;
+use policy_rows::snapshot::Snapshot;
+use row_table::row_rule::{MarksAfter, RowRule, StoreChange};
+use std::alloc::Global;
+use view_types::config::Config;
+use view_types::endpoint::EndpointView;
+use view_types::mark::Mark;
+
+/// Finds the endpoints of ports under a configuration.
+#[derive(Drop)]
+pub struct EndpointRule {
+    pub config: Config,
+}
+
+impl RowRule for EndpointRule {
+    type Key = EndpointKey;
+
+    type Row = EndpointView;
+
+    type Kept = KeptEndpoints;
+
+    type Notes = ();
+
+    ghost filter = { λ rule. record {
+      row_of = endpoint_row rule.config;
+      reads = endpoint_reads;
+    } };
+
+    ghost keeps = { λ rule. Stands rule.config };
+
+    ghost row_in = { λ kept. kept.rows.view };
+
+    ghost marks_in = { λ kept. kept.marks };
+
+    ghost notes_hold = { λ rule held change notes. Unit {0} };
+
+    ghost tells = { Tells };
+
+    fn find<L>(
+        &self,
+        alloc: Global,
+        store: &Store,
+        key: &EndpointKey,
+        steps: &mut Steps<L>,
+    ) -> Result<KeptEndpoints, Memory> {
+        let from = Snapshot {
+            alloc,
+            config: &self.config,
+            store,
+        };
+        find(&from, key, steps)
+    }
+
+    fn no_notes(&self, _alloc: Global) {}
+
+    fn follow<L>(
+        &self,
+        after: &StoreChange,
+        key: &EndpointKey,
+        kept: &mut KeptEndpoints,
+        _notes: &mut (),
+        steps: &mut Steps<L>,
+    ) -> Result<MarksAfter, Memory> {
+        let from = Snapshot {
+            alloc: after.alloc,
+            config: &self.config,
+            store: after.store,
+        };
+        find_again(&from, key, kept, steps)?;
+        Ok(MarksAfter::Other)
+    }
+
+    fn row(kept: &KeptEndpoints) -> &EndpointView {
+        kept.rows.view()
+    }
+
+    fn marks(kept: &KeptEndpoints) -> &[Mark] {
+        kept.marks.as_slice()
+    }
+
+    ghost shows = { λ rule held key kept stands. record {
+      is_filter = stands.view;
+      are_read = stands.marks;
+    } };
+
+    ghost stays = { λ rule. stands_still rule.config };
+
+    ghost exact = { endpoint_keys_exact };
+}
