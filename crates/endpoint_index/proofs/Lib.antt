@@ -1,3 +1,6 @@
+pub mod Alike
 pub mod Filling
+pub mod SliceSums
 pub mod Standing
 pub mod Told
+pub mod Untouched

@@ -17,7 +17,7 @@ rows_shown (Some view) = view.rows
 
 abbrev pub notes_in : Option KeptEndpoints → List Stood
 notes_in None = []
-notes_in (Some kept) = kept.rows.notes
+notes_in (Some kept) = kept.slices.rows.notes
 
 -- the notes of a key that the last change touched, and none of any other
 abbrev pub notes_at : EndpointIndex → EndpointKey → List Stood

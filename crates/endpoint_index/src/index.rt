@@ -125,7 +125,7 @@ fn notes_of(kept: Option<&KeptEndpoints>) -> &[(Ip, u16, Option<EndpointRow>)]
     ensures by_address { IsByAddress result.now }
 {
     match kept {
-        Some(kept) => kept.rows.before(),
+        Some(kept) => kept.slices.rows.before(),
         None => &[],
     }
 }

@@ -1,41 +1,45 @@
 // What is kept of the endpoints of a port.
-ghost use Rattle.std.specs.Prelude.{◌≡◌, ◌≤◌, ◌+◌, ◌++◌, ◌∷◌, [], false, IfOk, OnOk, flat_map, if◌then◌else◌, is_some, option_to_list};
-ghost use Rattle.std.specs.FinMap.{get};
+ghost use Rattle.std.specs.Prelude.{◌≡◌, ◌≤◌, ◌+◌, ◌++◌, [], ◌∷◌, true, false, IfOk, OnOk};
+ghost use Rattle.std.specs.List.{flat_map};
 ghost use Rattle.std.specs.Option.{option_copied};
-ghost use Rattle.key_lists.specs.Keys.{is_key};
-ghost use Rattle.mesh_base.specs.declared.key.ObjKey.{ObjKey};
+ghost use Rattle.mesh_base.specs.declared.key.ObjKey.{ObjKey as TheKey};
+ghost use Rattle.view_types.specs.Objects.{ObjectMap};
 ghost use Rattle.view_types.specs.declared.mark.Mark.TheVariants.{Obj, SlicesOf};
-ghost use Rattle.view_rules.specs.Endpoints.{first_rows, rows_from, service_key, slices_held};
-ghost use Rattle.view_rules.specs.PodRows.{row_for};
+ghost use Rattle.view_rules.specs.Endpoints.{service_key, slices_held};
+ghost use Rattle.mark_rules.specs.Changes.{Leads};
 ghost use Rattle.mark_rules.specs.Reads.{cost, endpoint_reads, pods_of};
-ghost use Rattle.endpoint_rows.specs.Before.{TellsBefore};
-ghost use Rattle.endpoint_rows.specs.Kept.{Keeps, rows_of};
-ghost use Rattle.endpoint_index.specs.Given.{given_at, rows_named, slice_at};
+ghost use Rattle.endpoint_rows.specs.Kept.{Keeps};
+ghost use Rattle.row_table.specs.declared.row_rule.MarksAfter.TheVariants.{Same, Other};
+ghost use Rattle.slice_marks.specs.Marked.{marks_at};
+ghost use Rattle.endpoint_index.specs.Given.{IsPort, pods_at};
+ghost use Rattle.endpoint_index.specs.Slices.{AreEmpty};
 ghost use Rattle.endpoint_index.specs.Standing.{Stands, Tells};
 
-use crate::service_port::port_of;
-use endpoint_rows::laws::slices_make_the_service;
-use endpoint_rows::rows::EndpointRows;
+use crate::service_port::{PortSource, ServicePort, port_of};
+use crate::slices::{KeptSlices, bring_up};
+use crate::touched::touched_slices;
 use mark_rules::keys::EndpointKey;
 use mark_rules::laws::{keys_by_mark, rows_by_marks};
 use mesh_base::copied::Copied;
 use mesh_base::key::{Kind, ObjKey};
 use mesh_base::list::List;
 use mesh_base::memory::Memory;
+use mesh_base::same::Same;
 use mesh_base::steps::Steps;
 use mesh_base::text::Text;
 use policy_rows::snapshot::Snapshot;
-use row_reads::references::{add_key, add_pods};
+use row_reads::references::add_key;
+use row_table::row_rule::MarksAfter;
+use slice_marks::slices::SliceMarks;
 use std::alloc::Global;
-use view_scratch::collect::{add_slice, slice_at};
-use view_types::endpoint::EndpointRow;
 use view_types::mark::Mark;
-use view_types::slice::Slice;
 
 /// The endpoints of a port, by the slices that give them, and the marks that they read.
 #[derive(Drop)]
 pub struct KeptEndpoints {
-    pub(crate) rows: EndpointRows,
+    pub(crate) slices: KeptSlices,
+    /// The name of the port, where the Service has it.
+    pub(crate) name: Option<Text>,
     pub(crate) marks: List<Mark>,
 }
 
@@ -53,63 +57,197 @@ pub(crate) fn find<L>(
 {
     let port = port_of(from.store, key, steps);
     let mut kept = KeptEndpoints {
-        rows: EndpointRows::new(from.alloc, port.exists),
+        slices: KeptSlices::new(from.alloc, port.exists),
+        name: None,
         marks: List::new(from.alloc),
     };
-    fill(from, key, port.name, &mut kept, steps)?;
+    fill(&PortSource { from, key, port }, &mut kept, steps)?;
     Ok(kept)
 }
 
-/// Finds the endpoints of a port again, and notes what stood where they differ.
-pub(crate) fn find_again<L>(
+/// Brings the endpoints of a port up to a change with these marks, and notes what stood where they
+/// differ. Slices that the change doesn't touch stay, unless the Service says something else of the
+/// port, or the change has more marks than the endpoints read.
+pub(crate) fn follow<L>(
     from: &Snapshot,
     key: &EndpointKey,
+    changed: &[Mark],
     kept: &mut KeptEndpoints,
     steps: &mut Steps<L>,
-) -> Result<(), Memory>
+) -> Result<MarksAfter, Memory>
     requires { from.now.store.now.spent ≡ false }
-    ensures stands { Keeps kept.old.rows → OnOk result
-        (Stands from.now.config.now from.now.store.now.objects key.now kept.new) }
-    ensures tells { Keeps kept.old.rows → OnOk result (Tells kept.old kept.new) }
+    ensures stands { OnOk result ((held : ObjectMap)
+        → Stands from.now.config.now held key.now kept.old
+        → Leads changed.now held from.now.store.now.objects
+        → Stands from.now.config.now from.now.store.now.objects key.now kept.new) }
+    ensures tells { Keeps kept.old.slices.rows → OnOk result (Tells kept.old kept.new) }
+    ensures marks { IfOk result (λ marks. marks ≡ Same → kept.new.marks ≡ kept.old.marks) }
     ensures steps { steps.new ≤ steps.old + cost from.now.store.now.objects
         (endpoint_reads from.now.store.now.objects key.now) }
 {
     let port = port_of(from.store, key, steps);
-    kept.rows.restart(port.exists)?;
-    kept.marks = List::new(from.alloc);
-    fill(from, key, port.name, kept, steps)
+    let source = PortSource { from, key, port };
+    if changed.len() <= kept.marks.len() && has_port(kept, &port) {
+        return follow_in_place(&source, changed, kept, steps);
+    }
+    find_again(&source, kept, steps)?;
+    Ok(MarksAfter::Other)
 }
 
-/// Finds the endpoints of a port whose rows and marks are empty.
-fn fill<L>(
-    from: &Snapshot,
-    key: &EndpointKey,
-    name: Option<&Text>,
+/// Whether the endpoints are those of the port as the Service says it.
+fn has_port(kept: &KeptEndpoints, port: &ServicePort) -> bool
+    ensures { result ≡ true → (kept.now.slices.rows.view.exists ≡ port.now.exists)
+        × (kept.now.name ≡ option_copied port.now.name) }
+{
+    kept.slices.rows.view().exists == port.exists && is_name(&kept.name, port.name)
+}
+
+fn is_name(kept: &Option<Text>, name: Option<&Text>) -> bool
+    ensures { result ≡ true → kept.now ≡ option_copied name.entry }
+{
+    match (kept, name) {
+        (Some(kept), Some(name)) => kept.is_same(name),
+        (None, None) => true,
+        _ => false,
+    }
+}
+
+/// Brings the endpoints up to a change that leaves the port as it was.
+fn follow_in_place<L>(
+    source: &PortSource,
+    changed: &[Mark],
+    kept: &mut KeptEndpoints,
+    steps: &mut Steps<L>,
+) -> Result<MarksAfter, Memory>
+    requires going { source.now.from.now.store.now.spent ≡ false }
+    requires port { IsPort source.now.from.now.store.now.objects source.now.key.now
+        source.now.port.exists (option_copied source.now.port.name) }
+    requires exists { kept.old.slices.rows.view.exists ≡ source.now.port.exists }
+    requires name { kept.old.name ≡ option_copied source.now.port.name }
+    ensures stands { OnOk result ((held : ObjectMap)
+        → Stands source.now.from.now.config.now held source.now.key.now kept.old
+        → Leads changed.now held source.now.from.now.store.now.objects
+        → Stands source.now.from.now.config.now source.now.from.now.store.now.objects
+        source.now.key.now kept.new) }
+    ensures tells { Keeps kept.old.slices.rows → OnOk result (Tells kept.old kept.new) }
+    ensures marks { IfOk result (λ marks. marks ≡ Same → kept.new.marks ≡ kept.old.marks) }
+    ensures steps { steps.new ≤ steps.old + cost source.now.from.now.store.now.objects
+        (SlicesOf source.now.key.now.ns source.now.key.now.name
+        ∷ flat_map pods_of (slices_held source.now.from.now.store.now.objects
+        source.now.key.now.ns source.now.key.now.name)) }
+{
+    keys_by_mark();
+    rows_by_marks();
+    source.from.store.stand_at_keys();
+    let touched = touched_slices(source.from.alloc, &kept.slices.read, changed)?;
+    let marks = bring_up(source, touched.as_slice(), &mut kept.slices, steps)?;
+    renew(source, marks, kept)?;
+    Ok(marks)
+}
+
+/// Makes the marks anew, where the slices name other Pods than before.
+fn renew(source: &PortSource, after: MarksAfter, kept: &mut KeptEndpoints) -> Result<(), Memory>
+    requires { source.now.from.now.store.now.spent ≡ false }
+    ensures slices { kept.new.slices ≡ kept.old.slices }
+    ensures name { kept.new.name ≡ kept.old.name }
+    ensures same { after ≡ Same → kept.new.marks ≡ kept.old.marks }
+    ensures other { after ≡ Other → ((k : TheKey) → marks_at kept.old.slices.read.by_slice k
+        ≡ pods_at source.now.from.now.store.now.objects source.now.key.now k)
+        → OnOk result (kept.new.marks
+        ≡ endpoint_reads source.now.from.now.store.now.objects source.now.key.now) }
+{
+    match after {
+        MarksAfter::Same => Ok(()),
+        MarksAfter::Other => {
+            kept.marks = reads_of(source, &kept.slices.read)?;
+            Ok(())
+        }
+    }
+}
+
+/// Finds the endpoints again, and notes what stood where they differ.
+fn find_again<L>(
+    source: &PortSource,
     kept: &mut KeptEndpoints,
     steps: &mut Steps<L>,
 ) -> Result<(), Memory>
-    requires { from.now.store.now.spent ≡ false }
-    ensures keeps { Keeps kept.old.rows → OnOk result (Keeps kept.new.rows) }
-    ensures view { Keeps kept.old.rows
-        → ((k : ObjKey) → rows_of kept.old.rows.slices.by_slice k ≡ [])
-        → OnOk result (kept.new.rows.view ≡ record {
-          exists = kept.old.rows.view.exists;
-          rows = rows_from (row_for from.now.config.now from.now.store.now.objects)
-              (slices_held from.now.store.now.objects key.now.ns key.now.name)
-              (option_copied name.entry);
-        }) }
-    ensures notes { Keeps kept.old.rows → OnOk result
-        (TellsBefore kept.old.rows.view.rows kept.new.rows.view.rows kept.new.rows.notes) }
-    ensures marks { OnOk result (kept.new.marks ≡ kept.old.marks
-        ++ endpoint_reads from.now.store.now.objects key.now) }
-    ensures steps { steps.new ≤ steps.old + cost from.now.store.now.objects
-        (SlicesOf key.now.ns key.now.name ∷ flat_map pods_of
-        (slices_held from.now.store.now.objects key.now.ns key.now.name)) }
+    requires going { source.now.from.now.store.now.spent ≡ false }
+    requires port { IsPort source.now.from.now.store.now.objects source.now.key.now
+        source.now.port.exists (option_copied source.now.port.name) }
+    ensures stands { Keeps kept.old.slices.rows → OnOk result
+        (Stands source.now.from.now.config.now source.now.from.now.store.now.objects
+        source.now.key.now kept.new) }
+    ensures tells { Keeps kept.old.slices.rows → OnOk result (Tells kept.old kept.new) }
+    ensures steps { steps.new ≤ steps.old + cost source.now.from.now.store.now.objects
+        (SlicesOf source.now.key.now.ns source.now.key.now.name
+        ∷ flat_map pods_of (slices_held source.now.from.now.store.now.objects
+        source.now.key.now.ns source.now.key.now.name)) }
 {
-    slices_make_the_service();
-    add_own(&mut kept.marks, key)?;
-    put_slices(from, key, name, kept, steps)?;
-    kept.rows.settle()
+    kept.slices.restart(source.from.alloc, source.port.exists)?;
+    fill(source, kept, steps)
+}
+
+/// Finds the endpoints of a port of which no slice is kept.
+fn fill<L>(
+    source: &PortSource,
+    kept: &mut KeptEndpoints,
+    steps: &mut Steps<L>,
+) -> Result<(), Memory>
+    requires going { source.now.from.now.store.now.spent ≡ false }
+    requires port { IsPort source.now.from.now.store.now.objects source.now.key.now
+        source.now.port.exists (option_copied source.now.port.name) }
+    ensures stands { AreEmpty kept.old.slices
+        → kept.old.slices.rows.view.exists ≡ source.now.port.exists → OnOk result
+        (Stands source.now.from.now.config.now source.now.from.now.store.now.objects
+        source.now.key.now kept.new) }
+    ensures tells { AreEmpty kept.old.slices → OnOk result (Tells kept.old kept.new) }
+    ensures steps { steps.new ≤ steps.old + cost source.now.from.now.store.now.objects
+        (SlicesOf source.now.key.now.ns source.now.key.now.name
+        ∷ flat_map pods_of (slices_held source.now.from.now.store.now.objects
+        source.now.key.now.ns source.now.key.now.name)) }
+{
+    keys_by_mark();
+    rows_by_marks();
+    source.from.store.stand_at_keys();
+    let slices = source
+        .from
+        .store
+        .slices_of(&source.key.ns, &source.key.name);
+    bring_up(source, slices, &mut kept.slices, steps)?;
+    kept.name = copied(source.port.name)?;
+    kept.marks = reads_of(source, &kept.slices.read)?;
+    Ok(())
+}
+
+fn copied(name: Option<&Text>) -> Result<Option<Text>, Memory>
+    ensures { IfOk result (λ copy. copy ≡ option_copied name.entry) }
+{
+    match name {
+        Some(name) => Ok(Some(name.copy()?)),
+        None => Ok(None),
+    }
+}
+
+/// The marks that a port's row reads: those of the Service and of its slices, and of the Pods that the
+/// slices name.
+fn reads_of(source: &PortSource, read: &SliceMarks) -> Result<List<Mark>, Memory>
+    requires { source.now.from.now.store.now.spent ≡ false }
+    ensures { ((k : TheKey) → marks_at read.now.by_slice k
+        ≡ pods_at source.now.from.now.store.now.objects source.now.key.now k)
+        → IfOk result (λ marks. marks
+        ≡ endpoint_reads source.now.from.now.store.now.objects source.now.key.now) }
+{
+    keys_by_mark();
+    rows_by_marks();
+    source.from.store.stand_at_keys();
+    let mut marks = List::new(source.from.alloc);
+    add_own(&mut marks, source.key)?;
+    let slices = source
+        .from
+        .store
+        .slices_of(&source.key.ns, &source.key.name);
+    add_each(source.from.alloc, &mut marks, read, slices)?;
+    Ok(marks)
 }
 
 /// Adds the mark of the Service, and that of its slices.
@@ -121,91 +259,27 @@ fn add_own(marks: &mut List<Mark>, key: &EndpointKey) -> Result<(), Memory>
     marks.add(Mark::SlicesOf(key.ns.copy()?, key.name.copy()?))
 }
 
-/// Puts the rows of each slice of the Service, and adds the marks that they read.
-fn put_slices<L>(
-    from: &Snapshot,
-    key: &EndpointKey,
-    name: Option<&Text>,
-    kept: &mut KeptEndpoints,
-    steps: &mut Steps<L>,
+/// Adds the marks of the Pods of each slice.
+fn add_each(
+    alloc: Global,
+    marks: &mut List<Mark>,
+    read: &SliceMarks,
+    slices: &[ObjKey],
 ) -> Result<(), Memory>
-    requires { from.now.store.now.spent ≡ false }
-    ensures keeps { Keeps kept.old.rows → OnOk result (Keeps kept.new.rows) }
-    ensures put { ((k : ObjKey) → rows_of kept.old.rows.slices.by_slice k ≡ [])
-        → OnOk result ((k : ObjKey) → rows_of kept.new.rows.slices.by_slice k
-        ≡ first_rows (given_at from.now.config.now from.now.store.now.objects key.now
-        (option_copied name.entry) k)) }
-    ensures view { OnOk result (kept.new.rows.view ≡ kept.old.rows.view) }
-    ensures marks { OnOk result (kept.new.marks ≡ kept.old.marks ++ flat_map pods_of
-        (slices_held from.now.store.now.objects key.now.ns key.now.name)) }
-    ensures steps { steps.new ≤ steps.old + cost from.now.store.now.objects
-        (SlicesOf key.now.ns key.now.name ∷ flat_map pods_of
-        (slices_held from.now.store.now.objects key.now.ns key.now.name)) }
+    ensures { OnOk result (marks.new
+        ≡ marks.old ++ flat_map (marks_at read.now.by_slice) slices.now) }
 {
-    keys_by_mark();
-    rows_by_marks();
-    from.store.stand_at_keys();
-    let keys = from.store.slices_of(&key.ns, &key.name);
-    for at in keys {
-        put_slice(from, key, name, at, kept, steps)?;
+    for at in slices {
+        add_all(alloc, marks, read.of(at))?;
     }
     Ok(())
 }
 
-/// Puts the rows of the slice at a key, and adds the marks that they read.
-fn put_slice<L>(
-    from: &Snapshot,
-    key: &EndpointKey,
-    name: Option<&Text>,
-    at: &ObjKey,
-    kept: &mut KeptEndpoints,
-    steps: &mut Steps<L>,
-) -> Result<(), Memory>
-    ensures keeps { Keeps kept.old.rows → OnOk result (Keeps kept.new.rows) }
-    ensures put { OnOk result ((k : ObjKey) → rows_of kept.new.rows.slices.by_slice k
-        ≡ (if is_key k at.now then first_rows (given_at from.now.config.now
-        from.now.store.now.objects key.now (option_copied name.entry) at.now)
-        else rows_of kept.old.rows.slices.by_slice k)) }
-    ensures view { OnOk result (kept.new.rows.view ≡ kept.old.rows.view) }
-    ensures marks { OnOk result (kept.new.marks ≡ kept.old.marks ++ flat_map pods_of
-        (option_to_list (slice_at from.now.store.now.objects key.now at.now))) }
-    ensures steps { steps.new ≤ steps.old
-        + ((if is_some (get from.now.store.now.objects at.now) then 1 else 0)
-        + cost from.now.store.now.objects (flat_map pods_of
-        (option_to_list (slice_at from.now.store.now.objects key.now at.now)))) }
+fn add_all(alloc: Global, marks: &mut List<Mark>, others: &[Mark]) -> Result<(), Memory>
+    ensures { OnOk result (marks.new ≡ marks.old ++ others.now) }
 {
-    let slice = slice_at(from.store, at, &key.ns, &key.name, steps);
-    add_marks(&mut kept.marks, slice)?;
-    let rows = rows_of_slice(from, slice, name, steps)?;
-    kept.rows.put_slice(at.copy(from.alloc)?, rows)
-}
-
-fn add_marks(marks: &mut List<Mark>, slice: Option<&Slice>) -> Result<(), Memory>
-    ensures { OnOk result (marks.new ≡ marks.old
-        ++ flat_map pods_of (option_to_list (option_copied slice.entry))) }
-{
-    match slice {
-        Some(slice) => add_pods(marks, slice),
-        None => Ok(()),
+    for mark in others {
+        marks.add(mark.copy(alloc)?)?;
     }
-}
-
-/// The rows that a slice gives at ports of the name.
-fn rows_of_slice<L>(
-    from: &Snapshot,
-    slice: Option<&Slice>,
-    name: Option<&Text>,
-    steps: &mut Steps<L>,
-) -> Result<List<EndpointRow>, Memory>
-    ensures value { IfOk result (λ rows. rows
-        ≡ rows_named (row_for from.now.config.now from.now.store.now.objects)
-        (option_copied name.entry) (option_copied slice.entry)) }
-    ensures steps { steps.new ≤ steps.old + cost from.now.store.now.objects
-        (flat_map pods_of (option_to_list (option_copied slice.entry))) }
-{
-    let mut rows = List::new(from.alloc);
-    if let (Some(slice), Some(name)) = (slice, name) {
-        add_slice(from, &mut rows, slice, name, steps)?;
-    }
-    Ok(rows)
+    Ok(())
 }

@@ -3,10 +3,10 @@ ghost use Rattle.std.specs.Prelude.{◌≡◌};
 ghost use Rattle.mark_rules.specs.Reads.{endpoint_reads};
 ghost use Rattle.mark_rules.specs.Rows.{endpoint_row};
 ghost use Rattle.endpoint_index.specs.EndpointKeys.{endpoint_keys_exact};
-ghost use Rattle.endpoint_index.specs.Still.{stands_still};
+ghost use Rattle.endpoint_index.specs.Still.{stands_show, stands_still};
 ghost use Rattle.endpoint_index.specs.Standing.{Stands, Tells};
 
-use crate::kept::{KeptEndpoints, find, find_again};
+use crate::kept::{KeptEndpoints, find, follow};
 use mark_rules::keys::EndpointKey;
 use mesh_base::memory::Memory;
 use mesh_base::steps::Steps;
@@ -40,7 +40,7 @@ impl RowRule for EndpointRule {
 
     ghost keeps = { λ rule. Stands rule.config };
 
-    ghost row_in = { λ kept. kept.rows.view };
+    ghost row_in = { λ kept. kept.slices.rows.view };
 
     ghost marks_in = { λ kept. kept.marks };
 
@@ -78,22 +78,18 @@ impl RowRule for EndpointRule {
             config: &self.config,
             store: after.store,
         };
-        find_again(&from, key, kept, steps)?;
-        Ok(MarksAfter::Other)
+        follow(&from, key, after.change.marks.as_slice(), kept, steps)
     }
 
     fn row(kept: &KeptEndpoints) -> &EndpointView {
-        kept.rows.view()
+        kept.slices.rows.view()
     }
 
     fn marks(kept: &KeptEndpoints) -> &[Mark] {
         kept.marks.as_slice()
     }
 
-    ghost shows = { λ rule held key kept stands. record {
-      is_filter = stands.view;
-      are_read = stands.marks;
-    } };
+    ghost shows = { λ rule. stands_show rule.config };
 
     ghost stays = { λ rule. stands_still rule.config };
 

@@ -11,6 +11,7 @@ use mark_rules::keys::EndpointKey;
 use mesh_base::steps::Steps;
 use mesh_base::text::Text;
 use object_store::store::Store;
+use policy_rows::snapshot::Snapshot;
 use view_scratch::service::{port_name, service_held};
 use view_types::service::Service;
 
@@ -20,6 +21,14 @@ pub(crate) struct ServicePort<'a> {
     /// The Service is held, and isn't external.
     pub(crate) exists: bool,
     pub(crate) name: Option<&'a Text>,
+}
+
+/// A port of a Service, and the objects from which its rows are made.
+#[derive(Clone, Copy)]
+pub(crate) struct PortSource<'a> {
+    pub(crate) from: &'a Snapshot<'a>,
+    pub(crate) key: &'a EndpointKey,
+    pub(crate) port: ServicePort<'a>,
 }
 
 /// The port of the key.

@@ -1,37 +1,55 @@
-use Rattle.std.proofs.Common.{[], ◌∷◌, ◌++◌, Bool, List, append_assoc, ap, subst, ◌∙◌}
-use Rattle.view_types.specs.declared.endpoint.EndpointRow.{EndpointRow}
-use Rattle.std.specs.List.{flat_map}
+use Rattle.std.proofs.Common.{sym, ap, subst, ◌∙◌}
 use Rattle.std.specs.Option.{option_copied}
-use Rattle.mark_rules.specs.Reads.{pods_of}
-use Rattle.view_rules.specs.Endpoints.{service_key, slices_held}
-use Rattle.view_types.specs.declared.mark.Mark.{Mark}
-use Rattle.view_types.specs.declared.mark.Mark.TheVariants.{Obj, SlicesOf}
-use Rattle.view_types.specs.declared.endpoint.EndpointView.{EndpointView}
-use Rattle.endpoint_rows.specs.Before.{TellsBefore}
-use Rattle.endpoint_rows.proofs.Orders.{always_ok, on_ok}
-use Rattle.endpoint_index.proofs.Filling.{rows_are}
+use Rattle.mark_rules.specs.Marks.{has_mark}
+use Rattle.endpoint_index.specs.Slices.{AreUpBut}
+use Rattle.endpoint_index.proofs.Filling.{empty_up}
+use Rattle.endpoint_index.proofs.SliceSums.{slices_rise, steps_within}
+use Rattle.endpoint_index.proofs.Standing.{slices_as}
 use Rattle.endpoint_index.proofs.kept.fill.Goals as goal
 
-pub returns-clause-keeps : goal.returns-clause-keeps
-returns-clause-keeps g c = λ keeps. c.settle.ensures.keeps (c.in_ok-put_slices.ensures.keeps keeps)
+pub returns-clause-stands : goal.returns-clause-stands
+returns-clause-stands g c = λ empty there.
+    let config = c.args.source.now.from.now.config.now in
+    let held = c.args.source.now.from.now.store.now.objects in
+    let key = c.args.source.now.key.now in
+    let name = option_copied c.args.source.now.port.name in
+    let s = c.args.kept.now.slices in
+    let up = subst (λ keys. AreUpBut keys config held key name s) (sym (c.slices_of-slices.ensures c.requires.going)) (empty_up config held key name s c.keys_by_mark.ensures.keys c.stand_at_keys.ensures empty) in
+    let stand = c.in_ok-bring_up.ensures.stands empty.keeps empty.agree up in
+    record {
+      slices = slices_as config held key c.bring_up.new.kept _ _ _ _ (there ∙ c.requires.port.exists_is) (sym c.in_ok-kept.ensures) stand;
+      name = c.in_ok-kept.ensures ∙ c.requires.port.name_is;
+      marks = λ mark. ap (λ marks. has_mark marks mark) (c.in_ok-kept-2.ensures (λ k. (stand.each k).pods));
+    }
 
-pub returns-clause-view : goal.returns-clause-view
-returns-clause-view g c = λ keeps none.
-    let mid = c.in_ok-put_slices.ensures.keeps keeps in
-    let rows = rows_are c.args.from.now.config.now c.args.from.now.store.now.objects c.args.key.now c.slices_make_the_service.ensures (option_copied c.args.name) c.put_slices.new.kept.rows.slices mid.agree (c.in_ok-put_slices.ensures.put none) in
-    let view = c.in_ok-put_slices.ensures.view in
-    let made : Bool → List EndpointRow → EndpointView = λ exists rows. record { exists = exists; rows = rows } in
-    on_ok c.settle.result (λ is. is ∙ (λ i. made ((view i).exists) (rows i))) (c.settle.ensures.view mid)
+pub returns-clause-steps : goal.returns-clause-steps
+returns-clause-steps g c =
+    let held = c.args.source.now.from.now.store.now.objects in
+    let key = c.args.source.now.key.now in
+    let slices = c.slices_of-slices.result.now in
+    let rises = slices_rise held key slices (c.slices_of-slices.ensures c.requires.going) c.stand_at_keys.ensures c.keys_by_mark.ensures.keys in
+    steps_within held key slices rises c.stand_at_keys.ensures c.keys_by_mark.ensures.found c.rows_by_marks.ensures.slices c.args.steps.now c.bring_up.new.steps c.bring_up.ensures.steps
 
-pub returns-clause-notes : goal.returns-clause-notes
-returns-clause-notes g c = λ keeps.
-    on_ok c.settle.result (subst (λ (view : EndpointView). TellsBefore view.rows c.settle.new.self.view.rows c.settle.new.self.notes) c.in_ok-put_slices.ensures.view)
-    (c.settle.ensures.notes (c.in_ok-put_slices.ensures.keeps keeps))
+pub returns-in_err-bring_up-clause-steps : goal.returns-in_err-bring_up-clause-steps
+returns-in_err-bring_up-clause-steps g c =
+    let held = c.args.source.now.from.now.store.now.objects in
+    let key = c.args.source.now.key.now in
+    let slices = c.slices_of-slices.result.now in
+    let rises = slices_rise held key slices (c.slices_of-slices.ensures c.requires.going) c.stand_at_keys.ensures c.keys_by_mark.ensures.keys in
+    steps_within held key slices rises c.stand_at_keys.ensures c.keys_by_mark.ensures.found c.rows_by_marks.ensures.slices c.args.steps.now c.bring_up.new.steps c.bring_up.ensures.steps
 
-pub returns-clause-marks : goal.returns-clause-marks
-returns-clause-marks g c =
-    let held = c.args.from.now.store.now.objects in
-    let key = c.args.key.now in
-    let pods : List Mark = flat_map pods_of (slices_held held key.ns key.name) in
-    always_ok c.settle.result (c.in_ok-put_slices.ensures.marks ∙ ap (λ own. own ++ pods) c.in_ok-add_own.ensures
-    ∙ append_assoc c.args.kept.now.marks (Obj (service_key key.ns key.name) ∷ SlicesOf key.ns key.name ∷ []) pods)
+pub returns-in_err-kept-clause-steps : goal.returns-in_err-kept-clause-steps
+returns-in_err-kept-clause-steps g c =
+    let held = c.args.source.now.from.now.store.now.objects in
+    let key = c.args.source.now.key.now in
+    let slices = c.slices_of-slices.result.now in
+    let rises = slices_rise held key slices (c.slices_of-slices.ensures c.requires.going) c.stand_at_keys.ensures c.keys_by_mark.ensures.keys in
+    steps_within held key slices rises c.stand_at_keys.ensures c.keys_by_mark.ensures.found c.rows_by_marks.ensures.slices c.args.steps.now c.bring_up.new.steps c.bring_up.ensures.steps
+
+pub returns-in_err-kept-2-clause-steps : goal.returns-in_err-kept-2-clause-steps
+returns-in_err-kept-2-clause-steps g c =
+    let held = c.args.source.now.from.now.store.now.objects in
+    let key = c.args.source.now.key.now in
+    let slices = c.slices_of-slices.result.now in
+    let rises = slices_rise held key slices (c.slices_of-slices.ensures c.requires.going) c.stand_at_keys.ensures c.keys_by_mark.ensures.keys in
+    steps_within held key slices rises c.stand_at_keys.ensures c.keys_by_mark.ensures.found c.rows_by_marks.ensures.slices c.args.steps.now c.bring_up.new.steps c.bring_up.ensures.steps
