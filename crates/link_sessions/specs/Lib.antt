@@ -1,0 +1,4 @@
+pub mod Entries
+pub mod Roles
+pub mod Settled
+pub mod Sets
