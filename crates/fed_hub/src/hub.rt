@@ -1,0 +1,219 @@
+// A hub that lines of feeds are applied to.
+ghost use Rattle.std.specs.Prelude.{◌≡◌, ◌≤◌, ℕ, List as TheList, [], false, Bool, Option as TheOption, Ok, IfOk, IfSome, OnOk};
+ghost use Rattle.std.specs.Option.{option_copied};
+ghost use Rattle.session_core.specs.Outboxes.{NoneEmpty};
+ghost use Rattle.watch_events.specs.Lawful.{IsLawfulEvent, IsLawfulLine};
+ghost use Rattle.watch_events.specs.declared.line.Line.TheVariants as lines;
+ghost use Rattle.route_match.specs.Matching.{Pat};
+ghost use Rattle.feed_history.specs.KnownPatterns.{GoOver, known_of, known_over};
+ghost use Rattle.subscriptions.specs.DueIds.{Rises, is_among};
+ghost use Rattle.mesh_hub.specs.Due.{is_due};
+ghost use Rattle.mesh_hub.specs.Hub.{fresh, state_of};
+ghost use Rattle.fed_hub.specs.HubSteps.{CancelsAt, DrainsAt, SubscribesNext};
+ghost use Rattle.fed_hub.specs.LineSteps.{AppliesTo, HasByte, TakesLine, TakesRow};
+
+use crate::answers::{accepted, decided, refused, refused_by, undecided, unread};
+use bytes::Bytes;
+use feed_history::refusal::{HubFault, Refusal};
+use mesh_base::copied::Copied;
+use mesh_base::limits::Limits;
+use mesh_base::list::List;
+use mesh_base::memory::Memory;
+use mesh_base::steps::Steps;
+use mesh_base::sub_id::SubId;
+use mesh_hub::hub::Hub;
+use mesh_outside::Patterns;
+use std::alloc::Global;
+use view_types::config::Config;
+use view_types::query::Query;
+use view_types::request::Request;
+use watch_events::event::Event;
+use watch_events::line::Line;
+use watch_events::read::read_row;
+
+/// A hub that lines of feeds are applied to, with the subscriptions of links.
+#[derive(Drop)]
+pub struct FedHub {
+    alloc: Global,
+    config: Config,
+    hub: Hub,
+    /// The requests that were accepted. Each subscribes under its number among them.
+    requests: u32,
+    /// Whether a `stop` line was accepted in this turn.
+    stopped: bool,
+    steps: Steps<Hub>,
+}
+
+impl FedHub {
+    /// A hub that holds nothing.
+    pub fn new(alloc: Global, config: Config, limits: Limits) -> Result<FedHub, Memory>
+        requires { 1 ≤ limits.frame_addrs }
+        ensures config { IfOk result (λ fed. fed.config ≡ config) }
+        ensures hub { IfOk result (λ fed. state_of fed.hub ≡ fresh config limits) }
+        ensures due { IfOk result (λ fed. (id : ℕ) → is_due fed.hub id ≡ false) }
+        ensures requests { IfOk result (λ fed. fed.requests ≡ 0) }
+        ensures stopped { IfOk result (λ fed. fed.stopped ≡ false) }
+    {
+        let hub = Hub::new(alloc, config.copy(alloc)?, limits)?;
+        Ok(FedHub {
+            alloc,
+            config,
+            hub,
+            requests: 0,
+            stopped: false,
+            steps: Steps::new(),
+        })
+    }
+
+    /// Forgets a `stop` line of an earlier turn.
+    pub fn begin_turn(&mut self)
+        ensures { self.new ≡ record self.old { stopped = false } }
+    {
+        self.stopped = false;
+    }
+
+    /// Whether a `stop` line was accepted in this turn.
+    pub fn has_stopped(&self) -> bool
+        ensures { result ≡ self.now.stopped }
+    {
+        self.stopped
+    }
+
+    /// The subscriptions that are due, in the order of their ids.
+    pub fn due(&self) -> &[SubId]
+        ensures each { (id : ℕ) → is_among id result.now ≡ is_due self.now.hub id }
+        ensures rise { Rises result.now }
+    {
+        self.hub.due()
+    }
+
+    /// Subscribes to a query, under the number of its request among those accepted. None if the limit is reached.
+    pub fn subscribe(&mut self, query: Query) -> Result<Option<SubId>, Memory>
+        ensures { IfOk result (SubscribesNext self.old query self.new) }
+    {
+        let Some(number) = self.requests.checked_add(1) else {
+            return Ok(None);
+        };
+        match self.hub.subscribe(SubId(number), query, &mut self.steps) {
+            Ok(()) => {
+                self.requests = number;
+                Ok(Some(SubId(number)))
+            }
+            Err(HubFault::Memory) => Err(Memory),
+            Err(_) => Ok(None),
+        }
+    }
+
+    /// Ends a subscription, if it is live.
+    pub fn cancel(&mut self, id: SubId)
+        ensures { CancelsAt id.0 self.old self.new }
+    {
+        let _ = self.hub.cancel(id);
+    }
+
+    /// The frames that are due to a subscription. None if one would be too long, which ends the subscription.
+    pub fn drain(&mut self, id: SubId) -> Result<Option<List<Bytes>>, Memory>
+        ensures drains { IfOk result (DrainsAt id.0 self.old self.new) }
+        ensures some { IfOk result (λ answer. IfSome answer NoneEmpty) }
+    {
+        match self.hub.drain(id) {
+            Ok(frames) => Ok(Some(frames)),
+            Err(HubFault::Memory) => Err(Memory),
+            Err(_) => Ok(None),
+        }
+    }
+
+    /// Applies the line of this number, and adds what it is answered. A row that is None is a line above the limit.
+    pub fn answer<P: Patterns>(
+        &mut self,
+        patterns: &mut P,
+        number: u64,
+        row: Option<&[u8]>,
+        answers: &mut List<Bytes>,
+    ) -> Result<(), Memory>
+        ensures applies { OnOk result (AppliesTo self.old self.new number (option_copied row.entry)
+            (known_over P.Patterns patterns.old patterns.new) answers.old answers.new) }
+        ensures some { OnOk result (NoneEmpty answers.old → NoneEmpty answers.new) }
+        ensures goes_on { GoOver P.Patterns patterns.old patterns.new }
+    {
+        match self.take_row(patterns, number, row)? {
+            Some(item) => answers.add(Bytes::from_vec(item.into_vec())?),
+            None => Ok(()),
+        }
+    }
+
+    // Applies a row, and returns what it is answered, if it is.
+    fn take_row<P: Patterns>(
+        &mut self,
+        patterns: &mut P,
+        number: u64,
+        row: Option<&[u8]>,
+    ) -> Result<Option<List<u8>>, Memory>
+        ensures takes { IfOk result (TakesRow self.old self.new number (option_copied row.entry)
+            (known_over P.Patterns patterns.old patterns.new)) }
+        ensures some { IfOk result (λ item. IfSome item HasByte) }
+        ensures goes_on { GoOver P.Patterns patterns.old patterns.new }
+    {
+        match read_row(self.alloc, row, &self.config) {
+            Ok(line) => self.take_line(patterns, number, line),
+            Err(fault) => unread(self.alloc, number, fault),
+        }
+    }
+
+    fn take_line<P: Patterns>(
+        &mut self,
+        patterns: &mut P,
+        number: u64,
+        line: Line,
+    ) -> Result<Option<List<u8>>, Memory>
+        requires { IsLawfulLine line }
+        ensures takes { IfOk result (TakesLine self.old self.new number (Ok line)
+            (known_over P.Patterns patterns.old patterns.new)) }
+        ensures some { IfOk result (λ item. IfSome item HasByte) }
+        ensures goes_on { GoOver P.Patterns patterns.old patterns.new }
+    {
+        match line {
+            Line::Blank => Ok(None),
+            Line::Event(event) => self.apply(number, event),
+            Line::Simulate(request) => self.simulate(patterns, number, &request),
+            Line::Stop => {
+                self.stopped = true;
+                accepted(self.alloc, number)
+            }
+            Line::Subscribe { .. } | Line::Cancel { .. } | Line::Drain { .. } => {
+                refused(self.alloc, number, Refusal::NotHere)
+            }
+        }
+    }
+
+    fn apply(&mut self, number: u64, event: Event) -> Result<Option<List<u8>>, Memory>
+        requires { IsLawfulEvent event }
+        ensures takes { IfOk result (λ item. (tells : TheOption Pat)
+            (refuses : TheOption (TheList ℕ → Bool)) (count : ℕ)
+            → TakesLine self.old self.new number (Ok (lines.Event event))
+            (known_of tells refuses count count) item) }
+        ensures some { IfOk result (λ item. IfSome item HasByte) }
+    {
+        match self.hub.apply(event, &mut self.steps) {
+            Ok(()) => accepted(self.alloc, number),
+            Err(fault) => refused_by(self.alloc, number, fault),
+        }
+    }
+
+    fn simulate<P: Patterns>(
+        &mut self,
+        patterns: &mut P,
+        number: u64,
+        request: &Request,
+    ) -> Result<Option<List<u8>>, Memory>
+        ensures takes { IfOk result (TakesLine self.old self.new number
+            (Ok (lines.Simulate request.now)) (known_over P.Patterns patterns.old patterns.new)) }
+        ensures some { IfOk result (λ item. IfSome item HasByte) }
+        ensures goes_on { GoOver P.Patterns patterns.old patterns.new }
+    {
+        match self.hub.simulate(request, patterns, &mut self.steps) {
+            Ok(verdict) => decided(self.alloc, number, &request.ns, &verdict),
+            Err(fault) => undecided(self.alloc, number, fault),
+        }
+    }
+}
