@@ -1,5 +1,5 @@
 -- What finds open links, after a link was added or closed.
-use Rattle.std.proofs.Common.{◌≡◌, ◌≢◌, ℕ, ◌+◌, ◌-◌, ◌≤◌, Bool, true, false, cond, eqb, Option, Some, None, refl, sym, ap, ◌∙◌, subst, arith, eqb-true, eq-eqb}
+use Rattle.std.proofs.Common.{◌≡◌, ◌≢◌, ℕ, ◌+◌, ◌-◌, Bool, true, false, cond, eqb, Some, None, refl, sym, ap, ◌∙◌, subst, arith, eqb-true, eq-eqb}
 use Rattle.std.specs.Prelude.{option_map, unwrap_or}
 use Rattle.std.specs.BTreeMap as tree
 use Rattle.std.specs.BTreeMap.{insert_entry, is_at}
@@ -13,7 +13,6 @@ use Rattle.link_sessions.specs.Entries.{entries_of, feeds_in, link_at, one_feed,
 use Rattle.link_sessions.specs.Roles.{is_feed, is_subscriber, is_to_read, is_to_write}
 use Rattle.link_sessions.specs.Settled.{AreFound, IsSettled, IsSettledBut, subscribes}
 use Rattle.link_sessions.specs.declared.link.Link.{Link}
-use Rattle.link_sessions.specs.declared.link.Role.{Role}
 use Rattle.link_sessions.specs.declared.link.Role.TheVariants as roles
 use Rattle.link_sessions.specs.declared.open_links.OpenLinks.{OpenLinks}
 use Rattle.link_sessions.proofs.Changes.{is_elsewhere, is_here, same_number}

@@ -1,21 +1,21 @@
 -- What finds open links, after a change of one of them.
-use Rattle.std.proofs.Common.{◌≡◌, ◌≢◌, ℕ, ◌+◌, Bool, true, false, cond, eqb, List, Option, Some, None, refl, sym, ap, ◌∙◌, subst, arith, eqb-true, eq-eqb}
-use Rattle.std.specs.Prelude.{Result, is_some, option_map}
-use Rattle.std.specs.BTreeMap.{BTreeMap, get, is_at}
+use Rattle.std.proofs.Common.{◌≡◌, ◌≢◌, ℕ, ◌+◌, Bool, true, false, cond, eqb, List, Option, Some, None, refl, sym, ap, ◌∙◌, subst, eqb-true, eq-eqb}
+use Rattle.std.specs.Prelude.{Result, option_map}
+use Rattle.std.specs.BTreeMap.{get, is_at}
 use Rattle.std.specs.BTreeMap as tree
 use Rattle.std.specs.BTreeSet.{BTreeSet, Updates, contains}
 use Rattle.std.specs.Ordering.{nat_cmp}
 use Rattle.mesh_base.specs.declared.sub_id.SubId.{SubId}
 use Rattle.session_core.specs.declared.session.Ask.{Ask}
 use Rattle.session_core.specs.declared.session.SessionFault.{SessionFault}
-use Rattle.link_sessions.specs.Entries.{Entries, Feeds, FeedsBy, changed, changed_by, entries_of, feeds_in, filled, link_at, one_feed, passes, passes_at, with_outbox}
+use Rattle.link_sessions.specs.Entries.{Entries, Feeds, FeedsBy, changed, changed_by, entries_of, feeds_in, filled, link_at, passes, passes_at, with_outbox}
 use Rattle.link_sessions.specs.Roles.{is_feed, is_opening, is_subscriber, is_to_read, is_to_write, is_written}
 use Rattle.link_sessions.specs.Settled.{AreFound, IsSettled, IsSettledBut, IsUnknown, subscribes}
 use Rattle.link_sessions.specs.declared.link.Link.{Link}
 use Rattle.link_sessions.specs.declared.link.Role.{Role}
 use Rattle.link_sessions.specs.declared.link.Role.TheVariants as roles
 use Rattle.link_sessions.specs.declared.open_links.OpenLinks.{OpenLinks}
-use Rattle.link_sessions.proofs.Changes.{feeds_by_count, feeds_more, feeds_same, here_at, is_elsewhere, is_here, other_at, passes_other, passes_same, same_number}
+use Rattle.link_sessions.proofs.Changes.{feeds_by_count, feeds_more, feeds_same, here_at, is_elsewhere, is_here, passes_other, passes_same, same_number}
 
 pub but_one : (number : ℕ) (kept : OpenLinks) → IsSettled kept → IsSettledBut number kept
 but_one number kept settled = record { reads = λ n apart. settled.reads n; writes = λ n apart. settled.writes n; found = settled.found }

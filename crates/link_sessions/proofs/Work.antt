@@ -1,5 +1,5 @@
 -- Whether some link may be read or written.
-use Rattle.std.proofs.Common.{◌≡◌, ℕ, Bool, true, false, ◌||◌, not, List, [], ◌∷◌, length, Option, Some, None, refl, sym, ap, ◌∙◌, arith}
+use Rattle.std.proofs.Common.{◌≡◌, ◌≤◌, ℕ, Bool, true, false, ◌||◌, not, List, [], ◌∷◌, length, Option, Some, None, IfSome, refl, sym, ap, ◌∙◌, arith}
 use Rattle.std.specs.BTreeMap.{is_at}
 use Rattle.std.specs.BTreeSet.{BTreeSet, contains}
 use Rattle.std.specs.List.{list_any}
@@ -7,10 +7,15 @@ use Rattle.std.specs.Ordering.{nat_cmp}
 use Rattle.link_sessions.specs.Entries.{entries_of, passes, passes_at}
 use Rattle.link_sessions.specs.Roles.{is_to_read, is_to_write}
 use Rattle.link_sessions.specs.Settled.{IsSettled}
-use Rattle.link_sessions.specs.Sets.{IsAnyOf}
+use Rattle.link_sessions.specs.Sets.{IsAnyOf, IsFirstFrom}
 use Rattle.link_sessions.specs.declared.link.Link.{Link}
 use Rattle.link_sessions.specs.declared.open_links.OpenLinks.{OpenLinks}
 use Rattle.link_sessions.proofs.Changes.{is_here}
+
+-- the first number from one on is not below it
+pub first_later : (test : ℕ → Bool) (from : ℕ) (first : Option ℕ) → IsFirstFrom test from first → IfSome first (λ number. from ≤ number)
+first_later test from None is = tt
+first_later test from (Some first) is = is.0
 
 -- a set that is not empty has a member
 pub record Member (s : BTreeSet ℕ) : Type 0 where

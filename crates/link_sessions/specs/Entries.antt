@@ -1,13 +1,13 @@
 -- Open links with their numbers, in the order of the numbers.
-use Rattle.std.specs.Prelude.{◌≡◌, ℕ, ◌+◌, Bool, true, false, if◌then◌else◌, List, [], ◌∷◌, Option, Some, None, Result, Err}
+use Rattle.std.specs.Prelude.{◌≡◌, ℕ, Bool, true, false, if◌then◌else◌, List, [], Option, Some, None, Result, Err}
 use Rattle.std.specs.BTreeMap.{insert_entry, is_at}
 use Rattle.std.specs.List.{sum_by}
 use Rattle.std.specs.Map.{lookup, remove_entry, set_value, values_of}
 use Rattle.std.specs.Ordering.{nat_cmp}
 use Rattle.mesh_base.specs.declared.limits.Limits.{Limits}
-use Rattle.session_core.specs.Outboxes.{head, wrote}
+use Rattle.session_core.specs.Outboxes.{wrote}
 use Rattle.session_core.specs.Pieces.{Given, answer_to, given_next}
-use Rattle.session_core.specs.Sessions.{IsSpent, SessionState, Stands}
+use Rattle.session_core.specs.Sessions.{SessionState, Stands}
 use Rattle.session_core.specs.States.{Answers}
 use Rattle.session_core.specs.declared.session.Ask.{Ask}
 use Rattle.session_core.specs.declared.session.SessionFault.{SessionFault}
@@ -59,6 +59,10 @@ opened number link entries = opened_by number link entries (link_at number entri
 
 abbrev pub without : ℕ → Entries → Entries
 without number entries = remove_entry (is_at (nat_cmp number)) entries
+
+-- the link of a number is not there any more, and the others stay
+abbrev pub Leaves : ℕ → Entries → Entries → Type 0
+Leaves number old new = (n : ℕ) → link_at n new ≡ (if is_at (nat_cmp number) n then None else link_at n old)
 
 -- ---- a piece of a link's bytes
 

@@ -1,7 +1,7 @@
 // The open links of a server, and which of them have their turn.
-ghost use Rattle.std.specs.Prelude.{◌≡◌, ◌≤◌, ◌&&◌, ◌||◌, ◌<◌, ◌-◌, ◌^◌, [], true, is_some, length, nat_lt, option_map, if◌then◌else◌, OnOk};
+ghost use Rattle.std.specs.Prelude.{◌≡◌, ◌≤◌, ◌&&◌, ◌||◌, ◌<◌, ◌-◌, ◌^◌, [], true, is_some, length, nat_lt, option_map, if◌then◌else◌, IfSome, OnOk};
 ghost use Rattle.session_core.specs.Outboxes.{NoneEmpty, head};
-ghost use Rattle.link_sessions.specs.Entries.{Feeds, changed, filled, entries_of, feeds_in, link_at, opened, outbox_at, passes_at, stays, without, wrote_of};
+ghost use Rattle.link_sessions.specs.Entries.{Feeds, Leaves, changed, filled, entries_of, feeds_in, link_at, opened, outbox_at, passes_at, stays, without, wrote_of};
 ghost use Rattle.link_sessions.specs.Roles.{is_opening, is_to_drain, is_to_read, is_to_write};
 ghost use Rattle.link_sessions.specs.Sets.{IsAnyOf, IsFirstFrom, IsOneOf};
 ghost use Rattle.link_sessions.specs.Settled.{IsSettled, IsSettledBut, IsUnknown, subscribes};
@@ -150,17 +150,21 @@ impl OpenLinks {
     }
 
     /// The first link from a number on that may be read.
+    #[tactic(auto, using(crate::proofs::Work::first_later))]
     pub fn first_to_read(&self, from: u32) -> Option<u32>
-        ensures { IsSettled self.now
+        ensures first { IsSettled self.now
             → IsFirstFrom (passes_at is_to_read (entries_of self.now)) from result }
+        ensures later { IfSome result (λ number. from ≤ number) }
     {
         first_from(&self.to_read, from)
     }
 
     /// The first link from a number on that may be written.
+    #[tactic(auto, using(crate::proofs::Work::first_later))]
     pub fn first_to_write(&self, from: u32) -> Option<u32>
-        ensures { IsSettled self.now
+        ensures first { IsSettled self.now
             → IsFirstFrom (passes_at is_to_write (entries_of self.now)) from result }
+        ensures later { IfSome result (λ number. from ≤ number) }
     {
         first_from(&self.to_write, from)
     }
@@ -317,6 +321,7 @@ impl OpenLinks {
         ensures role { result ≡ option_map (λ link. link.role)
             (link_at number (entries_of self.old)) }
         ensures entries { entries_of self.new ≡ without number (entries_of self.old) }
+        ensures leaves { Leaves number (entries_of self.old) (entries_of self.new) }
         ensures settled { IsSettledBut number self.old → IsSettled self.new }
     {
         let link = self.by_number.remove(&number);
