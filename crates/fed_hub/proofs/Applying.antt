@@ -1,10 +1,9 @@
 -- A line of a link that is applied.
-use Rattle.std.proofs.Common.{◌≡◌, ℕ, ◌||◌, List, [], ◌∷◌, ◌++◌, Option, Some, None, refl, sym, ap, ◌∙◌, inl, inr}
+use Rattle.std.proofs.Common.{◌≡◌, ℕ, ◌||◌, List, [], ◌∷◌, ◌++◌, Option, refl, ap, ◌∙◌, inl, inr}
 use Rattle.std.specs.Option.{option_to_list}
 use Rattle.line_run.specs.Rows.{Row}
-use Rattle.mesh_base.specs.declared.limits.Limits.{Limits}
 use Rattle.session_core.specs.Outboxes.{NoneEmpty}
-use Rattle.watch_events.specs.Lines.{row_says, text_line}
+use Rattle.watch_events.specs.Lines.{row_says}
 use Rattle.route_match.specs.Matching.{Pat}
 use Rattle.request_sim.specs.declared.fault.SimFault.{SimFault}
 use Rattle.feed_history.specs.History.{after}
@@ -12,9 +11,9 @@ use Rattle.feed_history.specs.KnownPatterns.{PatternsNow, facts_in}
 use Rattle.feed_history.specs.MarkCauses.{IsTold, IsToldFor}
 use Rattle.feed_history.specs.Program.{Program}
 use Rattle.feed_history.proofs.Marks.{few_more, may_be_marked, none_more}
-use Rattle.mesh_hub.specs.Hub.{HubState, state_of}
+use Rattle.mesh_hub.specs.Hub.{HubState}
 use Rattle.serve_rules.specs.FedLines.{FedRow, answer_to, is_stop, rows_fed, says_stop, serve_of}
-use Rattle.fed_hub.specs.LineSteps.{Applies, AppliesTo, HasByte, Holds, Takes, TakesRow, answers_of, fed_row}
+use Rattle.fed_hub.specs.LineSteps.{AppliesTo, HasByte, TakesRow, answers_of, fed_row}
 use Rattle.fed_hub.specs.declared.hub.FedHub.{FedHub}
 
 -- an item more, which has a byte

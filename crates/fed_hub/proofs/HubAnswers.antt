@@ -1,11 +1,9 @@
 -- What an answer of a request and of a drain comes to.
-use Rattle.std.proofs.Common.{◌≡◌, ◌≢◌, ℕ, ◌+◌, ◌<◌, ◌^◌, Bool, ◌||◌, List, [], ◌∷◌, ◌++◌, length, Option, Some, None, refl, sym, ap, ◌∙◌, subst, arith}
-use Rattle.std.specs.Prelude.{IfSome, Result, Ok, Err, nat_eq, map}
+use Rattle.std.proofs.Common.{◌≡◌, ◌≢◌, ℕ, ◌+◌, ◌||◌, List, [], ◌∷◌, ◌++◌, Option, Some, None, refl, sym, ap, ◌∙◌, subst, arith}
+use Rattle.std.specs.Prelude.{Ok, Err, nat_eq}
 use Rattle.session_core.specs.Outboxes.{NoneEmpty}
 use Rattle.view_types.specs.declared.message.Message.{Message}
 use Rattle.view_types.specs.declared.query.Query.{Query}
-use Rattle.proxy_proto.specs.Messages.{canonical}
-use Rattle.proto_wire.specs.Frames.{frame_of}
 use Rattle.feed_history.specs.Drains.{frames_of, frames_unless, too_long}
 use Rattle.feed_history.specs.Ids.{unless_refused}
 use Rattle.feed_history.specs.declared.refusal.HubFault.{HubFault}

@@ -1,6 +1,6 @@
 -- What a line comes to, from what the call that it asks for comes to.
-use Rattle.std.proofs.Common.{◌≡◌, ◌≢◌, ℕ, ◌≤◌, Bool, true, false, cond, not, ◌||◌, List, [], ◌∷◌, ◌++◌, Option, Some, None, refl, sym, ap, ◌∙◌, subst, inl, inr}
-use Rattle.std.specs.Prelude.{IfOk, OnOk, Result, Ok, Err, is_some, option_map}
+use Rattle.std.proofs.Common.{◌≡◌, ◌≢◌, ℕ, ◌≤◌, Bool, true, false, cond, ◌||◌, List, [], ◌∷◌, Option, Some, None, refl, sym, ap, ◌∙◌, subst, inl, inr}
+use Rattle.std.specs.Prelude.{IfOk, OnOk, Result, Ok, Err}
 use Rattle.mesh_base.specs.declared.limits.Limits.{Limits}
 use Rattle.mesh_base.specs.declared.sub_id.SubId.{SubId}
 use Rattle.mesh_outside.specs.Causes.{Rose}
@@ -38,7 +38,7 @@ use Rattle.mesh_hub.specs.declared.hub.Hub.{Hub}
 use Rattle.subscriptions.specs.Live.{query_at}
 use Rattle.feed_history.specs.Due.{is_touched}
 use Rattle.serve_rules.specs.FedLines.{FedRow, has_place_in_serve, ok_line, rows_fed, says_stop, serve_of}
-use Rattle.fed_hub.specs.LineSteps.{Holds, IsItem, Takes, TakesLine}
+use Rattle.fed_hub.specs.LineSteps.{Holds, IsItem, TakesLine}
 use Rattle.fed_hub.specs.declared.hub.FedHub.{FedHub}
 
 pub IfOk-weaker : {T E : Type 0} (r : Result T E) (P Q : T → Type 0) → ((x : T) → P x → Q x) → IfOk r P → IfOk r Q

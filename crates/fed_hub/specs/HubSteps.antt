@@ -1,10 +1,10 @@
 -- What a request, a cancellation and a drain come to.
-use Rattle.std.specs.Prelude.{◌≡◌, ◌<◌, ◌+◌, ◌^◌, ℕ, Bool, nat_eq, List, Option, Some, None, Result, Ok, Err}
+use Rattle.std.specs.Prelude.{◌≡◌, ◌<◌, ◌+◌, ◌^◌, ℕ, nat_eq, List, Option, Some, None, Result, Ok, Err}
 use Rattle.mesh_base.specs.declared.sub_id.SubId.{SubId}
 use Rattle.view_types.specs.declared.query.Query.{Query}
 use Rattle.feed_history.specs.declared.refusal.HubFault.{HubFault}
 use Rattle.mesh_hub.specs.Due.{AlsoDue, Undue, is_due}
-use Rattle.mesh_hub.specs.Hub.{HubState, cancelled, drained, frames_at, new_refusal, state_of, subscribed}
+use Rattle.mesh_hub.specs.Hub.{cancelled, drained, frames_at, new_refusal, state_of, subscribed}
 use Rattle.fed_hub.specs.declared.hub.FedHub.{FedHub}
 
 abbrev pub id_at : ℕ → SubId

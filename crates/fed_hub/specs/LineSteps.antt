@@ -1,5 +1,5 @@
 -- What one line of a feed comes to.
-use Rattle.std.specs.Prelude.{◌≡◌, ◌≤◌, ◌<◌, ◌+◌, ◌-◌, ◌^◌, ◌++◌, ◌∷◌, ◌||◌, ℕ, Bool, false, not, ◌&&◌, is_some, min, List, [], Option, Some, None, Result, Ok, Err, length}
+use Rattle.std.specs.Prelude.{◌≡◌, ◌≤◌, ◌<◌, ◌+◌, ◌-◌, ◌^◌, ◌++◌, ◌∷◌, ◌||◌, ℕ, Bool, false, not, ◌&&◌, is_some, min, List, [], Option, Some, Result, Ok, Err, length}
 use Rattle.std.specs.Option.{option_to_list}
 use Rattle.line_run.specs.Rows.{Row}
 use Rattle.mesh_base.specs.declared.limits.Limits.{Limits}

@@ -1,6 +1,6 @@
 use Rattle.std.proofs.Common.{refl}
 use Rattle.mesh_hub.specs.Hub.{state_of}
-use Rattle.fed_hub.proofs.HubAnswers.{drained_err, drained_ok, frames_framed}
+use Rattle.fed_hub.proofs.HubAnswers.{drained_ok, frames_framed}
 use Rattle.fed_hub.proofs.hub.FedHub.drain.Goals as goal
 
 pub returns-in-Ok-clause-drains : goal.returns-in-Ok-clause-drains

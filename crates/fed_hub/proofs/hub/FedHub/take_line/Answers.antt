@@ -1,5 +1,5 @@
 use Rattle.std.proofs.Common.{refl}
-use Rattle.fed_hub.proofs.LineAnswers.{IfOk-weaker, blank_takes, no_cancel, no_drain, no_subscribe, or_false, or_true, refused_takes, stop_takes}
+use Rattle.fed_hub.proofs.LineAnswers.{IfOk-weaker, blank_takes, or_false, or_true, stop_takes}
 use Rattle.fed_hub.proofs.hub.FedHub.take_line.Goals as goal
 
 pub returns-in-Blank-clause-takes : goal.returns-in-Blank-clause-takes
