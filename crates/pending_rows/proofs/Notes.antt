@@ -31,11 +31,11 @@ use Rattle.pending_rows.specs.Pending.{AreKeyed, Pending, note_one, with_notes, 
 abbrev Rise : List Stood → Type 0
 Rise ss = IsStrictlySortedBy pair_cmp (map address ss)
 
-abbrev entry_at : List Stood → Pair → Option Stood
+abbrev pub entry_at : List Stood → Pair → Option Stood
 entry_at ss q = find pair_cmp q (keyed pair_cmp address (λ s. s) ss)
 
 -- the row that stood, where the address is noted, or else the one now
-abbrev row_then : Option Stood → Option EndpointRow → Option EndpointRow
+abbrev pub row_then : Option Stood → Option EndpointRow → Option EndpointRow
 row_then None now = now
 row_then (Some s) now = s.2
 

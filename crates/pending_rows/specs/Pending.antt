@@ -1,7 +1,8 @@
 -- The addresses that have changed since they were told.
-use Rattle.std.specs.Prelude.{ℕ, Bool, true, List, [], ◌∷◌, Option, Some, None, if◌then◌else◌, is_some}
+use Rattle.std.specs.Prelude.{◌==◌, ◌&&◌, ℕ, Bool, true, List, [], ◌∷◌, Option, Some, None, if◌then◌else◌, is_some, length}
 use lib.Dec.{T}
 use Rattle.std.specs.FinMap.{FinMap, get, insert}
+use Rattle.std.specs.Bool.{beq}
 use Rattle.std.specs.List.{list_all}
 use Rattle.mesh_base.specs.Keyed.{IsKeyed, keyed_map}
 use Rattle.net_cidr.specs.declared.ip.Ip.{Ip}
@@ -50,3 +51,7 @@ AreOwn stood = T (list_all (λ s. is_at (address s) s.2) stood)
 -- the endpoints as they were last told: those noted as they were told, and all others as they are now
 abbrev pub last_view : Bool → List Stood → EndpointView → EndpointView
 last_view exists pending now = earlier_endpoints exists pending now
+
+-- all rows were told as they are now, and whether the Service exists
+abbrev pub is_up_to_date : Bool → Bool → List Stood → Bool
+is_up_to_date exists existed pending = beq existed exists && (length pending == 0)

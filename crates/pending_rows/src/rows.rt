@@ -2,7 +2,7 @@ ghost use Rattle.std.specs.Prelude.{◌≡◌, ◌≤◌, [], Some, IfOk, OnErr,
 ghost use Rattle.view_diff.specs.Earlier.{IsByAddress};
 ghost use Rattle.view_rules.specs.Batch.{endpoint_batch};
 ghost use Rattle.view_rules.specs.Fold.{IsOrderly};
-ghost use Rattle.pending_rows.specs.Pending.{AreKeyed, AreOwn, last_view, with_notes, pending_of};
+ghost use Rattle.pending_rows.specs.Pending.{AreKeyed, AreOwn, is_up_to_date, last_view, with_notes, pending_of};
 
 use crate::noting::{copied, note_each};
 use mesh_base::limits::Limits;
@@ -37,6 +37,13 @@ impl PendingRows {
         }
     }
 
+    /// Whether all rows were told as they are now, and that the Service exists, or doesn't.
+    pub fn is_up_to_date(&self, exists: bool) -> bool
+        ensures { result ≡ is_up_to_date exists self.now.exists self.now.pending.items }
+    {
+        self.exists == exists && self.pending.is_empty()
+    }
+
     /// Notes addresses whose rows have changed, each with the row that stood there before. The rows
     /// are copied. An address that is noted already keeps its row. Where memory runs out none is
     /// noted.
@@ -57,8 +64,22 @@ impl PendingRows {
         Ok(())
     }
 
-    /// The messages that bring the subscriber from what it was last told to the endpoints now, and
-    /// nothing is pending any more. Where memory runs out nothing is told.
+    /// The messages that bring the subscriber from what it was last told to the endpoints now.
+    pub fn messages(
+        &self,
+        alloc: Global,
+        now: &EndpointView,
+        limits: &Limits,
+    ) -> Result<List<Message>, Memory>
+        requires limit { 1 ≤ limits.now.frame_addrs }
+        requires now { IsOrderly now.now }
+        ensures { IfOk result (λ messages. messages ≡ endpoint_batch
+            (Some (last_view self.now.exists self.now.pending.items now.now)) now.now limits.now) }
+    {
+        batch_since(alloc, self.exists, self.pending.as_slice(), now, limits)
+    }
+
+    /// These messages, and nothing is pending any more. Where memory runs out nothing is told.
     pub fn drain(
         &mut self,
         alloc: Global,
@@ -74,7 +95,7 @@ impl PendingRows {
         ensures err_exists { OnErr result (self.new.exists ≡ self.old.exists) }
         ensures err_pending { OnErr result (self.new.pending.items ≡ self.old.pending.items) }
     {
-        let messages = batch_since(alloc, self.exists, self.pending.as_slice(), now, limits)?;
+        let messages = self.messages(alloc, now, limits)?;
         self.pending.clear();
         self.exists = now.exists;
         Ok(messages)

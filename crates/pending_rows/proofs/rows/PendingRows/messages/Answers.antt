@@ -1,5 +1,5 @@
 use Rattle.pending_rows.proofs.Own.{by_address}
-use Rattle.pending_rows.proofs.rows.PendingRows.drain.Goals as goal
+use Rattle.pending_rows.proofs.rows.PendingRows.messages.Goals as goal
 
 pub batch_since-requires-clause-before : goal.batch_since-requires-clause-before
 batch_since-requires-clause-before c =
