@@ -1,0 +1,2 @@
+pub mod ByIds
+pub mod Counts
