@@ -1,0 +1,40 @@
+-- Streams of endpoints: what is at each id, which streams a change touches, and what a subscriber is sent.
+use Rattle.std.specs.Prelude.{◌≡◌, ℕ, nat_eq, Bool, false, List, [], Option, Some, None, Result, Ok, if◌then◌else◌, option_map}
+use Rattle.mesh_base.specs.declared.limits.Limits.{Limits}
+use Rattle.view_types.specs.Objects.{ObjectMap}
+use Rattle.view_types.specs.declared.config.Config.{Config}
+use Rattle.view_types.specs.declared.endpoint.EndpointView.{EndpointView}
+use Rattle.view_types.specs.declared.mark.Mark.{Mark}
+use Rattle.view_rules.specs.Batch.{endpoint_batch}
+use Rattle.mark_rules.specs.Marks.{meets}
+use Rattle.mark_rules.specs.Reads.{endpoint_reads}
+use Rattle.mark_rules.specs.Rows.{endpoint_row}
+use Rattle.mark_rules.specs.declared.keys.EndpointKey.{EndpointKey}
+use Rattle.feed_history.specs.Drains.{frames_within}
+use Rattle.feed_history.specs.declared.refusal.HubFault.{HubFault}
+
+-- ---- what is at each id
+
+-- this is at the id, and at each other id what was
+abbrev pub SetsAt : {X : Type 0} → ℕ → X → (ℕ → X) → (ℕ → X) → Type 0
+SetsAt id value old new = (n : ℕ) → new n ≡ (if nat_eq n id then value else old n)
+
+-- each id has what it had
+abbrev pub Keeps : {X : Type 0} → (ℕ → X) → (ℕ → X) → Type 0
+Keeps old new = (id : ℕ) → new id ≡ old id
+
+-- ---- what a stream shows
+
+-- the endpoints of a key over the objects held, if there is a key
+abbrev pub endpoints_at : Config → ObjectMap → Option EndpointKey → Option EndpointView
+endpoints_at config held key = option_map (endpoint_row config held) key
+
+-- the endpoints of a key, if there is one, read a mark of a change
+abbrev pub is_met : ObjectMap → List Mark → Option EndpointKey → Bool
+is_met held changed None = false
+is_met held changed (Some key) = meets (endpoint_reads held key) changed
+
+-- The frames that bring a subscriber from the endpoints that it was shown to those now. Without a stream there are none.
+abbrev pub frames_to : Limits → Option EndpointView → Option EndpointView → Result (List (List ℕ)) HubFault
+frames_to limits shown None = Ok []
+frames_to limits shown (Some now) = frames_within limits.message (endpoint_batch shown now limits)
