@@ -96,4 +96,8 @@ pub trait EndpointStreams: Drop {
         ensures stands { (config : Config) (limits : Limits) (held : ObjectMap)
             → stands self.old config limits held → stands self.new config limits held }
         ensures keys { Keeps (key_of self.old) (key_of self.new) };
+
+    /// The streams stand in one way only, so that a field of a struct may say that they do.
+    ghost unique: { (streams : Self) (config : Config) (limits : Limits) (held : ObjectMap)
+        → IsProp (stands streams config limits held) };
 }
