@@ -85,6 +85,8 @@ pub trait EndpointStreams: Drop {
     /// The frames that bring the subscriber of an id from the endpoints that it was last shown to those now. `Oversize` comes where
     /// a message is longer than may be; it tells the first such length. An error shows nobody anything.
     fn drain(&mut self, id: u64) -> Result<List<Bytes>, HubFault>
+        requires standing { (config : Config) × (limits : Limits) × (held : ObjectMap)
+            × stands self.old config limits held }
         ensures frames { (config : Config) (limits : Limits) (held : ObjectMap)
             → stands self.old config limits held → IsOrMemory (frames_to limits
             (shown_to self.old id) (endpoints_at config held (key_of self.old id))) result }
