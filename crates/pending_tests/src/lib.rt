@@ -1,9 +1,11 @@
 //! Tests of what a subscriber of endpoints is told after rows have changed. They stand apart, since a
 //! crate with tests is proved twice.
 //!
-//! Stands on pending_rows, and on view_fold for views with their rows in order.
+//! Stands on pending_rows and endpoint_groups, and on view_fold for views with their rows in order.
 #![tactic(auto)]
 
+#[cfg(test)]
+mod groups;
 #[cfg(test)]
 mod rows;
 #[cfg(test)]

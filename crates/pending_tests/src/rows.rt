@@ -9,7 +9,7 @@ use pending_rows::rows::PendingRows;
 use std::alloc::Global;
 
 /// Two addresses a message.
-const SMALL: Limits = Limits {
+pub(crate) const SMALL: Limits = Limits {
     line: 67_108_864,
     objects: 100,
     subs: 10,
