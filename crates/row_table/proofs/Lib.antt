@@ -1,6 +1,6 @@
 mod ByCmp
 pub mod Followed
-mod Keys
+pub mod Keys
 pub mod MarkLists
 mod Tied
 mod Users
