@@ -1,0 +1,32 @@
+use Rattle.std.proofs.Common.{◌≡◌, None, Some, subst, sym, ◌∙◌}
+use Rattle.mark_rules.specs.declared.keys.EndpointKey.{EndpointKey}
+use Rattle.row_table.specs.IndexRows.{OneMore}
+use Rattle.shared_endpoints.specs.ByKey.{SetsAt, key_cmp, streams_at}
+use Rattle.shared_endpoints.specs.Standing.{users}
+use Rattle.shared_endpoints.proofs.ByKey.{none_where, turned_puts}
+use Rattle.shared_endpoints.proofs.Standing.{enter_keeps, enter_stands}
+use Rattle.shared_endpoints.proofs.shared.SharedEndpoints.enter.Goals as goal
+
+pub returns-clause-stands : goal.returns-clause-stands
+returns-clause-stands g c = λ config limits standing.
+    let self = c.args.self.now in
+    let key = c.args.key.now in
+    let fresh = c.in_ok-streams.streams in
+    let next = c.enter.new.self in
+    let new = c.insert.new.self in
+    let absent : streams_at self.by_key key ≡ None = none_where (streams_at self.by_key key) (sym c.contains_key.ensures ∙ c.if-contains_key.false) in
+    let puts : SetsAt key (Some fresh) self.by_key new = subst (λ (k : EndpointKey). SetsAt k (Some fresh) self.by_key new) c.in_ok-own.ensures (turned_puts c.in_ok-own.own (Some fresh) self.by_key new c.in_ok-insert.ensures.updates.0) in
+    let more : OneMore key_cmp key (users self.index) (users next) = subst (λ (k : EndpointKey). OneMore key_cmp k (users self.index) (users next)) c.in_ok-copy.ensures c.in_ok-enter.ensures.users in
+    enter_stands config limits c.args.store.now.objects self.index next self.by_key new self.by_id self.limits key fresh absent puts c.in_ok-streams.ensures.none c.in_ok-streams.ensures.right more c.in_ok-enter.ensures.stands c.in_ok-enter.ensures.filter standing
+
+pub returns-clause-shown : goal.returns-clause-shown
+returns-clause-shown g c = λ config limits standing id.
+    let self = c.args.self.now in
+    let key = c.args.key.now in
+    let fresh = c.in_ok-streams.streams in
+    let next = c.enter.new.self in
+    let new = c.insert.new.self in
+    let absent : streams_at self.by_key key ≡ None = none_where (streams_at self.by_key key) (sym c.contains_key.ensures ∙ c.if-contains_key.false) in
+    let puts : SetsAt key (Some fresh) self.by_key new = subst (λ (k : EndpointKey). SetsAt k (Some fresh) self.by_key new) c.in_ok-own.ensures (turned_puts c.in_ok-own.own (Some fresh) self.by_key new c.in_ok-insert.ensures.updates.0) in
+    let more : OneMore key_cmp key (users self.index) (users next) = subst (λ (k : EndpointKey). OneMore key_cmp k (users self.index) (users next)) c.in_ok-copy.ensures c.in_ok-enter.ensures.users in
+    enter_keeps config limits c.args.store.now.objects self.index next self.by_key new self.by_id self.limits key fresh absent puts c.in_ok-streams.ensures.none c.in_ok-streams.ensures.right more c.in_ok-enter.ensures.stands c.in_ok-enter.ensures.filter standing id

@@ -1,0 +1,82 @@
+-- Streams by keys, and the key of each stream.
+use Rattle.std.specs.Prelude.{◌≡◌, ◌&&◌, ℕ, nat_eq, not, Bool, true, false, List, Option, Some, None, if◌then◌else◌}
+use Rattle.std.specs.Ordering.{eq_by_cmp}
+use Rattle.std.specs.Result.{result_ok}
+use Rattle.std.specs.declared.cmp.Ordering.{Ordering}
+use Rattle.mesh_base.specs.declared.limits.Limits.{Limits}
+use Rattle.view_rules.specs.Batch.{endpoint_batch}
+use Rattle.view_diff.specs.Earlier.{Stood, earlier_rows}
+use Rattle.view_types.specs.declared.endpoint.EndpointView.{EndpointView}
+use Rattle.feed_history.specs.Drains.{frames_within}
+use Rattle.key_streams.specs.declared.streams.KeyStreams.{KeyStreams}
+use Rattle.key_streams.specs.Streams.{AreRight, HasSame, has_stream, shown_for}
+
+module _ {F : Type 0} where
+  -- the id has one of the streams of a key, if it has any
+  abbrev pub has_at : Option (KeyStreams F) → ℕ → Bool
+  has_at None id = false
+  has_at (Some streams) id = has_stream streams id
+
+  -- what the subscriber of the id was last shown of the endpoints of the key
+  abbrev pub shown_at : Option (KeyStreams F) → ℕ → EndpointView → Option EndpointView
+  shown_at None id now = None
+  shown_at (Some streams) id now = shown_for streams id now
+
+  -- what is kept as the encoding of messages to the endpoints now is that
+  abbrev pub AreRightAt : (Option EndpointView → Option F) → EndpointView → Option (KeyStreams F) → Type 0
+  AreRightAt encode now None = Unit {0}
+  AreRightAt encode now (Some streams) = AreRight encode now streams
+
+  -- ---- what becomes of the streams of a key
+
+  -- The rows at these addresses have changed: each subscriber was last shown what it was, and no encoding is kept.
+  pub record Changed (before : List Stood) (old new : KeyStreams F) : Type 0 where
+    pub ids : HasSame old new
+    pub shown : (now was : EndpointView) → earlier_rows before now.rows ≡ was.rows → (id : ℕ) → shown_for new id now ≡ shown_for old id was
+    pub right : (encode : Option EndpointView → Option F) (now : EndpointView) → AreRight encode now new
+
+  abbrev pub ChangedAt : Bool → List Stood → Option (KeyStreams F) → Option (KeyStreams F) → Type 0
+  ChangedAt false before old new = new ≡ old
+  ChangedAt true before None None = Unit {0}
+  ChangedAt true before None (Some new) = ⊥
+  ChangedAt true before (Some old) None = ⊥
+  ChangedAt true before (Some old) (Some new) = Changed before old new
+
+  -- the stream of the id is closed
+  pub record LeftAt (id : ℕ) (old new : Option (KeyStreams F)) : Type 0 where
+    pub ids : (n : ℕ) → has_at new n ≡ (not (nat_eq n id) && has_at old n)
+    pub shown : (now : EndpointView) (n : ℕ) → has_at new n ≡ true → shown_at new n now ≡ shown_at old n now
+    pub right : (encode : Option EndpointView → Option F) (now : EndpointView) → AreRightAt encode now old → AreRightAt encode now new
+
+module _ {Key : Type 0} (cmp : Key → Key → Ordering) where
+  -- it is this key
+  abbrev pub is_key : Key → Option Key → Bool
+  is_key key None = false
+  is_key key (Some k) = eq_by_cmp cmp key k
+
+  module _ {F : Type 0} where
+    -- each stream is one of its key
+    abbrev pub AreTied : (Key → Option (KeyStreams F)) → (ℕ → Option Key) → Type 0
+    AreTied streams key_of = (key : Key) (id : ℕ) → has_at (streams key) id ≡ is_key key (key_of id)
+
+    -- Each stream is one of its key, and what is kept as the encoding of messages to the endpoints of a key is that.
+    pub record AreShared (encode : EndpointView → Option EndpointView → Option F) (row : Key → EndpointView) (streams : Key → Option (KeyStreams F)) (key_of : ℕ → Option Key) : Type 0 where
+      pub tied : AreTied streams key_of
+      pub right : (key : Key) → AreRightAt (encode (row key)) (row key) (streams key)
+
+    -- this stands at the key, and at each other key what did
+    abbrev pub PutsStreams : Key → Option (KeyStreams F) → (Key → Option (KeyStreams F)) → (Key → Option (KeyStreams F)) → Type 0
+    PutsStreams key value old new = (k : Key) → new k ≡ (if eq_by_cmp cmp k key then value else old k)
+
+    -- the streams of some keys change by what stood there before
+    abbrev pub ChangesAt : (Key → Bool) → (Key → List Stood) → (Key → Option (KeyStreams F)) → (Key → Option (KeyStreams F)) → Type 0
+    ChangesAt some notes old new = (k : Key) → ChangedAt (some k) (notes k) (old k) (new k)
+
+-- what the subscriber of an id was last shown of the endpoints of its key, if it has one
+abbrev pub shown_by : {Key F : Type 0} → (Key → Option (KeyStreams F)) → (Key → EndpointView) → ℕ → Option Key → Option EndpointView
+shown_by streams row id None = None
+shown_by streams row id (Some key) = shown_at (streams key) id (row key)
+
+-- The frames of the messages to the endpoints now, from those that were last shown, if each message is short enough.
+abbrev pub encoding : Limits → EndpointView → Option EndpointView → Option (List (List ℕ))
+encoding limits now shown = result_ok (frames_within limits.message (endpoint_batch shown now limits))
