@@ -4,9 +4,10 @@ use mio::net::TcpStream;
 use mio::{Events, Interest, Poll, Token};
 use mio_edge::mio_links::{ListenFault, MioLinks};
 use std::alloc::Global;
-use std::io::{self, Read, Write};
+use std::io::{self, ErrorKind, Read, Write};
 use std::net::{Ipv4Addr, Net, Shutdown, SocketAddr};
 use std::process::Abort;
+use std::sync::Wait;
 use std::test::Fail;
 use std::time::Duration;
 
@@ -140,14 +141,21 @@ fn many_links<R: Net + Abort, N: Links>(rt: &R, alloc: Global, links: &mut N) ->
     Ok(())
 }
 
+// How the system refuses to listen at an address, if it does, and with which reason.
+fn refused<R: Net + Wait>(rt: &R, alloc: Global, address: &str) -> Option<Option<ErrorKind>> {
+    match MioLinks::listen(rt, alloc, address) {
+        Err(ListenFault::Failed(error)) => Some(error.map(|error| error.kind())),
+        Err(ListenFault::Memory) | Ok(_) => None,
+    }
+}
+
 #[test]
 fn links_over_loopback(rt: HostRuntime) -> Result<(), Fail> {
     let alloc = rt.alloc();
-    let no_port = MioLinks::listen(&rt, alloc, "127.0.0.1").err();
-    assert_eq!(rt; no_port, Some(ListenFault::Failed));
+    assert_eq!(rt; refused(&rt, alloc, "127.0.0.1"), Some(None));
     let mut links = MioLinks::listen(&rt, alloc, ADDRESS)?;
-    let in_use = MioLinks::listen(&rt, alloc, ADDRESS).err();
-    assert_eq!(rt; in_use, Some(ListenFault::Failed));
+    let in_use = Some(Some(ErrorKind::AddrInUse));
+    assert_eq!(rt; refused(&rt, alloc, ADDRESS), in_use);
     assert_eq!(rt; links.poll(false)?.as_slice(), [].as_slice());
     there_and_back(&rt, alloc, &mut links)?;
     closed_links(&rt, &mut links)?;

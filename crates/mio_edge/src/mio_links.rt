@@ -33,11 +33,11 @@ const MOST_NEW: usize = 64;
 const MOST_READY: usize = 480;
 
 /// Why there is no listener.
-#[derive(Clone, Copy, Debug, PartialEq, Eq)]
+#[derive(Clone, Copy, Debug)]
 pub enum ListenFault {
     Memory,
-    /// The text isn't an address, or the system refused it.
-    Failed,
+    /// The system refused the address, with its reason, or the text isn't an address.
+    Failed(Option<io::Error>),
 }
 
 impl From<AllocError> for ListenFault {
@@ -48,13 +48,13 @@ impl From<AllocError> for ListenFault {
 
 impl From<AddrParseError> for ListenFault {
     fn from(_e: AddrParseError) -> ListenFault {
-        ListenFault::Failed
+        ListenFault::Failed(None)
     }
 }
 
 impl From<io::Error> for ListenFault {
-    fn from(_e: io::Error) -> ListenFault {
-        ListenFault::Failed
+    fn from(error: io::Error) -> ListenFault {
+        ListenFault::Failed(Some(error))
     }
 }
 
