@@ -1,5 +1,5 @@
 -- What a call of the program comes to.
-use Rattle.std.specs.Prelude.{◌≡◌, ℕ, Bool, List, Some, ⊤}
+use Rattle.std.specs.Prelude.{◌≡◌, ℕ, Bool, List, [], Some, ⊤}
 use Rattle.std.specs.declared.option.Option.{Option}
 use Rattle.mesh_base.specs.declared.sub_id.SubId.{SubId}
 use Rattle.view_types.specs.declared.config.Config.{Config}
@@ -7,13 +7,15 @@ use Rattle.view_types.specs.declared.query.Method.{Method}
 use Rattle.view_types.specs.declared.query.Query.{Query}
 use Rattle.command_words.specs.Commands.{command_in}
 use Rattle.command_words.specs.declared.command.Command.{Command}
-use Rattle.command_words.specs.declared.command.Command.TheVariants.{Replay, Diagnose, Fold, Sample}
+use Rattle.command_words.specs.declared.command.Command.TheVariants.{Replay, Diagnose, Fold, Sample, Serve}
 use Rattle.gen_cluster.specs.Generated.{generated}
 use Rattle.line_run.specs.Run.{OnEnd, OnStop}
 use Rattle.line_run.specs.declared.status.Status.{Status}
 use Rattle.line_run.specs.declared.status.Status.TheVariants as statuses
+use Rattle.mesh_base.specs.declared.limits.Limits.{Limits}
+use Rattle.serve_config.specs.declared.ServeConfig.{ServeConfig}
 use Rattle.command_run.specs.declared.top.Outcome.{Outcome}
-use Rattle.command_run.specs.declared.top.Outcome.TheVariants.{Ended}
+use Rattle.command_run.specs.declared.top.Outcome.TheVariants as outcomes
 
 -- P of the command that the words ask for
 abbrev pub OfCommand : List (List ℕ) → (Command → Type 0) → Type 0
@@ -35,24 +37,46 @@ OfFold words P = (id : SubId) (method : Method) → command_in words ≡ Some (F
 abbrev pub OfSample : List (List ℕ) → (ℕ → Config → Type 0) → Type 0
 OfSample words P = (n : ℕ) (config : Config) → command_in words ≡ Some (Sample n config) → P n config
 
+-- P of the address and the configuration, where the words ask for a server
+abbrev pub OfServe : List (List ℕ) → (List ℕ → Config → Type 0) → Type 0
+OfServe words P = (address : List ℕ) (config : Config) → command_in words ≡ Some (Serve address config) → P address config
+
 -- P of the status with which the call ended
 abbrev pub EndsWith : Outcome → (Status → Type 0) → Type 0
-EndsWith (Ended status) P = P status
+EndsWith (outcomes.Ended status) P = P status
+EndsWith (outcomes.Serve server) P = ⊤
+
+-- P of the configuration of the server that is to run
+abbrev pub ServesBy : Outcome → (ServeConfig → Type 0) → Type 0
+ServesBy (outcomes.Ended status) P = ⊤
+ServesBy (outcomes.Serve server) P = P server
+
+-- a server is to run with this configuration, or there is no memory to tell
+abbrev pub IsServed : ServeConfig → Outcome → Type 0
+IsServed expected (outcomes.Ended status) = status ≡ statuses.Memory
+IsServed expected (outcomes.Serve server) = server ≡ expected
+
+-- what a server is configured with
+abbrev pub server_of : List ℕ → Config → Limits → ServeConfig
+server_of address config limits = record { address = address; config = config; limits = limits }
 
 -- P of whether a line was refused, where all lines were read
 abbrev pub AtEnd : Outcome → (Bool → Type 0) → Type 0
-AtEnd (Ended status) P = OnEnd status P
+AtEnd (outcomes.Ended status) P = OnEnd status P
+AtEnd (outcomes.Serve server) P = ⊤
 
 -- P where the call stopped before that
 abbrev pub AtStop : Outcome → Type 0 → Type 0
-AtStop (Ended status) P = OnStop status P
+AtStop (outcomes.Ended status) P = OnStop status P
+AtStop (outcomes.Serve server) P = ⊤
 
--- the bytes that a command reads: those of the input, or the lines of the generated cluster
+-- the bytes that a command reads: those of the input, the lines of the generated cluster, or none
 abbrev pub read_by : Command → Option (List ℕ) → Option (List ℕ)
 read_by (Replay config) input = input
 read_by (Diagnose id query config) input = input
 read_by (Fold id method) input = input
 read_by (Sample n config) input = Some (generated n)
+read_by (Serve address config) input = Some []
 
 -- there is no command, or no memory to tell
 abbrev pub IsUnread : Status → Type 0

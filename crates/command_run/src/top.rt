@@ -8,7 +8,8 @@ ghost use Rattle.output_fold.specs.Headline.{WritesFolded, WritesFoldedFront};
 ghost use Rattle.diagnosis.specs.Headline.{WritesDiagnosed, WritesDiagnosedFront};
 ghost use Rattle.cluster_sample.specs.Headline.{WritesSample, WritesSampleFront};
 ghost use Rattle.command_words.specs.Commands.{command_in};
-ghost use Rattle.command_run.specs.Outcome.{AtEnd, AtStop, EndsWith, IsUnread, OfBytes, OfCommand, OfDiagnose, OfFold, OfReplay, OfSample, read_by};
+ghost use Rattle.command_words.specs.declared.command.Command.TheVariants as commands;
+ghost use Rattle.command_run.specs.Outcome.{AtEnd, AtStop, EndsWith, IsUnread, OfBytes, OfCommand, OfDiagnose, OfFold, OfReplay, OfSample, OfServe, IsServed, ServesBy, read_by, server_of};
 
 use cluster_sample::sample::sample;
 use command_words::command::Command;
@@ -23,18 +24,21 @@ use mesh_hub::machine::Machine;
 use mesh_outside::{Patterns, Sink, Source};
 use output_fold::fold::fold_file;
 use replay_core::replay::replay;
+use serve_config::ServeConfig;
 use std::alloc::Global;
 use view_types::config::Config;
 use view_types::query::{Method, Query};
 
 /// What a call of the program came to.
-#[derive(Clone, Copy, Debug, PartialEq, Eq)]
+#[derive(Drop)]
 pub enum Outcome {
     /// The command has ended.
     Ended(Status),
+    /// The words ask for a server of this configuration, which hasn't run.
+    Serve(ServeConfig),
 }
 
-/// Does all that the program does: what the words ask for, from the input to the output.
+/// Does what the words ask for, from the input to the output. Of a server it gives the configuration, by which the caller runs it.
 pub fn top<H: Machine, S: Source, K: Sink, P: Patterns>(
     alloc: Global,
     words: &[Text],
@@ -138,6 +142,20 @@ pub fn top<H: Machine, S: Source, K: Sink, P: Patterns>(
     ensures sampled_alone { OfSample words.now (λ n config.
         (input.new ≡ input.old) × EndsWith result (λ status. status ≢ Status.ReadFault)) }
 
+    // ---- serve
+
+    // The address and the configuration that the words give, and the limits handed in.
+    ensures serve { OfServe words.now (λ address config.
+        IsServed (server_of address config limits.now) result) }
+    // Only words that ask for a server give one.
+    ensures served { ServesBy result (λ server.
+        (command_in words.now ≡ Some (commands.Serve server.address server.config))
+        × (server.limits ≡ limits.now)) }
+    // Nothing is read or written.
+    ensures unserved { OfServe words.now (λ address config.
+        (hub.new ≡ hub.old) × (input.new ≡ input.old) × (out.new ≡ out.old)
+        × (patterns.new ≡ patterns.old)) }
+
     // ---- any command
 
     // No count falls, and each fault is told by its status.
@@ -179,6 +197,11 @@ pub fn top<H: Machine, S: Source, K: Sink, P: Patterns>(
         Ok(Command::Sample { n, config }) => {
             Outcome::Ended(sample(alloc, hub, &config, limits, n, out, patterns))
         }
+        Ok(Command::Serve { address, config }) => Outcome::Serve(ServeConfig {
+            address,
+            config,
+            limits: *limits,
+        }),
         Err(WordsFault::Usage) => Outcome::Ended(Status::Usage),
         Err(WordsFault::Memory) => Outcome::Ended(Status::Memory),
     }

@@ -255,6 +255,75 @@ sample 5 --default-policy=deny --cluster-networks=::/0 --control-plane-namespace
 replay --cluster-domain c --trust-domain T => usage
 replay --cluster-domain C --trust-domain t => usage";
 
+// Addresses to listen on, and the other words of a server.
+const SERVERS: &str = "serve --bind 127.0.0.1:8086 => serve 127.0.0.1:8086
+serve --bind=127.0.0.1:8086 => serve 127.0.0.1:8086
+serve --bind 0.0.0.0:1 => serve 0.0.0.0:1
+serve --bind 255.255.255.255:65535 => serve 255.255.255.255:65535
+serve --bind [::1]:8086 => serve [::1]:8086
+serve --bind [::]:80 => serve [::]:80
+serve --bind [FD00::A]:80 => serve [FD00::A]:80
+serve --bind [1:2:3:4:5:6:7:8]:80 => serve [1:2:3:4:5:6:7:8]:80
+serve --bind [::ffff:10.0.0.1]:80 => serve [::ffff:10.0.0.1]:80
+serve --bind 127.0.0.1 => usage
+serve --bind 127.0.0.1: => usage
+serve --bind 127.0.0.1:0 => usage
+serve --bind 127.0.0.1:65536 => usage
+serve --bind 127.0.0.1:18446744073709551617 => usage
+serve --bind 127.0.0.1:080 => usage
+serve --bind 127.0.0.1:+80 => usage
+serve --bind 127.0.0.1:-80 => usage
+serve --bind 127.0.0.1:http => usage
+serve --bind 127.0.0.1:80: => usage
+serve --bind 127.0.0.1:80:80 => usage
+serve --bind 127.0.0.1::80 => usage
+serve --bind 127.0.0.256:80 => usage
+serve --bind 127.0.0.01:80 => usage
+serve --bind 127.0.0:80 => usage
+serve --bind 127.0.0.1/32:80 => usage
+serve --bind :80 => usage
+serve --bind : => usage
+serve --bind 80 => usage
+serve --bind localhost:80 => usage
+serve --bind web.app.svc.cluster.local:80 => usage
+serve --bind [127.0.0.1]:80 => usage
+serve --bind ::1:80 => usage
+serve --bind [::1] => usage
+serve --bind [::1]: => usage
+serve --bind [::1]80 => usage
+serve --bind [::1]:0 => usage
+serve --bind [::1]:080 => usage
+serve --bind [::1]:65536 => usage
+serve --bind [::1]:80] => usage
+serve --bind [::1]]:80 => usage
+serve --bind [[::1]:80 => usage
+serve --bind [::1:80 => usage
+serve --bind ::1]:80 => usage
+serve --bind [::1%1]:80 => usage
+serve --bind []:80 => usage
+serve --bind [ => usage
+serve --bind [] => usage
+serve --bind '' => usage
+serve --bind => usage
+serve 127.0.0.1:80 => usage
+serve 127.0.0.1 80 => usage
+serve --bind 127.0.0.1 --port 80 => usage
+serve --bind 127.0.0.1:80 5 => usage
+serve --bind 127.0.0.1:80 -- => serve 127.0.0.1:80
+serve -- --bind 127.0.0.1:80 => usage
+serve --bind 127.0.0.1:80 --bind [::1]:80 => usage
+serve --bin 127.0.0.1:80 => usage
+serve --bind 127.0.0.1:80 --help => usage
+serve --bind 127.0.0.1:80 --id 1 => usage
+serve --bind 127.0.0.1:80 --method Get => usage
+serve --bind 127.0.0.1:80 --path web.app.svc.cluster.local => usage
+serve --bind 127.0.0.1:80 --default-policy deny => serve 127.0.0.1:80 default-policy=deny
+serve --bind 127.0.0.1:80 --default-policy allow => usage
+serve --default-policy deny => usage
+SERVE --bind 127.0.0.1:80 => usage
+serves --bind 127.0.0.1:80 => usage
+serv --bind 127.0.0.1:80 => usage";
+
 // Each method with all that it needs, with each part left out or unreadable, and with what it doesn't need.
 const GETS: &str =
     r#"diagnose --id 1 --method Get --path web.app.svc.cluster.local:8080 => diagnose 1 Get app/web:8080
@@ -384,6 +453,7 @@ fn each_command(rt: HostRuntime) -> Result<(), Fail> {
         OTHER_OPTIONS,
         FOLDS,
         SAMPLES,
+        SERVERS,
         POLICIES,
         NETWORKS,
         NAMES,

@@ -14,6 +14,12 @@ sample 5 | trust-domain | a.b | sample 5 trust-domain=a.b | usage
 sample 5 | control-plane-namespace | l5d | sample 5 control-plane-namespace=l5d | usage
 sample 5 | cluster-networks | 10.1.0.0/16 | sample 5 cluster-networks=4:a010000/16 | usage
 sample 5 | default-policy | deny | sample 5 default-policy=deny | usage
+serve --default-policy deny | bind | [::1]:80 | serve [::1]:80 default-policy=deny | usage
+serve --bind 127.0.0.1:80 | cluster-domain | mesh | serve 127.0.0.1:80 cluster-domain=mesh | usage
+serve --bind 127.0.0.1:80 | trust-domain | a.b | serve 127.0.0.1:80 trust-domain=a.b | usage
+serve --bind 127.0.0.1:80 | control-plane-namespace | l5d | serve 127.0.0.1:80 control-plane-namespace=l5d | usage
+serve --bind 127.0.0.1:80 | cluster-networks | 10.1.0.0/16 | serve 127.0.0.1:80 cluster-networks=4:a010000/16 | usage
+serve --bind 127.0.0.1:80 | default-policy | deny | serve 127.0.0.1:80 default-policy=deny | usage
 fold --method Get | id | 7 | fold 7 Get | usage
 fold --id 7 | method | Watch | fold 7 Watch | usage
 diagnose --method Watch --path 10.0.0.1:80 | id | 7 | diagnose 7 Watch 4:a000001:80 | usage

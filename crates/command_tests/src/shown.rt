@@ -172,6 +172,11 @@ fn command_text(alloc: Global, command: &Command) -> Result<String, Fail> {
             let settings = settings(alloc, config)?;
             Ok(format!(in alloc; "sample {n}{settings}")?)
         }
+        Command::Serve { address, config } => {
+            let address = address.as_str();
+            let settings = settings(alloc, config)?;
+            Ok(format!(in alloc; "serve {address}{settings}")?)
+        }
     }
 }
 

@@ -11,7 +11,7 @@ use Rattle.view_types.specs.Defaults.{usual_config}
 use Rattle.view_types.specs.declared.config.Config.{Config}
 use Rattle.command_words.specs.Apps.{matched, name_of}
 use Rattle.command_words.specs.Arguments.{text_at}
-use Rattle.command_words.specs.Commands.{command_in, command_named, command_of, diagnose_in, fold_in, replay_in, sample_in}
+use Rattle.command_words.specs.Commands.{command_in, command_named, command_of, diagnose_in, fold_in, replay_in, sample_in, serve_in}
 use Rattle.command_words.specs.Configured.{ConfigIs}
 use Rattle.command_words.specs.Gives.{defaulted, then}
 use Rattle.command_words.specs.Settings.{config_in, named}
@@ -65,7 +65,7 @@ module _ (P : Config → Type 0) (of_texts : (config : Config) → IsUtf8 config
       of_texts (record { cluster_domain = domain; trust_domain = trust; control_ns = ns; cluster_nets = nets; default_policy = policy }) domain_good trust_good ns_good)))))
 
   command_is : (name : Name) (rows : List Row) → IfSome (command_of name rows) (ConfigIs P)
-  unfolding command_of replay_in diagnose_in fold_in sample_in
+  unfolding command_of replay_in diagnose_in fold_in sample_in serve_in
   command_is names.Replay rows = then_if (config_in rows) _ P (ConfigIs P) (config_is rows) (λ config good. good)
   command_is names.Diagnose rows =
       then_any _ _ (ConfigIs P) (λ id.
@@ -74,6 +74,7 @@ module _ (P : Config → Type 0) (of_texts : (config : Config) → IsUtf8 config
       then_any _ _ (ConfigIs P) (λ query. good))))
   command_is names.Fold rows = then_any _ _ (ConfigIs P) (λ id. then_any _ _ (ConfigIs P) (λ method. tt))
   command_is names.Sample rows = then_any _ _ (ConfigIs P) (λ n. then_if (config_in rows) _ P (ConfigIs P) (config_is rows) (λ config good. good))
+  command_is names.Serve rows = then_any _ _ (ConfigIs P) (λ address. then_if (config_in rows) _ P (ConfigIs P) (config_is rows) (λ config good. good))
 
   named_is : (name : Option Name) (words : List (List ℕ)) → IfSome (command_named name words) (ConfigIs P)
   named_is None words = tt

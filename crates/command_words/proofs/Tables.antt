@@ -36,6 +36,7 @@ all_are_simple names.Replay = refl
 all_are_simple names.Diagnose = refl
 all_are_simple names.Fold = refl
 all_are_simple names.Sample = refl
+all_are_simple names.Serve = refl
 
 pub all_are_free : (name : Name) → is_simple_and_free (app_for name) ≡ true
 unfolding app_for with_options argument_text
@@ -43,3 +44,4 @@ all_are_free names.Replay = refl
 all_are_free names.Diagnose = refl
 all_are_free names.Fold = refl
 all_are_free names.Sample = refl
+all_are_free names.Serve = refl

@@ -4,7 +4,7 @@ use Rattle.clap.specs.Words.{App, Kinds, Row, Rule, Text, fault_of, matches_of, 
 use Rattle.clap.specs.declared.builder.ArgAction.TheVariants.{Set}
 use Rattle.command_words.specs.Arguments.{argument_text}
 use Rattle.command_words.specs.declared.argument.Argument.{Argument}
-use Rattle.command_words.specs.declared.argument.Argument.TheVariants.{Id, Method, Path, Workload, Port, Token, ClusterDomain, TrustDomain, ControlPlaneNamespace, ClusterNetworks, DefaultPolicy, Number}
+use Rattle.command_words.specs.declared.argument.Argument.TheVariants.{Id, Method, Path, Workload, Port, Token, ClusterDomain, TrustDomain, ControlPlaneNamespace, ClusterNetworks, DefaultPolicy, Bind, Number}
 use Rattle.command_words.specs.declared.command.Name.{Name}
 use Rattle.command_words.specs.declared.command.Name.TheVariants as names
 
@@ -40,6 +40,7 @@ app_for names.Replay = with_options (plain (codes "replay")) settings
 app_for names.Diagnose = with_options (with_options (with_options (plain (codes "diagnose")) subscription) query) settings
 app_for names.Fold = with_options (plain (codes "fold")) subscription
 app_for names.Sample = with_options (with_rule (plain (codes "sample")) (word_rule (argument_text Number))) settings
+app_for names.Serve = with_options (with_rule (plain (codes "serve")) (option_rule (argument_text Bind))) settings
 
 -- the command that the first word names
 unfoldable pub name_of : List ℕ → Option Name
@@ -47,7 +48,8 @@ name_of word =
     if bytes_eq word (codes "replay") then Some names.Replay else
     if bytes_eq word (codes "diagnose") then Some names.Diagnose else
     if bytes_eq word (codes "fold") then Some names.Fold else
-    if bytes_eq word (codes "sample") then Some names.Sample else None
+    if bytes_eq word (codes "sample") then Some names.Sample else
+    if bytes_eq word (codes "serve") then Some names.Serve else None
 
 abbrev pub are_none : Kinds → Bool
 are_none [] = true

@@ -3,7 +3,7 @@ use Rattle.std.specs.Prelude.{ℕ, List, Option, codes}
 use Rattle.clap.specs.Words.{Row, first_of, found_of, rows_of}
 use Rattle.clap.specs.declared.parser.matches.ArgMatches.{ArgMatches}
 use Rattle.command_words.specs.declared.argument.Argument.{Argument}
-use Rattle.command_words.specs.declared.argument.Argument.TheVariants.{Id, Method, Path, Workload, Port, Token, ClusterDomain, TrustDomain, ControlPlaneNamespace, ClusterNetworks, DefaultPolicy, Number}
+use Rattle.command_words.specs.declared.argument.Argument.TheVariants.{Id, Method, Path, Workload, Port, Token, ClusterDomain, TrustDomain, ControlPlaneNamespace, ClusterNetworks, DefaultPolicy, Bind, Number}
 
 unfoldable pub argument_text : Argument → List ℕ
 argument_text Id = codes "id"
@@ -17,6 +17,7 @@ argument_text TrustDomain = codes "trust-domain"
 argument_text ControlPlaneNamespace = codes "control-plane-namespace"
 argument_text ClusterNetworks = codes "cluster-networks"
 argument_text DefaultPolicy = codes "default-policy"
+argument_text Bind = codes "bind"
 argument_text Number = codes "n"
 
 -- the matches of the words

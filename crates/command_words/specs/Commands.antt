@@ -9,6 +9,7 @@ use Rattle.command_words.specs.Diagnosed.{query_in}
 use Rattle.command_words.specs.Gives.{◌>>=◌, needed}
 use Rattle.command_words.specs.Numbers.{number_within}
 use Rattle.command_words.specs.Settings.{config_in}
+use Rattle.command_words.specs.Sockets.{socket_of}
 use Rattle.command_words.specs.declared.argument.Argument.TheVariants as arguments
 use Rattle.command_words.specs.declared.command.Command.{Command}
 use Rattle.command_words.specs.declared.command.Command.TheVariants as commands
@@ -45,11 +46,18 @@ sample_in rows = do
   config ← config_in rows
   Some (commands.Sample n config)
 
+unfoldable pub serve_in : List Row → Option Command
+serve_in rows = do
+  address ← needed socket_of (text_at arguments.Bind rows)
+  config ← config_in rows
+  Some (commands.Serve address config)
+
 unfoldable pub command_of : Name → List Row → Option Command
 command_of names.Replay rows = replay_in rows
 command_of names.Diagnose rows = diagnose_in rows
 command_of names.Fold rows = fold_in rows
 command_of names.Sample rows = sample_in rows
+command_of names.Serve rows = serve_in rows
 
 abbrev pub command_named : Option Name → List (List ℕ) → Option Command
 command_named (Some name) words = matched name words >>= command_of name

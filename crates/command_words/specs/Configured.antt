@@ -2,7 +2,7 @@
 use Rattle.std.specs.Prelude.{⊤}
 use Rattle.view_types.specs.declared.config.Config.{Config}
 use Rattle.command_words.specs.declared.command.Command.{Command}
-use Rattle.command_words.specs.declared.command.Command.TheVariants.{Replay, Diagnose, Fold, Sample}
+use Rattle.command_words.specs.declared.command.Command.TheVariants.{Replay, Diagnose, Fold, Sample, Serve}
 
 -- P of the configuration, where the command has one
 abbrev pub ConfigIs : (Config → Type 0) → Command → Type 0
@@ -10,3 +10,4 @@ ConfigIs P (Replay config) = P config
 ConfigIs P (Diagnose id query config) = P config
 ConfigIs P (Fold id method) = ⊤
 ConfigIs P (Sample n config) = P config
+ConfigIs P (Serve address config) = P config

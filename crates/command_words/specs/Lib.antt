@@ -6,4 +6,5 @@ pub mod Diagnosed
 pub mod Gives
 pub mod Numbers
 pub mod Settings
+pub mod Sockets
 pub mod Written

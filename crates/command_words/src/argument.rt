@@ -15,6 +15,7 @@ pub(crate) enum Argument {
     ControlPlaneNamespace,
     ClusterNetworks,
     DefaultPolicy,
+    Bind,
     /// The number of `sample`, which stands alone.
     Number,
 }
@@ -37,6 +38,7 @@ impl Argument {
             Argument::ControlPlaneNamespace => "control-plane-namespace",
             Argument::ClusterNetworks => "cluster-networks",
             Argument::DefaultPolicy => "default-policy",
+            Argument::Bind => "bind",
             Argument::Number => "n",
         }
     }

@@ -1,14 +1,16 @@
 ghost use Rattle.command_words.specs.Arguments.{rows_in};
-ghost use Rattle.command_words.specs.Commands.{command_of, diagnose_in, fold_in, id_in, replay_in, sample_in};
+ghost use Rattle.command_words.specs.Commands.{command_of, diagnose_in, fold_in, id_in, replay_in, sample_in, serve_in};
 ghost use Rattle.command_words.specs.Gives.{Gives};
 
 use crate::argument::Argument;
 use crate::config::read_config;
 use crate::fault::WordsFault;
 use crate::query::read_query;
+use crate::socket::read_socket;
 use crate::value::{read_method, read_number_at};
 use clap::ArgMatches;
 use mesh_base::sub_id::SubId;
+use mesh_base::text::Text;
 use std::alloc::Global;
 use view_types::config::Config;
 use view_types::query::{Method, Query};
@@ -31,6 +33,11 @@ pub enum Command {
         n: u32,
         config: Config,
     },
+    /// `address` is an IP address and a port to listen on, as `127.0.0.1:8086` or `[::1]:8086`.
+    Serve {
+        address: Text,
+        config: Config,
+    },
 }
 
 /// Which command the first word names.
@@ -40,6 +47,7 @@ pub(crate) enum Name {
     Diagnose,
     Fold,
     Sample,
+    Serve,
 }
 
 #[tactic(auto, unfolding(crate::specs::Gives::then, crate::specs::Commands::id_in))]
@@ -90,6 +98,15 @@ fn read_sample<'a>(alloc: Global, matches: &ArgMatches<'a>) -> Result<Command, W
     })
 }
 
+#[tactic(auto, unfolding(crate::specs::Gives::then, crate::specs::Commands::serve_in))]
+fn read_serve<'a>(alloc: Global, matches: &ArgMatches<'a>) -> Result<Command, WordsFault>
+    ensures { Gives result (serve_in (rows_in matches.now)) }
+{
+    let address = read_socket(alloc, matches)?;
+    let config = read_config(alloc, matches)?;
+    Ok(Command::Serve { address, config })
+}
+
 /// The command of this name whose arguments were matched.
 #[tactic(auto, unfolding(crate::specs::Commands::command_of))]
 pub(crate) fn read_command<'a>(
@@ -104,5 +121,6 @@ pub(crate) fn read_command<'a>(
         Name::Diagnose => read_diagnose(alloc, matches),
         Name::Fold => read_fold(matches),
         Name::Sample => read_sample(alloc, matches),
+        Name::Serve => read_serve(alloc, matches),
     }
 }

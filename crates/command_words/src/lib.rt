@@ -12,5 +12,6 @@ pub mod fault;
 pub mod laws;
 mod parse;
 mod query;
+mod socket;
 mod value;
 pub mod words;

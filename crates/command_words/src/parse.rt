@@ -89,6 +89,10 @@ fn command_for<'a>(alloc: Global, name: Name) -> Result<Command<'a>, AllocError>
             let command = with_number(alloc, plain(alloc, "sample"))?;
             with_options(alloc, command, &SETTINGS)
         }
+        Name::Serve => {
+            let command = with_option(alloc, plain(alloc, "serve"), Argument::Bind)?;
+            with_options(alloc, command, &SETTINGS)
+        }
     }
 }
 

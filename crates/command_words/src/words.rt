@@ -22,6 +22,8 @@ fn name_of(word: &str) -> Option<Name>
         Some(Name::Fold)
     } else if word == "sample" {
         Some(Name::Sample)
+    } else if word == "serve" {
+        Some(Name::Serve)
     } else {
         None
     }

@@ -3,6 +3,7 @@ ghost use Rattle.std.specs.Process.{exit_status};
 ghost use Rattle.line_run.specs.Status.{code_of};
 
 use line_run::Status;
+use serve_core::serve::ServeStatus;
 use std::process::ExitCode;
 
 /// The exit status of the process.
@@ -10,4 +11,17 @@ pub(crate) fn exit_code(status: Status) -> ExitCode
     ensures { exit_status result ≡ code_of status }
 {
     ExitCode::from(status.code())
+}
+
+/// The exit status of the process, where it was to serve links.
+pub(crate) fn server_code(status: ServeStatus) -> ExitCode
+    ensures stopped { status ≡ ServeStatus.Stopped → exit_status result ≡ 0 }
+    ensures memory { status ≡ ServeStatus.Memory → exit_status result ≡ 3 }
+    ensures links { status ≡ ServeStatus.LinksFault → exit_status result ≡ 4 }
+{
+    ExitCode::from(match status {
+        ServeStatus::Stopped => 0,
+        ServeStatus::Memory => 3,
+        ServeStatus::LinksFault => 4,
+    })
 }

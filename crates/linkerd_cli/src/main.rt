@@ -1,15 +1,21 @@
-//! The program: the destination and policy controllers of a Linkerd 2 control plane, over a recorded feed.
+//! The program: the destination and policy controllers of a Linkerd 2 control plane, over a recorded feed or over links.
 //!
-//! Stands on command_run for what a command does, on mesh_outside for standard input and output, on regex_patterns for the regular
-//! expressions of routes, and on run_report for what standard error is told. `main` hands the words to `command_run::top::top`,
-//! whose contract is that of the program.
+//! Stands on command_run for what a command does, on serve_core for a server, on mesh_outside for standard input and output, on
+//! mio_edge for sockets, on regex_patterns for the regular expressions of routes, and on run_report for what standard error is told.
+//! `main` hands the words to `command_run::top::top`, whose contract is that of the program, and runs the server that it configures
+//! by `serve_core::serve::serve_top`.
 #![tactic(auto)]
+
+ghost use Rattle.std.specs.Prelude.{◌≤◌};
+ghost use Rattle.command_run.specs.Outcome.{ServesBy};
 
 mod exit;
 mod reader;
+mod serve;
 
 use crate::exit::exit_code;
 use crate::reader::Reader;
+use crate::serve::serve;
 use command_run::top::{Outcome, top};
 use command_run::words::words_of;
 use line_run::Status;
@@ -91,21 +97,24 @@ fn tell_usage(rt: &HostRuntime, words: WrongWords<'_>) -> Status {
     Status::Usage
 }
 
-// Does what the words of the command line ask for, and tells standard error of it.
-fn run<'a>(
-    rt: &'a HostRuntime,
-    start: StartTime,
-    words: &'a [Text],
-    last: &'a LastError,
-) -> Status {
+// Finds what is wrong with words that are no command.
+fn tell_wrong(rt: &HostRuntime, words: &[Text]) -> Status {
+    let reader = Reader { alloc: rt.alloc() };
+    tell_usage(rt, WrongWords::of(rt.alloc(), words, &reader))
+}
+
+// Does what the words of the command line ask for, but for serving, and tells standard error of it.
+fn run<'a>(rt: &'a HostRuntime, start: StartTime, words: &'a [Text], last: &'a LastError) -> Outcome
+    ensures { ServesBy result (λ server. 1 ≤ server.limits.frame_addrs) }
+{
     let Ok(mut hub) = new_hub(rt.alloc()) else {
-        return tell(rt, Status::Memory, None, None);
+        return Outcome::Ended(tell(rt, Status::Memory, None, None));
     };
     let stdin = ReadSource::new(ErrorKeeper::new(rt.stdin(), last));
     let stdout = WriteSink::new(ErrorKeeper::new(rt.stdout(), last));
     let mut input = InputTally::new(rt.alloc(), stdin, progress(rt, start, words));
     let mut out = OutputTally::new(rt.alloc(), stdout, output_screen(rt));
-    let Outcome::Ended(status) = top(
+    let outcome = top(
         rt.alloc(),
         words,
         &Limits::usual(),
@@ -114,35 +123,34 @@ fn run<'a>(
         &mut out,
         &mut RegexPatterns::new(rt.alloc()),
     );
-    if status == Status::Usage {
-        let reader = Reader { alloc: rt.alloc() };
-        return tell_usage(rt, WrongWords::of(rt.alloc(), words, &reader));
-    }
-    let read = input.end();
-    let held = held_in(&hub);
-    let elapsed = start.elapsed(rt);
-    let Some(command_line) = CommandLine::of(words) else {
-        return tell(rt, status, last.get(), None);
+    let status = match outcome {
+        Outcome::Ended(Status::Usage) => return Outcome::Ended(tell_wrong(rt, words)),
+        Outcome::Ended(status) => status,
+        Outcome::Serve(server) => return Outcome::Serve(server),
     };
-    let run = Run {
+    let read = input.end();
+    let run = CommandLine::of(words).map(|command_line| Run {
         command_line,
         read,
         feed: &input.feed,
         written: out.counts,
         output: &out.notes,
-        held,
-        elapsed,
-    };
-    tell(rt, status, last.get(), Some(run))
+        held: held_in(&hub),
+        elapsed: start.elapsed(rt),
+    });
+    Outcome::Ended(tell(rt, status, last.get(), run))
 }
 
 fn main(rt: HostRuntime) -> ExitCode {
     let start = StartTime::now(&rt);
     let last = LastError::new(None);
-    let status = match words_of(&rt) {
+    let outcome = match words_of(&rt) {
         Ok(words) => run(&rt, start, &words, &last),
-        Err(Status::Usage) => tell_usage(&rt, WrongWords::not_utf8()),
-        Err(status) => tell(&rt, status, None, None),
+        Err(Status::Usage) => Outcome::Ended(tell_usage(&rt, WrongWords::not_utf8())),
+        Err(status) => Outcome::Ended(tell(&rt, status, None, None)),
     };
-    exit_code(status)
+    match outcome {
+        Outcome::Ended(status) => exit_code(status),
+        Outcome::Serve(server) => serve(&rt, &server),
+    }
 }

@@ -2,11 +2,13 @@ ghost use Rattle.std.specs.Prelude.{◌≤◌};
 
 use crate::cases::holds_by;
 use crate::lines::GET;
-use crate::runs::{sink_of, source_of, tried};
+use crate::runs::{outcome_of, sink_of, source_of, tried};
+use command_run::top::Outcome;
 use line_run::Status;
 use mesh_base::limits::Limits;
 use std::alloc::Global;
 use std::test::Fail;
+use view_types::policy::Policy;
 
 // Lines, and lines that are written, each after its name.
 const NAMED: &str = r#"broken: {"type":"ADDED"
@@ -100,7 +102,13 @@ fold --id 1 --method Get --path web.app.svc.cluster.local:80
 sample
 sample 1001
 sample 5 5
-sample -1";
+sample -1
+serve
+serve --bind 127.0.0.1
+serve --bind 127.0.0.1:0
+serve --bind localhost:8086
+serve --bind 127.0.0.1:8086 --id 1
+serve --default-policy deny";
 
 // What words come to over these limits: the status, how many reads there were, how many writes, and how many bytes were
 // written. The reads and the writes of these numbers fail.
@@ -125,6 +133,32 @@ fn nothing_is_read_for_other_words(rt: HostRuntime) -> Result<(), Fail> {
         let ended = calls_of(alloc, words, &Limits::USUAL, &[])?;
         assert_eq!(rt; ended, (Status::Usage, 0, 0, 0), "at {words}");
     }
+    Ok(())
+}
+
+// The words of a server give its configuration. Nothing is read or written, so the reads and writes that would fail don't matter.
+#[test]
+fn a_server_is_configured(rt: HostRuntime) -> Result<(), Fail> {
+    let alloc = rt.alloc();
+    let words = "serve --bind [::1]:8086 --cluster-domain mesh --default-policy=deny";
+    let limits = Limits {
+        links: 3,
+        ..Limits::USUAL
+    };
+    let mut input = source_of(alloc, GET, &[1])?;
+    let mut out = sink_of(alloc, &[1])?;
+    let outcome = outcome_of(alloc, words, &limits, &mut input, &mut out)?;
+    let Outcome::Serve(server) = outcome else {
+        return Err(Fail::new("no server is to run"));
+    };
+    assert_eq!(rt; server.address.as_str(), "[::1]:8086");
+    assert_eq!(rt; server.config.cluster_domain.as_str(), "mesh");
+    assert_eq!(rt; server.config.trust_domain.as_str(), "cluster.local");
+    assert_eq!(rt; server.config.control_ns.as_str(), "linkerd");
+    assert_eq!(rt; server.config.cluster_nets.len(), 4);
+    assert!(rt; server.config.default_policy == Policy::Deny);
+    assert_eq!(rt; server.limits, limits);
+    assert_eq!(rt; (input.calls, out.calls, out.bytes.len()), (0, 0, 0));
     Ok(())
 }
 

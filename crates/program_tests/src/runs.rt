@@ -49,6 +49,14 @@ pub(crate) fn words_of(alloc: Global, line: &str) -> Result<Vec<Text>, Fail> {
     Ok(words)
 }
 
+// The status of a command that is no server.
+pub(crate) fn ended(outcome: Outcome) -> Result<Status, Fail> {
+    match outcome {
+        Outcome::Ended(status) => Ok(status),
+        Outcome::Serve(_) => Err(Fail::new("a server is to run")),
+    }
+}
+
 // What words make of bytes in memory: no read and no write fails, so they are read to their end unless there is no memory.
 fn replayed(
     alloc: Global,
@@ -56,14 +64,12 @@ fn replayed(
     limits: &Limits,
     bytes: &[u8],
     out: &mut SureSink,
-) -> Status
+) -> Result<Status, Fail>
     requires { 1 ≤ limits.now.frame_addrs }
 {
-    let Ok(mut hub) = hub_of(alloc) else {
-        return Status::Memory;
-    };
+    let mut hub = hub_of(alloc)?;
     let mut input = SureSource { bytes };
-    let Outcome::Ended(status) = top(
+    ended(top(
         alloc,
         words,
         limits,
@@ -71,8 +77,7 @@ fn replayed(
         &mut input,
         out,
         &mut RegexPatterns::new(alloc),
-    );
-    status
+    ))
 }
 
 // What a command, written as one line, makes of the text of an input.
@@ -88,7 +93,7 @@ pub(crate) fn run_of(
     let mut out = SureSink {
         bytes: Vec::new(alloc),
     };
-    let status = replayed(alloc, &words, limits, text.as_bytes(), &mut out);
+    let status = replayed(alloc, &words, limits, text.as_bytes(), &mut out)?;
     let written = String::from_utf8(out.bytes)?;
     Ok((status, written))
 }
@@ -104,6 +109,29 @@ pub(crate) fn comes_to(
     Ok(ended == status && written.as_str() == expected)
 }
 
+// What words come to over a source and a sink.
+pub(crate) fn outcome_of(
+    alloc: Global,
+    words: &str,
+    limits: &Limits,
+    input: &mut MemSource,
+    out: &mut MemSink,
+) -> Result<Outcome, Fail>
+    requires { 1 ≤ limits.now.frame_addrs }
+{
+    let words = words_of(alloc, words)?;
+    let mut hub = hub_of(alloc)?;
+    Ok(top(
+        alloc,
+        &words,
+        limits,
+        &mut hub,
+        input,
+        out,
+        &mut RegexPatterns::new(alloc),
+    ))
+}
+
 // How words end over a source and a sink.
 pub(crate) fn tried(
     alloc: Global,
@@ -114,16 +142,5 @@ pub(crate) fn tried(
 ) -> Result<Status, Fail>
     requires { 1 ≤ limits.now.frame_addrs }
 {
-    let words = words_of(alloc, words)?;
-    let mut hub = hub_of(alloc)?;
-    let Outcome::Ended(status) = top(
-        alloc,
-        &words,
-        limits,
-        &mut hub,
-        input,
-        out,
-        &mut RegexPatterns::new(alloc),
-    );
-    Ok(status)
+    ended(outcome_of(alloc, words, limits, input, out)?)
 }

@@ -1,8 +1,8 @@
 // A machine that answers from a list of replies.
 use crate::lines::{GET, SERVICE, SLICE};
-use crate::runs::words_of;
+use crate::runs::{ended, words_of};
 use bytes::Bytes;
-use command_run::top::{Outcome, top};
+use command_run::top::top;
 use line_run::Status;
 use mesh_base::limits::Limits;
 use mesh_base::list::List;
@@ -58,7 +58,7 @@ fn scripted(
     let mut out = SureSink {
         bytes: Vec::new(alloc),
     };
-    let Outcome::Ended(status) = top(
+    let status = ended(top(
         alloc,
         &words,
         &Limits::USUAL,
@@ -66,7 +66,7 @@ fn scripted(
         &mut input,
         &mut out,
         &mut SurePatterns,
-    );
+    ))?;
     Ok((status, out.bytes))
 }
 

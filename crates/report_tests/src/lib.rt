@@ -1,5 +1,5 @@
-//! Tests of what standard error is told: of words that are no command, of what failed, of the input, and at a terminal. They
-//! stand apart, since a crate with tests is proved twice.
+//! Tests of what standard error is told: of words that are no command, of what failed, of the input, of a server, and at a
+//! terminal. They stand apart, since a crate with tests is proved twice.
 //!
 //! Stands on run_report.
 #![tactic(auto)]
@@ -8,6 +8,8 @@
 mod end;
 #[cfg(test)]
 mod feed;
+#[cfg(test)]
+mod server;
 #[cfg(test)]
 mod tally;
 #[cfg(test)]

@@ -22,8 +22,8 @@ impl CommandReader for Refusing<'_> {
 
 // Words, and which of them is wrong, what is accepted, and what may have been meant.
 const WRONG: &str = "\
-replya => \"replya\" is not a command: the first word is replay, diagnose, fold or sample (did you mean replay?)
-listen --port 80 => \"listen\" is not a command: the first word is replay, diagnose, fold or sample
+replya => \"replya\" is not a command: the first word is replay, diagnose, fold, sample or serve (did you mean replay?)
+listen --port 80 => \"listen\" is not a command: the first word is replay, diagnose, fold, sample or serve
 diagnose --id 1 --method get --path a.b.svc.cluster.local => --method \"get\" is not accepted: it is Get, GetProfile, WatchPort or Watch (did you mean Get?)
 diagnose --id 1 --method WatchPort --workload a:b --port http => --port \"http\" is not accepted: it is a number from 1 to 65535
 diagnose --id=x --method Get --port http => --id \"x\" is not accepted: it is a number from 0 to 4294967295
@@ -41,6 +41,14 @@ diagnose --id 1 --method Get --path web.app => --path \"web.app\" is not accepte
 diagnose --id 1 --method Get => diagnose needs --path: NAME.NAMESPACE.svc.DOMAIN[:PORT] with the cluster domain, or for GetProfile and Watch also IP[:PORT]
 replay -v => replay has no option \"-v\": its options are --cluster-domain, --trust-domain, --control-plane-namespace, --cluster-networks, --default-policy
 sample 5 --id=1 => sample has no option --id, an option of diagnose and fold: its options are --cluster-domain, --trust-domain, --control-plane-namespace, --cluster-networks, --default-policy
+serv --bind 127.0.0.1:80 => \"serv\" is not a command: the first word is replay, diagnose, fold, sample or serve (did you mean serve?)
+serve => serve needs --bind: an IP address and a port from 1 to 65535, as 127.0.0.1:8086 or [::1]:8086
+serve --bind => --bind has no value: it is an IP address and a port from 1 to 65535, as 127.0.0.1:8086 or [::1]:8086
+serve --bind=localhost:80 => --bind \"localhost:80\" is not accepted: it is an IP address and a port from 1 to 65535, as 127.0.0.1:8086 or [::1]:8086
+serve --bind 127.0.0.1:80 feed.jsonl => \"feed.jsonl\" is neither an option nor a value: options are written --name VALUE or --name=VALUE
+serve --port 80 => serve has no option --port, an option of diagnose: its options are --cluster-domain, --trust-domain, --control-plane-namespace, --cluster-networks, --default-policy, --bind
+serve --binds 127.0.0.1:80 => serve has no option \"--binds\": its options are --cluster-domain, --trust-domain, --control-plane-namespace, --cluster-networks, --default-policy, --bind (did you mean --bind?)
+replay --bind 127.0.0.1:80 => replay has no option --bind, an option of serve: its options are --cluster-domain, --trust-domain, --control-plane-namespace, --cluster-networks, --default-policy
 replay --default-policy=open => --default-policy \"open\" is not accepted: it is all-unauthenticated, all-authenticated, cluster-unauthenticated, cluster-authenticated, deny or audit";
 
 #[test]
@@ -51,6 +59,7 @@ fn wrong_words(rt: HostRuntime) -> Result<(), Fail> {
         "--method=get",
         "--port=http",
         "--workload=web",
+        "--bind=localhost:80",
         "--default-policy=open",
         "5000",
     ];
@@ -69,7 +78,7 @@ fn wrong_words(rt: HostRuntime) -> Result<(), Fail> {
 
 // What the usage names.
 const USED: &str =
-    "--cluster-domain|--trust-domain|--control-plane-namespace|--cluster-networks|--default-policy|all-unauthenticated\n|all-authenticated,|cluster-unauthenticated,|cluster-authenticated,|deny,|audit\n|--id|--method|Get,|GetProfile,|WatchPort or Watch\n|--path|--workload|--port|--token|10.0.0.0/8,100.64.0.0/10,172.16.0.0/12,192.168.0.0/16\n";
+    "--cluster-domain|--trust-domain|--control-plane-namespace|--cluster-networks|--default-policy|all-unauthenticated\n|all-authenticated,|cluster-unauthenticated,|cluster-authenticated,|deny,|audit\n|--id|--method|Get,|GetProfile,|WatchPort or Watch\n|--path|--workload|--port|--token|--bind|10.0.0.0/8,100.64.0.0/10,172.16.0.0/12,192.168.0.0/16\n";
 
 // The usage is told whole where there are no words, where they ask for help, and where nothing is found wrong. It begins as scripts
 // expect it, names all words, and fits a terminal of 80 columns.
@@ -83,7 +92,7 @@ fn usage(rt: HostRuntime) -> Result<(), Fail> {
     for words in [&none, &help, &right] {
         let text = format!(in alloc; "{}", WrongWords::of(alloc, words, &reader))?;
         assert_eq!(rt;
-            text.strip_prefix("usage: linkerd_cli replay|diagnose|fold|sample\n"),
+            text.strip_prefix("usage: linkerd_cli replay|diagnose|fold|sample|serve\n"),
             Some(USAGE)
         );
     }

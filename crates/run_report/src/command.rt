@@ -7,9 +7,10 @@ pub enum Command {
     Diagnose,
     Fold,
     Sample,
+    Serve,
 }
 
-pub(crate) static COMMANDS: [&str; 4] = ["replay", "diagnose", "fold", "sample"];
+pub(crate) static COMMANDS: [&str; 5] = ["replay", "diagnose", "fold", "sample", "serve"];
 
 impl Command {
     /// The command that a word names.
@@ -19,6 +20,7 @@ impl Command {
             "diagnose" => Some(Command::Diagnose),
             "fold" => Some(Command::Fold),
             "sample" => Some(Command::Sample),
+            "serve" => Some(Command::Serve),
             _ => None,
         }
     }
@@ -29,6 +31,7 @@ impl Command {
             Command::Diagnose => "diagnose",
             Command::Fold => "fold",
             Command::Sample => "sample",
+            Command::Serve => "serve",
         }
     }
 

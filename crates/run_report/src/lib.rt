@@ -27,6 +27,7 @@ mod printable;
 mod progress;
 mod refusals;
 mod report;
+mod server;
 mod usage;
 mod words;
 
@@ -41,5 +42,6 @@ pub use output::{OutputCounts, OutputTally};
 pub use progress::Progress;
 pub use refusals::OutputNotes;
 pub use report::{Report, Run};
+pub use server::ServerNote;
 pub use usage::{USAGE, USAGE_LINE};
 pub use words::{CommandReader, WrongWords};

@@ -15,11 +15,12 @@ pub(crate) enum Argument {
     Workload,
     Port,
     Token,
+    Bind,
     Number,
 }
 
 /// All arguments, in the order of the usage.
-pub(crate) static ARGUMENTS: [Argument; 12] = [
+pub(crate) static ARGUMENTS: [Argument; 13] = [
     Argument::ClusterDomain,
     Argument::TrustDomain,
     Argument::ControlPlaneNamespace,
@@ -31,6 +32,7 @@ pub(crate) static ARGUMENTS: [Argument; 12] = [
     Argument::Workload,
     Argument::Port,
     Argument::Token,
+    Argument::Bind,
     Argument::Number,
 ];
 
@@ -67,6 +69,7 @@ impl Argument {
             Argument::Workload => "--workload",
             Argument::Port => "--port",
             Argument::Token => "--token",
+            Argument::Bind => "--bind",
             Argument::Number => "NUMBER",
         }
     }
@@ -91,6 +94,9 @@ impl Argument {
             Argument::Workload => "NAMESPACE:POD",
             Argument::Port => "a number from 1 to 65535",
             Argument::Token => "any string",
+            Argument::Bind => {
+                "an IP address and a port from 1 to 65535, as 127.0.0.1:8086 or [::1]:8086"
+            }
             Argument::Number => "from 0 to 1000",
         }
     }
@@ -112,6 +118,7 @@ impl Argument {
             Argument::Path | Argument::Workload | Argument::Port | Argument::Token => {
                 command == Command::Diagnose
             }
+            Argument::Bind => command == Command::Serve,
             Argument::Number => command == Command::Sample,
             _ => command != Command::Fold,
         }
@@ -122,8 +129,9 @@ impl Argument {
         match self {
             Argument::Id | Argument::Method => "diagnose and fold",
             Argument::Path | Argument::Workload | Argument::Port | Argument::Token => "diagnose",
+            Argument::Bind => "serve",
             Argument::Number => "sample",
-            _ => "replay, diagnose and sample",
+            _ => "replay, diagnose, sample and serve",
         }
     }
 
@@ -143,6 +151,7 @@ impl Argument {
             Argument::Workload | Argument::Port => {
                 command == Command::Diagnose && method == "WatchPort"
             }
+            Argument::Bind => command == Command::Serve,
             Argument::Number => command == Command::Sample,
             _ => false,
         }
@@ -156,6 +165,7 @@ impl Argument {
             Argument::Method => Some("fold --id=0"),
             Argument::Workload => Some("diagnose --id=0 --method=WatchPort --port=1"),
             Argument::Port => Some("diagnose --id=0 --method=WatchPort --workload=a:b"),
+            Argument::Bind => Some("serve"),
             Argument::Number => Some("sample"),
             Argument::Path | Argument::Token => None,
             _ => Some("replay"),

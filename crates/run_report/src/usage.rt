@@ -1,5 +1,5 @@
 /// The first line of the message for a command line that is refused.
-pub const USAGE_LINE: &str = "usage: linkerd_cli replay|diagnose|fold|sample\n";
+pub const USAGE_LINE: &str = "usage: linkerd_cli replay|diagnose|fold|sample|serve\n";
 
 /// The rest of the usage, which is written if there are no words or they ask for help.
 pub const USAGE: &str = "
@@ -8,13 +8,16 @@ pub const USAGE: &str = "
   fold        reads what replay wrote, and writes the view of one subscriber
   sample N    replays a generated cluster of N Services, 0 to 1000, and writes
               one line of counts
+  serve       listens on a TCP port, takes feeds from its links, and sends each
+              proxy its frames
 
-Input is standard input. A feed has one JSON value a line: watch events and
-lists of Kubernetes objects, and control lines, as docs/FEED.md describes.
+Input is standard input, and for serve what its links send. A feed has one JSON
+value a line: watch events and lists of Kubernetes objects, and control lines,
+as docs/FEED.md describes.
 
 Options are written --name VALUE or --name=VALUE.
 
-Options of replay, diagnose and sample, with their defaults:
+Options of replay, diagnose, sample and serve, with their defaults:
   --cluster-domain NAME            cluster.local
   --trust-domain NAME              cluster.local
   --control-plane-namespace NAME   linkerd
@@ -37,11 +40,16 @@ Options of diagnose, by method:
   --token TOKEN                    for Get and GetProfile: what a proxy says
                                    about itself, as JSON
 
+Option of serve, which needs it:
+  --bind ADDRESS:PORT              where it listens, as 127.0.0.1:8086 or
+                                   [::1]:8086; the port is 1 to 65535
+
 Examples:
   linkerd_cli replay < feed.jsonl
   linkerd_cli diagnose --id 1 --method Get \\
       --path web.app.svc.cluster.local:80 < feed.jsonl
 
 Exit status: 0 done, 1 done with refused lines, 2 usage, 3 out of memory,
-4 reading failed, 5 writing failed, 6 input too long.
+4 reading failed, 5 writing failed, 6 input too long. Of serve: 0 stopped by a
+feed, 2 usage, 3 out of memory, 4 listening failed.
 ";

@@ -105,6 +105,14 @@ fn offer_options(near: &mut Nearest<'_>, command: Command) {
     }
 }
 
+// Where the input of a command is, for those who name a file.
+fn input_of(command: Command) -> &'static str {
+    match command {
+        Command::Serve => "",
+        _ => ", and the input is standard input",
+    }
+}
+
 // The names of the options of a command, with commas between them.
 #[derive(Clone, Copy, Drop)]
 struct OptionNames(Command);
@@ -145,7 +153,7 @@ impl WrongWords<'_> {
             Wrong::NotUtf8 => f.write_str("a word is not UTF-8"),
             Wrong::Command => write!(
                 f,
-                "{word:?} is not a command: the first word is replay, diagnose, fold or sample"
+                "{word:?} is not a command: the first word is replay, diagnose, fold, sample or serve"
             ),
             Wrong::Option => self.write_option(command, f),
             Wrong::Twice(option) => write!(
@@ -161,7 +169,8 @@ impl WrongWords<'_> {
             ),
             Wrong::Extra => write!(
                 f,
-                "{word:?} is neither an option nor a value: options are written --name VALUE or --name=VALUE, and the input is standard input"
+                "{word:?} is neither an option nor a value: options are written --name VALUE or --name=VALUE{}",
+                input_of(command)
             ),
             Wrong::Missing(option) => write!(
                 f,

@@ -1,0 +1,53 @@
+// Serves links over sockets.
+ghost use Rattle.std.specs.Prelude.{◌≤◌};
+
+use crate::exit::server_code;
+use mio_edge::mio_links::{ListenFault, MioLinks};
+use regex_patterns::RegexPatterns;
+use run_report::ServerNote;
+use serve_config::ServeConfig;
+use serve_core::serve::{ServeStatus, serve_top};
+use std::io::Eprint;
+use std::net::Net;
+use std::process::ExitCode;
+use std::sync::Wait;
+
+fn tell<R: Eprint>(rt: &R, note: ServerNote<'_>) {
+    let _ = eprint!(rt; "{note}");
+}
+
+// Tells standard error how the server ended.
+fn ended<R: Eprint>(rt: &R, status: ServeStatus) -> ExitCode {
+    tell(
+        rt,
+        match status {
+            ServeStatus::Stopped => ServerNote::Stopped,
+            ServeStatus::Memory => ServerNote::OutOfMemory,
+            ServeStatus::LinksFault => ServerNote::PollFailed,
+        },
+    );
+    server_code(status)
+}
+
+/// Listens, and serves the links that are opened until a feed stops the server. Standard error is told where it listens and how it
+/// ended.
+pub(crate) fn serve<R: Net + Wait + Eprint + AllocGlobal>(rt: &R, server: &ServeConfig) -> ExitCode
+    requires { 1 ≤ server.now.limits.frame_addrs }
+{
+    let address = server.address.as_str();
+    match MioLinks::listen(rt, rt.alloc(), address) {
+        Ok(mut links) => {
+            tell(rt, ServerNote::Listening { address });
+            let mut patterns = RegexPatterns::new(rt.alloc());
+            ended(
+                rt,
+                serve_top(rt, rt.alloc(), server, &mut links, &mut patterns),
+            )
+        }
+        Err(ListenFault::Memory) => ended(rt, ServeStatus::Memory),
+        Err(ListenFault::Failed(error)) => {
+            tell(rt, ServerNote::CannotListen { address, error });
+            server_code(ServeStatus::LinksFault)
+        }
+    }
+}
