@@ -1,10 +1,13 @@
 """Exit statuses, and what keeps a command from answering."""
 
 import enum
+import os
+import sys
+from typing import Callable
 
 
 class Status(enum.IntEnum):
-    """The exit statuses of `tools/mesh`."""
+    """The exit statuses of `tools/mesh`, `tools/feed` and `tools/subscribe`."""
 
     DONE = 0
     NO = 1
@@ -14,6 +17,9 @@ class Status(enum.IntEnum):
     NO_TOOL = 5
     TOOL_FAILED = 6
     REFUSED = 7
+    NO_SERVER = 8
+    CLOSED = 9
+    NO_LINKERD = 10
 
 
 MEANINGS = {
@@ -34,3 +40,25 @@ class Fault(Exception):
     def __init__(self, status: Status, sentence: str):
         super().__init__(sentence)
         self.status = status
+
+
+def epilog(meanings: dict[Status, str]) -> str:
+    """The exit statuses of a command, as its help has them."""
+    return "exit status:\n" + "\n".join(f"  {int(status):<3}{meaning}" for status, meaning in meanings.items())
+
+
+def run_tool(name: str, run: Callable[[], int]) -> int:
+    """Runs a tool, and answers its exit status. Where a Fault ends it, its sentence is printed."""
+    try:
+        status = run()
+        sys.stdout.flush()
+        return int(status)
+    except Fault as fault:
+        print(f"{name}: {fault}", file=sys.stderr)
+        return int(fault.status)
+    except KeyboardInterrupt:
+        return 130
+    except BrokenPipeError:
+        # What is left in the buffer has no reader: at exit it goes nowhere.
+        os.dup2(os.open(os.devnull, os.O_WRONLY), sys.stdout.fileno())
+        return 141

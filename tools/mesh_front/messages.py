@@ -101,10 +101,10 @@ def varint(number: int) -> bytes:
     return bytes([*digits, number])
 
 
-def protoc(mode: str, method: str, data: bytes) -> bytes | None:
-    """What protoc makes of the messages of a method, or None where it refuses them."""
+def protoc(mode: str, message: str, data: bytes) -> bytes | None:
+    """What protoc makes of the bytes or the text of a message of this name, or None where it refuses them."""
     *options, word = MODES[mode]
-    command = [*PROTOC, *options, f"{word}=holzhybat.proxy.{method}Messages", "messages.proto"]
+    command = [*PROTOC, *options, f"{word}=holzhybat.proxy.{message}", "messages.proto"]
     run = subprocess.run(command, input=data, capture_output=True)
     if run.returncode == 0:
         return run.stdout
@@ -140,8 +140,9 @@ def is_whole(method: str, message: Message) -> bool:
 def decode_together(method: str, messages: list[bytes]) -> list[list[str]] | None:
     """The rows of protoc's text of each message, or None where one of them is not a message of the method."""
     data = b"".join(b"\n" + varint(len(it)) + it for it in messages)
-    text = protoc("decode", method, data)
-    if text is None or re.search(rb"(?m)^ *\d+(:| \{)", text) or protoc("encode", method, text) != data:
+    name = f"{method}Messages"
+    text = protoc("decode", name, data)
+    if text is None or re.search(rb"(?m)^ *\d+(:| \{)", text) or protoc("encode", name, text) != data:
         return None
     rows = split(text.decode())
     return rows if all(is_whole(method, tree(it)) for it in rows) else None
@@ -164,3 +165,18 @@ def address(message: Message) -> str:
         return str(ipaddress.IPv4Address(message.one("ipv4")))
     halves = message.at("ipv6")
     return str(ipaddress.IPv6Address(halves.one("first", 0) << 64 | halves.one("last", 0)))
+
+
+def address_after(rows: list[str], place: int) -> str:
+    """The comment behind a row of protoc's text in which an address begins, else nothing."""
+    if re.fullmatch(r" *ipv4: \d+", rows[place]):
+        return f"  # {address(tree(rows[place : place + 1]))}"
+    if not re.fullmatch(r" *ipv6 \{", rows[place]):
+        return ""
+    end = next(it for it in range(place, len(rows)) if rows[it].strip() == "}")
+    return f"  # {address(tree(rows[place : end + 1]))}"
+
+
+def shown_rows(rows: list[str]) -> list[str]:
+    """The rows of protoc's text as they are shown: indented, with the usual notation of each address behind it."""
+    return [f"  {row}{address_after(rows, place)}" for place, row in enumerate(rows)]

@@ -1,9 +1,11 @@
-"""`mesh record`: the lists of a cluster's objects, by kubectl."""
+"""`mesh record`: the lists of a cluster's objects, by kubectl, and the watches that continue them."""
 
 import json
 import subprocess
 import sys
+import tempfile
 import urllib.parse
+from dataclasses import dataclass
 
 from mesh_front.faults import Fault, Status
 from mesh_front.feed import members
@@ -17,24 +19,64 @@ class NotFound(Exception):
     """The API server has nothing at a path."""
 
 
+@dataclass
+class Listing:
+    """The list of a kind, and of each path that it was read at the version from which a watch continues."""
+
+    value: dict
+    versions: dict[str, str]
+
+
+class Watch:
+    """A watch that kubectl prints, one event a line, until it ends or is ended."""
+
+    def __init__(self, command: list[str]):
+        self.errors = tempfile.TemporaryFile()
+        self.process = subprocess.Popen(command, stdin=subprocess.DEVNULL, stdout=subprocess.PIPE, stderr=self.errors)
+
+    def lines(self):
+        """The events. A last line that is cut is none."""
+        return (line[:-1] for line in self.process.stdout if line.endswith(b"\n"))
+
+    def end(self) -> None:
+        """Ends the watch, if it goes on."""
+        self.process.terminate()
+
+    def reason(self) -> str:
+        """What kubectl says of the end of the watch."""
+        status = self.process.wait()
+        self.errors.seek(0)
+        message = self.errors.read().decode(errors="replace").strip()
+        return message or (f"kubectl ended with status {status}" if status > 0 else "")
+
+
 class Cluster:
     """A cluster that kubectl reaches."""
 
     def __init__(self, options: list[str]):
         self.options = options
 
+    def command(self, path: str) -> list[str]:
+        """The command that prints what the API server answers at a path."""
+        return ["kubectl", *self.options, "get", "--raw", path]
+
     def get(self, path: str, kind: Kind) -> bytes:
         """What the API server answers at a path; the kind is named where kubectl fails."""
         try:
-            run = subprocess.run(["kubectl", *self.options, "get", "--raw", path], stdin=subprocess.DEVNULL, capture_output=True)
+            run = subprocess.run(self.command(path), stdin=subprocess.DEVNULL, capture_output=True)
         except OSError as error:
             raise Fault(Status.NO_TOOL, f"cannot run kubectl: {error.strerror}") from error
         message = run.stderr.decode(errors="replace").strip()
         if run.returncode and "(NotFound)" in message:
             raise NotFound
         if run.returncode:
-            raise Fault(Status.TOOL_FAILED, f"recording {kind.title} failed: {message or f'kubectl ended with status {run.returncode}'}")
+            raise Fault(Status.TOOL_FAILED, f"listing {kind.title} failed: {message or f'kubectl ended with status {run.returncode}'}")
         return run.stdout
+
+    def watch(self, path: str, version: str) -> Watch:
+        """The watch of a path from a version on."""
+        query = urllib.parse.urlencode({"watch": 1, "resourceVersion": version})
+        return Watch(self.command(f"{path}?{query}"))
 
     def value(self, path: str, kind: Kind) -> dict:
         """The JSON object at a path."""
@@ -43,7 +85,7 @@ class Cluster:
         except ValueError:
             result = None
         if not isinstance(result, dict):
-            raise Fault(Status.TOOL_FAILED, f"recording {kind.title} failed: kubectl printed no JSON object for {path}")
+            raise Fault(Status.TOOL_FAILED, f"listing {kind.title} failed: kubectl printed no JSON object for {path}")
         return result
 
 
@@ -72,7 +114,7 @@ def pages(cluster: Cluster, kind: Kind, path: str) -> list[dict]:
         query = {"limit": PAGE} | ({"continue": more} if more else {})
         page = cluster.value(f"{path}?{urllib.parse.urlencode(query)}", kind)
         if page.get("kind") != f"{kind.name}List" or not isinstance(page.get("items"), (list, type(None))):
-            raise Fault(Status.TOOL_FAILED, f"recording {kind.title} failed: {path} has a {page.get('kind')}, not a {kind.name}List")
+            raise Fault(Status.TOOL_FAILED, f"listing {kind.title} failed: {path} has a {page.get('kind')}, not a {kind.name}List")
         all_pages.append(page)
         more = members(page, "metadata").get("continue") or ""
     return all_pages
@@ -84,7 +126,7 @@ def whole_list(parts: list[dict]) -> dict:
     return {**parts[0], "metadata": metadata, "items": [it for part in parts for it in part.get("items") or []]}
 
 
-def list_of(cluster: Cluster, kind: Kind, namespaces: list[str]) -> dict | None:
+def listing_of(cluster: Cluster, kind: Kind, namespaces: list[str]) -> Listing | None:
     """The list of a kind, or None where the cluster lacks the kind."""
     try:
         candidates = versions(cluster, kind)
@@ -92,24 +134,36 @@ def list_of(cluster: Cluster, kind: Kind, namespaces: list[str]) -> dict | None:
         candidates = []
     for version in candidates:
         try:
-            paths = [collection(kind, version, namespace) for namespace in namespaces or [None]]
-            return whole_list([page for path in paths for page in pages(cluster, kind, path)])
+            paths = [collection(kind, version, namespace) for namespace in dict.fromkeys(namespaces) or [None]]
+            parts = {path: pages(cluster, kind, path) for path in paths}
         except NotFound:
             continue
+        versions_by_path = {path: members(it[0], "metadata").get("resourceVersion") or "" for path, it in parts.items()}
+        return Listing(whole_list([page for it in parts.values() for page in it]), versions_by_path)
     if not kind.group:
-        raise Fault(Status.TOOL_FAILED, f"recording {kind.title} failed: the API server does not have the kind")
+        raise Fault(Status.TOOL_FAILED, f"listing {kind.title} failed: the API server does not have the kind")
     return None
+
+
+def line_of(value: dict) -> str:
+    """A list or an event as a line."""
+    return json.dumps(value, separators=(",", ":"))
+
+
+def left_out(kind: Kind) -> str:
+    """What is said of a kind that the cluster lacks."""
+    return f"left out {kind.title}: the cluster does not have it in the group {kind.group}"
 
 
 def run(cluster: Cluster, namespaces: list[str]) -> Status:
     """Prints a list of each kind, one a line, once all are read."""
     lists = []
     for kind in KINDS:
-        result = list_of(cluster, kind, list(dict.fromkeys(namespaces)))
-        if result is None:
-            print(f"mesh: left out {kind.title}: the cluster does not have it in the group {kind.group}", file=sys.stderr)
+        listing = listing_of(cluster, kind, namespaces)
+        if listing is None:
+            print(f"mesh: {left_out(kind)}", file=sys.stderr)
         else:
-            lists.append(result)
-    for result in lists:
-        print(json.dumps(result, separators=(",", ":")))
+            lists.append(listing.value)
+    for value in lists:
+        print(line_of(value))
     return Status.DONE

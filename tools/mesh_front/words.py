@@ -2,13 +2,12 @@
 
 import argparse
 import ipaddress
-import os
 import pathlib
 import sys
 from typing import Callable
 
 from mesh_front import ask, check, diff, endpoints, policy, record
-from mesh_front.faults import MEANINGS, Fault, Status
+from mesh_front.faults import MEANINGS, Fault, Status, epilog, run_tool
 from mesh_front.feed import Feed, read_bytes
 from mesh_front.manifests import deletion, read_changes
 from mesh_front.messages import ROOT, require_protoc
@@ -24,7 +23,7 @@ CONFIGURATION = {
 }
 DOMAIN = "cluster.local"
 ABOUT = "Answers questions about a recorded cluster by running linkerd_cli and decoding its messages."
-STATUSES = "exit status:\n" + "\n".join(f"  {int(status)}  {meaning}" for status, meaning in MEANINGS.items())
+STATUSES = epilog(MEANINGS)
 
 
 class Parser(argparse.ArgumentParser):
@@ -203,15 +202,9 @@ def run_check(words: argparse.Namespace) -> Status:
 
 def main(arguments: list[str]) -> int:
     """Runs the command that the words give, and answers the exit status."""
-    try:
+
+    def run() -> Status:
         words = parser().parse_args(arguments)
-        status = words.run(words)
-        sys.stdout.flush()
-        return int(status)
-    except Fault as fault:
-        print(f"mesh: {fault}", file=sys.stderr)
-        return int(fault.status)
-    except BrokenPipeError:
-        # What is left in the buffer has no reader: at exit it goes nowhere.
-        os.dup2(os.open(os.devnull, os.O_WRONLY), sys.stdout.fileno())
-        return 141
+        return words.run(words)
+
+    return run_tool("mesh", run)

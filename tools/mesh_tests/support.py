@@ -6,10 +6,12 @@ import json
 import os
 import pathlib
 import subprocess
+import sys
 import tempfile
 import textwrap
 import unittest
 from dataclasses import dataclass
+from unittest import mock
 
 from mesh_front.messages import ROOT
 from mesh_front.words import main
@@ -19,6 +21,32 @@ RECORDINGS = ROOT.parent / "shared" / "recordings"
 PROGRAM = "LINKERD_CLI"
 POLICY = "policy.linkerd.io"
 IDENTITIES = "serviceaccount.identity.linkerd.cluster.local"
+
+
+# Answers from a file, by options and path: an object, a message of an error, or the events of a watch with what ends it. A list of
+# answers has one for each call, of which the last stays.
+KUBECTL = """#!/usr/bin/env python3
+import json, pathlib, sys, time
+room = pathlib.Path(__file__).parent
+*options, get, raw, path = sys.argv[1:]
+answer = json.loads((room / "answers.json").read_text()).get(" ".join([*options, path]))
+if isinstance(answer, list):
+    calls = room / (path.replace("/", "_") + ".calls")
+    count = len(calls.read_text()) if calls.exists() else 0
+    calls.write_text("x" * (count + 1))
+    answer = answer[min(count, len(answer) - 1)]
+if answer is None:
+    sys.exit('Error from server (NotFound): the server could not find the requested resource')
+if isinstance(answer, str):
+    sys.exit(answer)
+if "events" not in answer:
+    print(json.dumps(answer))
+    sys.exit()
+for event in answer["events"]:
+    print(json.dumps(event), flush=True)
+time.sleep(answer["seconds"])
+sys.exit(answer.get("error", 0))
+"""
 
 
 @dataclass
@@ -79,6 +107,12 @@ def feed_of(*objects: dict) -> bytes:
     return b"".join(json.dumps({"type": "ADDED", "object": it}).encode() + b"\n" for it in objects)
 
 
+def list_page(kind: str, *names: str, more: str = "") -> dict:
+    """A page of a list."""
+    metadata = {"resourceVersion": "7"} | ({"continue": more, "remainingItemCount": 1} if more else {})
+    return {"kind": f"{kind}List", "apiVersion": "v1", "metadata": metadata, "items": [{"metadata": {"name": it}} for it in names]}
+
+
 class Case(unittest.TestCase):
     """A test with a folder for its files."""
 
@@ -110,11 +144,25 @@ class Case(unittest.TestCase):
         path = self.file("feed.jsonl", feed) if isinstance(feed, bytes) else EXAMPLES / feed
         return self.run_mesh(command, "--program", program(), "--feed", path, *words)
 
+    def run_tool(self, name: str, *words, text: str = "") -> Run:
+        """Runs a tool over a standard input, for half a minute at most."""
+        command = [sys.executable, ROOT / "tools" / name, *map(str, words)]
+        run = subprocess.run(command, input=text, capture_output=True, text=True, timeout=30)
+        return Run(run.returncode, run.stdout, run.stderr)
+
     def decode(self, text: str, *words) -> Run:
         """Runs `tools/decode`."""
-        command = [ROOT / "tools" / "decode", *map(str, words)]
-        run = subprocess.run(command, input=text, capture_output=True, text=True)
-        return Run(run.returncode, run.stdout, run.stderr)
+        return self.run_tool("decode", *words, text=text)
+
+    def put_kubectl(self, answers: dict) -> None:
+        """Puts a kubectl with these answers in front of the PATH of this test; without answers there is none on it."""
+        if answers:
+            self.file("kubectl", KUBECTL.encode()).chmod(0o755)
+            self.file("answers.json", json.dumps(answers).encode())
+        path = f"{self.room}:{os.environ['PATH']}" if answers else str(self.room)
+        replaced = mock.patch.dict(os.environ, {"PATH": path})
+        replaced.start()
+        self.addCleanup(replaced.stop)
 
     def require(self, run: Run, status: int, output: str = "", error_output: str = "") -> None:
         """Compares how a run ended and all that it wrote."""

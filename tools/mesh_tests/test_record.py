@@ -1,28 +1,8 @@
 """`mesh record`, with a kubectl that answers from files."""
 
 import json
-import os
-from unittest import mock
 
-from mesh_tests.support import Case
-
-KUBECTL = """#!/usr/bin/env python3
-import json, pathlib, sys
-answers = json.loads(pathlib.Path(__file__).with_name("answers.json").read_text())
-*options, get, raw, path = sys.argv[1:]
-answer = answers.get(" ".join([*options, path]))
-if answer is None:
-    sys.exit('Error from server (NotFound): the server could not find the requested resource')
-if isinstance(answer, str):
-    sys.exit(answer)
-print(json.dumps(answer))
-"""
-
-
-def list_page(kind: str, *names: str, more: str = "") -> dict:
-    """A page of a list."""
-    metadata = {"resourceVersion": "7"} | ({"continue": more, "remainingItemCount": 1} if more else {})
-    return {"kind": f"{kind}List", "apiVersion": "v1", "metadata": metadata, "items": [{"metadata": {"name": it}} for it in names]}
+from mesh_tests.support import Case, list_page
 
 
 class Record(Case):
@@ -30,11 +10,8 @@ class Record(Case):
 
     def record(self, answers: dict, *words):
         """Records a cluster whose API server has these answers."""
-        path = self.file("kubectl", KUBECTL.encode())
-        path.chmod(0o755)
-        self.file("answers.json", json.dumps(answers).encode())
-        with mock.patch.dict(os.environ, {"PATH": f"{self.room}:{os.environ['PATH']}"}):
-            return self.run_mesh("record", *words)
+        self.put_kubectl(answers)
+        return self.run_mesh("record", *words)
 
     def left_out(self, *names: str) -> str:
         """What is said of kinds that the cluster lacks."""
@@ -78,19 +55,18 @@ class Record(Case):
             "/api/v1/services?limit=500": list_page("Service", "a"),
             "/api/v1/pods?limit=500": "Error from server (Forbidden): pods is forbidden",
         })
-        self.require(run, 6, "", "mesh: recording Pod failed: Error from server (Forbidden): pods is forbidden\n")
+        self.require(run, 6, "", "mesh: listing Pod failed: Error from server (Forbidden): pods is forbidden\n")
 
     def test_an_answer_of_another_kind(self):
         """What is no list of the kind is not recorded."""
         run = self.record({"/api/v1/services?limit=500": {"kind": "Status"}})
-        self.require(run, 6, "", "mesh: recording Service failed: /api/v1/services has a Status, not a ServiceList\n")
+        self.require(run, 6, "", "mesh: listing Service failed: /api/v1/services has a Status, not a ServiceList\n")
 
     def test_a_core_kind_that_is_not_found(self):
         """Each cluster has Services, so that this is a failure."""
-        self.require(self.record({}), 6, "", "mesh: recording Service failed: the API server does not have the kind\n")
+        self.require(self.record({"": ""}), 6, "", "mesh: listing Service failed: the API server does not have the kind\n")
 
     def test_without_kubectl(self):
         """One sentence."""
-        with mock.patch.dict(os.environ, {"PATH": str(self.room)}):
-            run = self.run_mesh("record")
-        self.require(run, 5, "", "mesh: cannot run kubectl: No such file or directory\n")
+        self.put_kubectl({})
+        self.require(self.run_mesh("record"), 5, "", "mesh: cannot run kubectl: No such file or directory\n")

@@ -1,0 +1,184 @@
+"""`tools/feed`, with a server that keeps what it is sent, and a kubectl that answers from files."""
+
+import json
+import socket
+
+from mesh_tests.fake_server import Feed, FakeServer
+from mesh_tests.support import POLICY, Case, list_page, pod
+
+BOOKMARK = '{"type":"BOOKMARK","object":{}}'
+SUBSCRIBE = '{"control":"subscribe","id":1,"query":{"method":"Get","path":"web.app.svc.cluster.local:80"}}'
+SIMULATE = '{"control":"simulate","workload":"app:web-1","port":8080,"client":"10.0.0.5"}'
+SERVERS = f"/apis/{POLICY}/v1beta3/servers"
+
+
+def text_of(*lines: str) -> bytes:
+    """Lines, each with its line feed."""
+    return "".join(f"{line}\n" for line in lines).encode()
+
+
+class Recording(Case):
+    """Lines of a file or of standard input."""
+
+    def send(self, data: bytes, feed: Feed):
+        """Sends a file to a server that handles the link so."""
+        with FakeServer(feed) as server:
+            run = self.run_tool("feed", server.address, "--from", self.file("feed.jsonl", data))
+        return run, server.address
+
+    def test_accepted_lines(self):
+        """They are sent as they are, after the path, and nothing is said; a last line without line feed is one."""
+        feed = Feed()
+        run, _ = self.send(text_of(BOOKMARK, "", BOOKMARK) + b"{}", feed)
+        self.require(run, 0)
+        self.assertEqual((b"/feed\n", [b'{"type":"BOOKMARK","object":{}}\n', b"\n", b'{"type":"BOOKMARK","object":{}}\n', b"{}\n"]), (feed.path, feed.lines))
+
+    def test_refused_lines(self):
+        """Each is named by its number in the file, and the others are sent all the same."""
+        feed = Feed({2: "refused 2 NotJson", 4: "refused 4 Full 100000"})
+        run, _ = self.send(text_of(BOOKMARK, "{", "", BOOKMARK, BOOKMARK), feed)
+        self.require(run, 7, "", "feed: line 2 is refused: NotJson\nfeed: line 4 is refused: Full 100000\n")
+        self.assertEqual(5, len(feed.lines))
+
+    def test_lines_of_control(self):
+        """Subscriptions are blank lines, so that the others keep their numbers, and a simulation has its verdict."""
+        feed = Feed({3: "verdict 3 allowed default all-unauthenticated"})
+        run, _ = self.send(text_of(SUBSCRIBE, '{"control":"drain","id":1}', SIMULATE), feed)
+        left_out = "feed: left out 2 lines of control (subscribe, cancel, drain), which a feed link does not have\n"
+        self.require(run, 0, "verdict 3 allowed default all-unauthenticated\n", left_out)
+        self.assertEqual([b"\n", b"\n"], feed.lines[:2])
+
+    def test_a_line_that_stops_the_server(self):
+        """The server closes the link, with or without the answers to what came with the line."""
+        for most in (1, 2):
+            run, _ = self.send(text_of(BOOKMARK, '{"control":"stop"}'), Feed(most=most))
+            self.require(run, 0, "", "feed: the server stopped, as a line of the recording asked\n")
+
+    def test_a_server_that_closes_the_link(self):
+        """It is said how far the recording came."""
+        run, address = self.send(text_of(BOOKMARK), Feed(most=0))
+        self.assertEqual((9, ""), (run.status, run.output))
+        self.assertRegex(run.error_output, f"^feed: {address} closed the link after [01] lines?(; 1 line is not answered)?\n$")
+
+    def test_answers_that_are_none(self):
+        """What answers no line is shown, and the lines count as not answered."""
+        run, address = self.send(text_of(BOOKMARK), Feed({1: "HTTP/1.1 400 Bad Request"}))
+        said = f"feed: the server sent what answers no line: HTTP/1.1 400 Bad Request\nfeed: {address} closed the link after 1 line; 1 line is not answered\n"
+        self.require(run, 9, "", said)
+
+    def test_many_lines(self):
+        """More lines and answers than the sockets hold: neither side waits for the other forever."""
+        feed = Feed()
+        run, _ = self.send(text_of(BOOKMARK) * 50_000, feed)
+        self.require(run, 0)
+        self.assertEqual(50_000, len(feed.lines))
+
+    def test_standard_input(self):
+        """The name of a file that is `-`."""
+        feed = Feed({1: "refused 1 NoForm"})
+        with FakeServer(feed) as server:
+            run = self.run_tool("feed", server.address, "--from", "-", text="{}\n")
+        self.require(run, 7, "", "feed: line 1 is refused: NoForm\n")
+
+    def test_what_is_not_there(self):
+        """A server, a file, an address: one sentence each."""
+        with socket.create_server(("127.0.0.1", 0)) as listener:
+            address = f"127.0.0.1:{listener.getsockname()[1]}"
+        run = self.run_tool("feed", address, "--from", self.file("feed.jsonl", b""))
+        self.require(run, 8, "", f"feed: no server at {address}: Connection refused\n")
+        run = self.run_tool("feed", address, "--from", self.room / "none")
+        self.require(run, 2, "", f"feed: cannot read {self.room}/none: No such file or directory\n")
+        run = self.run_tool("feed", "localhost", "--from", "x")
+        self.require(run, 2, "", "feed: argument ADDRESS: 'localhost' is not HOST:PORT; feed --help tells more\n")
+        run = self.run_tool("feed", address, "shop", "--from", "x")
+        self.require(run, 2, "", "feed: a recording is sent whole: give --from without namespaces and without --context\n")
+
+
+def event(kind: str, value: dict) -> dict:
+    """An event of a watch."""
+    return {"type": kind, "object": value}
+
+
+class Cluster(Case):
+    """The objects of a cluster and what changes."""
+
+    def cluster(self, **others) -> dict:
+        """The answers of an API server that has Services, Pods and Servers, and whose watches tell nothing."""
+        quiet = {"events": [], "seconds": 20}
+        return {
+            "/api/v1/services?limit=500": list_page("Service", "web"),
+            "/api/v1/services?watch=1&resourceVersion=7": quiet,
+            "/api/v1/pods?limit=500": list_page("Pod"),
+            "/api/v1/pods?watch=1&resourceVersion=7": quiet,
+            f"/apis/{POLICY}": {"versions": [{"version": "v1beta3"}], "preferredVersion": {"version": "v1beta3"}},
+            f"{SERVERS}?limit=500": list_page("Server"),
+            f"{SERVERS}?watch=1&resourceVersion=7": quiet,
+            **others,
+        }
+
+    def send(self, answers: dict, feed: Feed, *words):
+        """Feeds a server with a cluster whose API server has these answers."""
+        self.put_kubectl(answers)
+        with FakeServer(feed) as server:
+            run = self.run_tool("feed", server.address, *words)
+        values = [json.loads(line) for line in feed.lines]
+        return run, server.address, values
+
+    def test_lists_and_events(self):
+        """The lists come first, then the events, and a refused one is named by its object."""
+        web = pod("web-1", "web", "10.1.2.3")
+        changes = {"/api/v1/pods?watch=1&resourceVersion=7": {"events": [event("ADDED", web), event("DELETED", web)], "seconds": 20}}
+        run, address, values = self.send(self.cluster(**changes), Feed({4: "refused 4 BadValue object.status.podIP Address"}, most=5))
+        lists = [list_page("Service", "web"), list_page("Pod"), list_page("Server")]
+        self.assertEqual([*lists, event("ADDED", web), event("DELETED", web)], values)
+        said = run.error_output.splitlines()
+        self.assertEqual(9, run.status)
+        self.assertIn("feed: left out EndpointSlice: the cluster does not have it in the group discovery.k8s.io", said)
+        self.assertIn(f"feed: sent 3 lists to {address}, watching", said)
+        self.assertIn("feed: ADDED Pod shop/web-1 is refused: BadValue object.status.podIP Address", said)
+        self.assertRegex(said[-1], f"^feed: {address} closed the link after 5 lines")
+
+    def test_a_watch_that_ends(self):
+        """The kind is listed again, and watched from there; an ERROR event isn't sent."""
+        gone = event("ERROR", {"kind": "Status", "message": "too old resource version"})
+        later = list_page("Pod", "b")
+        later["metadata"]["resourceVersion"] = "9"
+        changes = {
+            "/api/v1/pods?limit=500": [list_page("Pod", "a"), later],
+            "/api/v1/pods?watch=1&resourceVersion=7": {"events": [gone], "seconds": 20},
+            "/api/v1/pods?watch=1&resourceVersion=9": {"events": [event("ADDED", pod("c", "web", "10.1.2.3"))], "seconds": 20},
+        }
+        run, _, values = self.send(self.cluster(**changes), Feed(most=5))
+        self.assertEqual([later, event("ADDED", pod("c", "web", "10.1.2.3"))], values[3:])
+        self.assertIn("feed: the watch of Pod ended: too old resource version; listing Pod again\n", run.error_output)
+
+    def test_single_namespaces(self):
+        """One list of both, a watch of each; where one ends, both are listed again."""
+        answers = self.cluster()
+        for namespace in "xy":
+            for path in list(answers):
+                if path.startswith(("/api/v1/", SERVERS)):
+                    root, _, rest = path.rpartition("/")
+                    answers[f"--context c {root}/namespaces/{namespace}/{rest}"] = answers[path]
+            answers[f"--context c /api/v1/namespaces/{namespace}/services?limit=500"] = list_page("Service", namespace)
+        answers[f"--context c /apis/{POLICY}"] = answers[f"/apis/{POLICY}"]
+        answers["--context c /api/v1/namespaces/y/services?watch=1&resourceVersion=7"] = {"events": [], "seconds": 0, "error": "Unauthorized"}
+        run, _, values = self.send(answers, Feed(most=4), "x", "y", "x", "--context", "c")
+        self.assertEqual([list_page("Service", "x", "y"), list_page("Service", "x", "y")], [values[0], values[3]])
+        self.assertIn("feed: the watch of Service ended: Unauthorized; listing Service again\n", run.error_output)
+
+    def test_a_cluster_without_linkerd(self):
+        """One sentence, and nothing is sent."""
+        answers = {path: it for path, it in self.cluster().items() if POLICY not in path}
+        run, _, values = self.send(answers, Feed())
+        said = "feed: the cluster has none of Linkerd's kinds (the groups linkerd.io and policy.linkerd.io): is Linkerd installed there?\n"
+        self.require(run, 10, "", said)
+        self.assertEqual([], values)
+
+    def test_a_kubectl_that_fails_or_is_not_there(self):
+        """One sentence each."""
+        run, _, _ = self.send({"/api/v1/services?limit=500": "Unable to connect to the server"}, Feed())
+        self.require(run, 6, "", "feed: listing Service failed: Unable to connect to the server\n")
+        (self.room / "kubectl").unlink()
+        run, _, _ = self.send({}, Feed())
+        self.require(run, 5, "", "feed: cannot run kubectl: No such file or directory\n")
