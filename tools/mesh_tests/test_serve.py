@@ -5,7 +5,7 @@ import socket
 import subprocess
 import time
 
-from mesh_tests.support import EXAMPLES, Case, program
+from mesh_tests.support import EXAMPLES, Case, program, replay
 
 SECONDS = 10
 STOP = b'{"control":"stop"}\n'
@@ -62,7 +62,7 @@ class Serve(Case):
 
     def diagnosis(self, feed: bytes, *words: str) -> str:
         """The frames of a view of the objects in a feed, as lines."""
-        run = subprocess.run([program(), "diagnose", "--id", "1", *words], input=feed, capture_output=True, text=False)
+        run = subprocess.run([program(), "diagnose", "--id", "1", *words], input=feed, capture_output=True)
         return run.stdout.decode().replace("view 1 ", "frame 1 ")
 
     def test_views_are_those_of_diagnose(self):
@@ -96,8 +96,7 @@ class Serve(Case):
     def test_refused_lines_and_verdicts(self):
         """They are told by the numbers that the lines have."""
         data = (EXAMPLES / "refused.jsonl").read_bytes()
-        replayed = subprocess.run([program(), "replay"], input=data, capture_output=True, text=True).stdout
-        refused = [line.split(" ", 2) for line in replayed.splitlines() if line.startswith("refused")]
+        refused = [line.split(" ", 2) for line in replay(data).decode().splitlines() if line.startswith("refused")]
         run = self.feed(data)
         self.assertEqual(7, run.status)
         for _, number, fault in refused:

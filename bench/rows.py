@@ -1,0 +1,246 @@
+#!/usr/bin/env python3
+"""What shared rows of endpoints save: a program beside an older one, in processor time and peak memory.
+
+    bench/rows.py --program FILE --old FILE     both, in turn, with the ratios of the older to the newer
+    bench/rows.py                               the proved program (tools/prove) alone
+    bench/rows.py --rows few,shared             these rows alone: few, cluster, shared, wide, slices, folds, given
+
+Each row is one measurement of `replay`, or of `fold`: the least of TIMES runs, of which each is ended after LIMIT seconds of processor
+time. The time of a change is that of a run less that of a run over the same feed without the changes. A run that doesn't write as many
+lines as it should ends the measurement."""
+import argparse
+import os
+import random
+import resource
+import signal
+import subprocess
+import sys
+import tempfile
+
+from due import bookmark_line, changes, joined, services
+from feed import drain_line, endpoint, pod_line, service_line, slice_line, subscribe_line
+from folds import lines as fold_lines
+from measure import PROGRAM
+from slices import LINES, by_key
+
+TIMES = 3
+LIMIT = 300
+FEW = 2_000        # changes of one slice, each with a drain
+CHANGES = 50_000
+FOLDED = 2_000
+WIDE = 2_000, 100  # changes of a Service in many slices: with the program, and with the older one
+
+
+class Run:
+    """Processor seconds and peak MB of the least of some runs; without either where a run took too long."""
+
+    def __init__(self, seconds=None, memory=None):
+        self.seconds, self.memory = seconds, memory
+
+    def less(self, other):
+        return Run() if None in (self.seconds, other.seconds) else Run(self.seconds - other.seconds, self.memory)
+
+
+def run_once(words, path, wanted):
+    """A run over a file that writes so many lines."""
+    with open(path, "rb") as source, tempfile.TemporaryFile() as sink:
+        child = subprocess.Popen(words, stdin=source, stdout=sink, stderr=subprocess.DEVNULL,
+                                 preexec_fn=lambda: resource.setrlimit(resource.RLIMIT_CPU, (LIMIT, LIMIT + 1)))
+        _, status, usage = os.wait4(child.pid, 0)
+        child.returncode = status
+        if os.WIFSIGNALED(status) and os.WTERMSIG(status) in (signal.SIGXCPU, signal.SIGKILL):
+            return Run()
+        sink.seek(0)
+        found = sum(1 for _ in sink)
+    if status or found != wanted:
+        sys.exit(f"{words[0]}: status {os.waitstatus_to_exitcode(status)}, {found} lines written in place of {wanted}")
+    return Run(usage.ru_utime + usage.ru_stime, usage.ru_maxrss / 1024)
+
+
+class Bench:
+    """The programs, the newer one first, and a folder for feeds."""
+
+    def __init__(self, programs, folder):
+        self.programs, self.folder = programs, folder
+
+    def write(self, name, lines):
+        path = os.path.join(self.folder, name)
+        with open(path, "w") as out:
+            out.writelines(line + "\n" for line in lines)
+        return path
+
+    def replays(self, lines, wanted):
+        """A run of `replay` of each program."""
+        path = self.write("feed.jsonl", lines)
+        return self.each([program, "replay"] for program in self.programs)(path, wanted)
+
+    def folds(self, slices, width, count):
+        """A run of `fold` of each program over what the newest one writes for so many changes."""
+        feed, frames = self.write("feed.jsonl", fold_lines(slices, width, count)), os.path.join(self.folder, "frames.txt")
+        with open(feed, "rb") as source, open(frames, "wb") as sink:
+            subprocess.run([self.programs[0], "replay"], stdin=source, stdout=sink, stderr=subprocess.DEVNULL, check=True)
+        wanted = -(-slices * width // 1_000)
+        return self.each([program, "fold", "--id", "1", "--method", "Get"] for program in self.programs)(frames, wanted)
+
+    def each(self, commands):
+        """Runs each command TIMES times, in turn, and gives the least of each."""
+        commands = list(commands)
+
+        def runs(path, wanted):
+            found = [[] for _ in commands]
+            for _ in range(TIMES):
+                for place, words in enumerate(commands):
+                    if not found[place] or found[place][-1].seconds is not None:
+                        found[place].append(run_once(words, path, wanted))
+            return [min(it, key=lambda run: run.seconds) if it[-1].seconds is not None else Run() for it in found]
+
+        return runs
+
+
+def shown(value, count=None):
+    if value is None:
+        return f"over {LIMIT} s"
+    return f"{value:9.3f} s" if count is None else f"{value / count * 1e6:9.1f} us"
+
+
+def tell(title, runs, count=None, with_memory=False):
+    """Prints a row: the time of each program, for each of `count` if it is given, and the ratios of the older to the newer."""
+    cells = [shown(run.seconds, count) + (f" {run.memory:6.0f} MB" if with_memory and run.memory else "") for run in runs]
+    if len(runs) == 2 and None not in (runs[0].seconds, runs[1].seconds):
+        cells.append(f"time 1/{runs[1].seconds / max(runs[0].seconds, 1e-9):.1f}")
+        if with_memory:
+            cells.append(f"memory 1/{runs[1].memory / runs[0].memory:.1f}")
+    print(f"{title:64} " + "   ".join(cells), flush=True)
+    return runs
+
+
+def ratio(title, wide, narrow):
+    """Prints how much more one row takes than another, for each program."""
+    pairs = zip(wide, narrow)
+    cells = ["-" if None in (a.seconds, b.seconds) else f"{a.seconds / max(b.seconds, 1e-9):9.2f}   " for a, b in pairs]
+    print(f"  {title:62} " + "   ".join(cells), flush=True)
+
+
+def less(after, before):
+    return [run.less(other) for run, other in zip(after, before)]
+
+
+# ------------------------------------------------------------------------------------------------ rows
+
+def drained_changes(count):
+    """The first slice with another endpoint each time, and a drain of its subscription."""
+    for text in changes(count):
+        yield text
+        yield drain_line(1)
+
+
+def few(bench):
+    rows = []
+    for count in (400, 4_000):
+        before = bench.replays(services(count), count)
+        after = bench.replays(joined(services(count), drained_changes(FEW)), count + 2 * FEW)
+        rows.append(tell(f"a slice changes, its Get is drained, among {count:,} Services", less(after, before), FEW))
+    ratio("4,000 to 400 (to reach: 1.2)", rows[1], rows[0])
+
+
+def cluster(bench):
+    lines = joined(services(5_000), drained_changes(CHANGES))
+    tell(f"{CHANGES:,} such changes with drains among 5,000 Services", bench.replays(lines, 5_000 + 2 * CHANGES))
+
+
+def asked(count, endpoints, is_changed):
+    """A Service with so many endpoints and so many drained subscriptions, and a change of one endpoint, which the end of the feed drains."""
+    numbers = list(range(endpoints))
+    yield service_line(0)
+    yield slice_line(0, 0, "ADDED", [endpoint(number) for number in numbers])
+    for number in range(count):
+        yield subscribe_line(number + 1, 0)
+        yield drain_line(number + 1)
+    if is_changed:
+        yield slice_line(0, 0, "MODIFIED", [endpoint(number) for number in [endpoints, *numbers[1:]]])
+        yield from (drain_line(number + 1) for number in range(count))
+
+
+def shared_row(bench, count, endpoints):
+    """Of the drains of the first view and of those after the change, the latter."""
+    batches = -(-endpoints // 1_000)
+    before = bench.replays(asked(count, endpoints, False), count * batches)
+    after = bench.replays(asked(count, endpoints, True), count * (batches + 2))
+    tell(f"{count:,} Gets of one Service, {endpoints:,} endpoints: all", after, with_memory=True)
+    tell("  one change, for each subscriber", less(after, before), count)
+    return less(after, before)
+
+
+def shared(bench):
+    found = shared_row(bench, 10_000, 10)
+    reads = bench.replays((bookmark_line() for _ in range(200_000)), 0)
+    bookmark = [Run(run.seconds and run.seconds / 20, run.memory) for run in reads]
+    tell("  a BOOKMARK line", bookmark, 10_000)
+    ratio("a subscriber to a BOOKMARK line (to reach: 2)", found, bookmark)
+
+
+def wide(bench):
+    shared_row(bench, 1_000, 1_000)
+
+
+def sliced(slices, width, count):
+    """A Service in slices, each endpoint with its Pod, whose first slice changes so often and is drained each time."""
+    yield from (pod_line(number) for number in range(slices * width + count + 1))
+    yield from fold_lines(slices, width, count)
+
+
+def slices(bench):
+    rows = []
+    for count in (1, 100):
+        at_once, found = -(-count * 100 // 1_000), []
+        for program, times in zip(bench.programs, WIDE):
+            alone = Bench([program], bench.folder)
+            before = alone.replays(sliced(count, 100, 0), at_once)
+            after = alone.replays(sliced(count, 100, times), at_once + 2 * times)
+            [run] = less(after, before)
+            found.append(Run(run.seconds and run.seconds / times, run.memory))
+        rows.append(tell(f"a slice of a Service of {count * 100:,} Pods changes, drained", found, 1))
+    ratio("100 slices to one slice (to reach: 3)", rows[1], rows[0])
+
+
+def folds(bench):
+    rows = []
+    for count, width in ((1, 10), (100, 100)):
+        found = less(bench.folds(count, width, FOLDED), bench.folds(count, width, 0))
+        rows.append(tell(f"fold of a change of a view of {count * width:,} endpoints", found, FOLDED))
+    ratio("10,000 to 10 endpoints (to reach: 3)", rows[1], rows[0])
+
+
+def given(bench):
+    random.seed(1)
+    orders = {"in order of their keys": by_key(range(LINES)), "in random order": random.sample(range(LINES), LINES)}
+    for title, numbers in orders.items():
+        lines = joined((service_line(number) for number in range(100)), (slice_line(number, number % 100) for number in numbers))
+        tell(f"{LINES:,} slices {title}", bench.replays(lines, 0), with_memory=True)
+
+
+ROWS = {"few": few, "cluster": cluster, "shared": shared, "wide": wide, "slices": slices, "folds": folds, "given": given}
+
+
+def main():
+    words = argparse.ArgumentParser(description=__doc__.splitlines()[0])
+    words.add_argument("--program", default=PROGRAM, metavar="FILE", help="the program (default: the proved one)")
+    words.add_argument("--old", metavar="FILE", help="an older program to compare it with")
+    words.add_argument("--rows", default=",".join(ROWS), metavar="ROW,..", help="these rows alone")
+    arguments = words.parse_args()
+    programs = [os.path.abspath(it) for it in (arguments.program, arguments.old) if it]
+    for program in programs:
+        if not os.access(program, os.X_OK):
+            sys.exit(f"there is no program {program}: run tools/prove first")
+    unknown = set(arguments.rows.split(",")) - set(ROWS)
+    if unknown:
+        sys.exit(f"there is no row {', '.join(sorted(unknown))}; the rows are {', '.join(ROWS)}")
+    print(f"{'':64} {'the program':>11}" + ("     the older one" if arguments.old else ""))
+    with tempfile.TemporaryDirectory() as folder:
+        bench = Bench(programs, folder)
+        for name in arguments.rows.split(","):
+            ROWS[name](bench)
+
+
+if __name__ == "__main__":
+    main()
