@@ -40,8 +40,9 @@ class Line:
 
 
 def say(sentence: str) -> None:
-    """Says something on standard error."""
-    print(f"feed: {sentence}", file=sys.stderr, flush=True)
+    """Says something on standard error, in one write, since threads say something at the same time."""
+    sys.stderr.write(f"feed: {sentence}\n")
+    sys.stderr.flush()
 
 
 class FeedLink:

@@ -40,7 +40,8 @@ class FakeServer:
 
 
 class Feed:
-    """A handler of a feed link: answers each line with `ok`, or as the test says, and is closed after so many lines, if any."""
+    """A handler of a feed link: answers each line with `ok`, or as the test says (not at all for the empty string), and closes the link
+    after so many lines, if there are as many."""
 
     def __init__(self, answers: dict[int, str] | None = None, most: int | None = None):
         self.answers, self.most = answers or {}, most
@@ -51,9 +52,10 @@ class Feed:
             self.path = source.readline()
             while len(self.lines) != self.most and (line := source.readline()):
                 self.lines.append(line)
-                if line.strip():
-                    number = len(self.lines)
-                    link.sendall(f"{self.answers.get(number, f'ok {number}')}\n".encode())
+                number = len(self.lines)
+                answer = self.answers.get(number, f"ok {number}")
+                if line.strip() and answer:
+                    link.sendall(f"{answer}\n".encode())
 
 
 class Method:

@@ -50,8 +50,8 @@ class Recording(Case):
 
     def test_a_line_that_stops_the_server(self):
         """The server closes the link, with or without the answers to what came with the line."""
-        for most in (1, 2):
-            run, _ = self.send(text_of(BOOKMARK, '{"control":"stop"}'), Feed(most=most))
+        for answers in ({}, {2: ""}, {1: "", 2: ""}):
+            run, _ = self.send(text_of(BOOKMARK, '{"control":"stop"}'), Feed(answers, most=2))
             self.require(run, 0, "", "feed: the server stopped, as a line of the recording asked\n")
 
     def test_a_server_that_closes_the_link(self):

@@ -95,10 +95,11 @@ class Serve(Case):
 
     def test_refused_lines_and_verdicts(self):
         """They are told by the numbers that the lines have."""
-        data = (EXAMPLES / "refused.jsonl").read_bytes()
+        lines = (EXAMPLES / "refused.jsonl").read_bytes().splitlines(True)
+        data = b"".join(b"\n" if b'"control"' in line else line for line in lines)
         refused = [line.split(" ", 2) for line in replay(data).decode().splitlines() if line.startswith("refused")]
-        run = self.feed(data)
-        self.assertEqual(7, run.status)
+        run = self.feed(b"".join(lines))
+        self.assertEqual((True, 7), (bool(refused), run.status))
         for _, number, fault in refused:
             self.assertIn(f"feed: line {number} is refused: {fault}\n", run.error_output)
 
