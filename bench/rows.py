@@ -25,7 +25,8 @@ from slices import LINES, by_key
 
 TIMES = 3
 LIMIT = 300
-FEW = 2_000        # changes of one slice, each with a drain
+NOISE = 0.005      # seconds that two runs of one feed may differ by
+FEW = 10_000       # changes of one slice, each with a drain
 CHANGES = 50_000
 FOLDED = 2_000
 WIDE = 2_000, 100  # changes of a Service in many slices: with the program, and with the older one
@@ -36,6 +37,9 @@ class Run:
 
     def __init__(self, seconds=None, memory=None):
         self.seconds, self.memory = seconds, memory
+
+    def is_told(self):
+        return self.seconds is not None and self.seconds >= NOISE
 
     def less(self, other):
         return Run() if None in (self.seconds, other.seconds) else Run(self.seconds - other.seconds, self.memory)
@@ -100,14 +104,16 @@ class Bench:
 def shown(value, count=None):
     if value is None:
         return f"over {LIMIT} s"
+    if value < NOISE:
+        return "   as nothing"
     return f"{value:9.3f} s" if count is None else f"{value / count * 1e6:9.1f} us"
 
 
 def tell(title, runs, count=None, with_memory=False):
     """Prints a row: the time of each program, for each of `count` if it is given, and the ratios of the older to the newer."""
     cells = [shown(run.seconds, count) + (f" {run.memory:6.0f} MB" if with_memory and run.memory else "") for run in runs]
-    if len(runs) == 2 and None not in (runs[0].seconds, runs[1].seconds):
-        cells.append(f"time 1/{runs[1].seconds / max(runs[0].seconds, 1e-9):.1f}")
+    if len(runs) == 2 and all(run.is_told() for run in runs):
+        cells.append(f"time 1/{runs[1].seconds / runs[0].seconds:.1f}")
         if with_memory:
             cells.append(f"memory 1/{runs[1].memory / runs[0].memory:.1f}")
     print(f"{title:64} " + "   ".join(cells), flush=True)
@@ -117,7 +123,7 @@ def tell(title, runs, count=None, with_memory=False):
 def ratio(title, wide, narrow):
     """Prints how much more one row takes than another, for each program."""
     pairs = zip(wide, narrow)
-    cells = ["-" if None in (a.seconds, b.seconds) else f"{a.seconds / max(b.seconds, 1e-9):9.2f}   " for a, b in pairs]
+    cells = [f"{a.seconds / b.seconds:9.2f}   " if a.is_told() and b.is_told() else "        -   " for a, b in pairs]
     print(f"  {title:62} " + "   ".join(cells), flush=True)
 
 
@@ -198,8 +204,8 @@ def slices(bench):
             before = alone.replays(sliced(count, 100, 0), at_once)
             after = alone.replays(sliced(count, 100, times), at_once + 2 * times)
             [run] = less(after, before)
-            found.append(Run(run.seconds and run.seconds / times, run.memory))
-        rows.append(tell(f"a slice of a Service of {count * 100:,} Pods changes, drained", found, 1))
+            found.append(Run(run.seconds and run.seconds * WIDE[0] / times, run.memory))
+        rows.append(tell(f"a slice of a Service of {count * 100:,} Pods changes, drained", found, WIDE[0]))
     ratio("100 slices to one slice (to reach: 3)", rows[1], rows[0])
 
 

@@ -1,1 +1,2 @@
-"""The tests of `tools/mesh` and `tools/decode`. What each must print is told by hand from docs/RULES.md and the feeds."""
+"""The tests of `tools/mesh`, `tools/decode`, `tools/feed` and `tools/subscribe`. What each must print is told by hand from docs/RULES.md and
+the feeds."""
