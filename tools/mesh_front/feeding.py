@@ -25,8 +25,8 @@ MEANINGS = {
     Status.NO_LINKERD: "the cluster has none of Linkerd's kinds",
 }
 WAITING = 256  # lines that are read and not yet sent
-RETRY_SECONDS = (1, 2, 5, 10, 30)
-STEADY_SECONDS = 10  # a watch that lasted so long needs no wait before the next list
+RETRY_SECONDS = (0, 1, 2, 5, 10, 30)
+STEADY_SECONDS = 10  # after a watch that lasted so long the next list needs no wait
 LEFT_OUT = ("subscribe", "cancel", "drain")
 
 
