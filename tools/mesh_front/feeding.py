@@ -205,8 +205,14 @@ class KindFeed:
 
     def follow(self, listing: Listing) -> str:
         """Puts the events of the watches from a list on until one of them ends, and answers why it did."""
-        self.watches = [self.cluster.watch(path, version) for path, version in listing.versions.items()]
         reasons: list[str] = []
+        self.watches = []
+        try:
+            for path, version in listing.versions.items():
+                self.watches.append(self.cluster.watch(path, version))
+        except Fault as fault:
+            reasons.append(str(fault))
+            self.end()
         readers = [threading.Thread(target=self.read, args=(it, reasons), daemon=True) for it in self.watches]
         for reader in readers:
             reader.start()

@@ -19,6 +19,11 @@ class NotFound(Exception):
     """The API server has nothing at a path."""
 
 
+def cannot_run(error: OSError) -> Fault:
+    """What is said of a kubectl that cannot be run."""
+    return Fault(Status.NO_TOOL, f"cannot run kubectl: {error.strerror}")
+
+
 @dataclass
 class Listing:
     """The list of a kind, and of each path that it was read at the version from which a watch continues."""
@@ -65,7 +70,7 @@ class Cluster:
         try:
             run = subprocess.run(self.command(path), stdin=subprocess.DEVNULL, capture_output=True)
         except OSError as error:
-            raise Fault(Status.NO_TOOL, f"cannot run kubectl: {error.strerror}") from error
+            raise cannot_run(error) from error
         message = run.stderr.decode(errors="replace").strip()
         if run.returncode and "(NotFound)" in message:
             raise NotFound
@@ -76,7 +81,10 @@ class Cluster:
     def watch(self, path: str, version: str) -> Watch:
         """The watch of a path from a version on."""
         query = urllib.parse.urlencode({"watch": 1, "resourceVersion": version})
-        return Watch(self.command(f"{path}?{query}"))
+        try:
+            return Watch(self.command(f"{path}?{query}"))
+        except OSError as error:
+            raise cannot_run(error) from error
 
     def value(self, path: str, kind: Kind) -> dict:
         """The JSON object at a path."""
