@@ -363,8 +363,8 @@ def at_once(program, subscribers, services, changes):
         scene.loop.rest(0.5)
         seconds = max(scene.feed.last, *(peer.last for peer in scene.all())) - begin
         used = scene.server.seconds() - used
-        print(f"at once: {changes:,} changes of {services:,} Services to {subscribers:,} subscribers in {seconds:.2f} s, {changes / seconds:,.0f} events a second; "
-              f"server {used:.2f} s of processor time, {scene.server.memory():.1f} MB")
+        print(f"at once: {changes:,} changes of {services:,} Services to {subscribers:,} subscribers in {seconds:.2f} s, "
+              f"{changes / seconds:,.0f} events a second; server {used:.2f} s of processor time, {scene.server.memory():.1f} MB")
         print(f"  {scene.check()} subscribers fold to what diagnose shows", flush=True)
 
 
@@ -383,8 +383,8 @@ def one_by_one(program, subscribers, services, changes, is_hostile=False):
                 others.go(place)
         seconds = time.monotonic() - begin
         title = "one by one, beside hostile peers" if others else "one by one"
-        print(f"{title}: {changes / seconds:,.0f} events a second; from the line to the last byte: median {percentile(spans, 0.5) * 1e3:.2f} ms, "
-              f"99th percentile {percentile(spans, 0.99) * 1e3:.2f} ms, greatest {max(spans) * 1e3:.2f} ms; {scene.server.memory():.1f} MB")
+        print(f"{title}: {changes / seconds:,.0f} events a second; from the line to the last byte: "
+              f"median {percentile(spans, 0.5) * 1e3:.2f} ms, 99th percentile {percentile(spans, 0.99) * 1e3:.2f} ms, greatest {max(spans) * 1e3:.2f} ms; {scene.server.memory():.1f} MB")
         sent = [bytes(peer.received) for peer in scene.all()]
         if others:
             others.end()
@@ -426,8 +426,8 @@ class Hostile:
             read = now
             scene.loop.rest(0.5)
         closed = sum(peer.is_closed for peer in self.strangers)
-        print(f"  {self.sent} links sent garbage, and of the last {len(self.strangers)} the server closed {closed}; {len(self.deaf)} links did not read "
-              f"and {len(self.slow)} read a byte at a time until the end")
+        print(f"  {self.sent} links sent garbage, and of the last {len(self.strangers)} the server closed {closed}; "
+              f"{len(self.deaf)} links did not read and {len(self.slow)} read a byte at a time until the end")
         scene.peers[self.large] = self.deaf
         for service, peer in self.slow.items():
             scene.peers[service].append(peer)
@@ -456,8 +456,8 @@ def long_run(program, services, changes):
             scene.loop.rest(0.1)
             sizes.append(scene.server.memory())
         first = max(sizes[:ROUNDS // 4])
-        print(f"{ROUNDS} rounds of {changes:,} changes and 100 subscribers that come and go: at most {first:.1f} MB in the first {ROUNDS // 4}, "
-              f"{sizes[-1]:.1f} MB at the end")
+        print(f"{ROUNDS} rounds of {changes:,} changes and 100 subscribers that come and go: "
+              f"at most {first:.1f} MB in the first {ROUNDS // 4}, {sizes[-1]:.1f} MB at the end")
         print(f"  {scene.check()} subscribers fold to what diagnose shows")
         if sizes[-1] > first * 1.05 + 1:
             raise Wrong("the memory of the server grows")

@@ -124,7 +124,7 @@ class Lines:
 # ---------------------------------------------------------------------------------------------- recordings
 
 def recorded_line(number: int, data: bytes) -> Line:
-    """A line of a recording. A line of control that a feed link does not have is a blank line here, so that the others keep their numbers."""
+    """A line of a recording. A control line that a feed link does not have is a blank line here, so that others keep their numbers."""
     data = data.removesuffix(b"\n")
     value = json_of(data) if b'"control"' in data else None
     word = value["control"] if is_control(value) else None
@@ -140,7 +140,8 @@ def read_recording(source, lines: Lines) -> None:
             left_out_lines += not line.data and bool(data.strip())
             lines.put(line)
     if left_out_lines:
-        say(f"left out {left_out_lines} line{'' if left_out_lines == 1 else 's'} of control ({', '.join(LEFT_OUT)}), which a feed link does not have")
+        lines_of_control = "1 line" if left_out_lines == 1 else f"{left_out_lines} lines"
+        say(f"left out {lines_of_control} of control ({', '.join(LEFT_OUT)}), which a feed link does not have")
     lines.put(None)
 
 
