@@ -354,9 +354,9 @@ def order_of(services, changes):
 def at_once(program, subscribers, services, changes):
     with Scene(program, subscribers, services) as scene:
         order = order_of(services, changes)
-        used, begin = scene.server.seconds(), time.monotonic()
         for service in order:
             scene.cluster.change(service)
+        used, begin = scene.server.seconds(), time.monotonic()  # nothing is sent before the loop goes on
         ends = {service: address_bytes(scene.cluster.numbers[service][-1]) for service in set(order)}
         scene.loop.until(lambda: scene.feed.all_answered() and all(
             peer.received.rfind(ends[service]) >= 0 for service in ends for peer in scene.peers[service]), "the last changes")
