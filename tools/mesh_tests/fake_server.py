@@ -1,11 +1,11 @@
-"""A server on the loopback interface that does with each link what a test says. It waits for nothing longer than ten seconds."""
+"""A server on the loopback interface that does with each link what a test says. It waits for nothing longer than a minute."""
 
 import socket
 import struct
 import threading
 from typing import Callable
 
-SECONDS = 10
+SECONDS = 60
 
 
 class FakeServer:

@@ -145,9 +145,9 @@ class Case(unittest.TestCase):
         return self.run_mesh(command, "--program", program(), "--feed", path, *words)
 
     def run_tool(self, name: str, *words, text: str = "") -> Run:
-        """Runs a tool over a standard input, for half a minute at most."""
+        """Runs a tool over a standard input, for two minutes at most."""
         command = [sys.executable, ROOT / "tools" / name, *map(str, words)]
-        run = subprocess.run(command, input=text, capture_output=True, text=True, timeout=30)
+        run = subprocess.run(command, input=text, capture_output=True, text=True, timeout=120)
         return Run(run.returncode, run.stdout, run.stderr)
 
     def decode(self, text: str, *words) -> Run:

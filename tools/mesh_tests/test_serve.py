@@ -7,7 +7,7 @@ import time
 
 from mesh_tests.support import EXAMPLES, Case, program, replay
 
-SECONDS = 10
+SECONDS = 60
 STOP = b'{"control":"stop"}\n'
 
 
