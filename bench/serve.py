@@ -1,7 +1,7 @@
 #!/usr/bin/env python3
 """A server on the loopback interface: how fast it is, that subscribers get what they should, and that no peer disturbs another.
 
-    bench/serve.py [--program FILE] [--subscribers N] [--services M] [--changes K]
+    bench/serve.py [--program FILE] [--subscribers N] [--services M] [--changes K] [--limit S]
 
 1. Changes at once: N subscribers of M Services while a feed sends K changes as fast as they are answered. Events a second, until each
    subscriber has the last change.
@@ -11,7 +11,7 @@
    all others must be those of the second run.
 4. Many rounds of changes, each with subscribers that come and go: the memory of the server must not grow after the first quarter.
 
-After each run what each subscriber was sent must fold to what `diagnose` shows over the same feed. Each wait is bounded by LIMIT
+After each run what each subscriber was sent must fold to what `diagnose` shows over the same feed. Each wait is bounded by --limit
 seconds; where it is passed, or something doesn't hold, it is said and the status is 1. Needs a program with the command `serve`."""
 import argparse
 import os
@@ -29,7 +29,6 @@ from measure import PROGRAM
 from recording import View, Wrong
 
 PATH = b"/io.linkerd.proxy.destination.Destination/Get\n"
-LIMIT = 60         # seconds of one wait
 WIDTH = 4          # endpoints of a Service, of which one changes
 LARGE = 400        # endpoints of the Service whose subscribers never read,
 LARGE_FROM = 10_000_000  # the number of its first endpoint,
@@ -91,18 +90,20 @@ def fold(data):
 # ------------------------------------------------------------------------------------------------ peers
 
 class Loop:
-    """Sockets, and what is done with each that is ready."""
+    """Sockets, and what is done with each that is ready. No wait takes longer than the limit, in seconds."""
+
+    limit = 60
 
     def __init__(self):
         self.poller = selectors.DefaultSelector()
         self.slow = []
 
     def until(self, is_done, what):
-        end = time.monotonic() + LIMIT
+        end = time.monotonic() + self.limit
         while not is_done():
             self.step(0.01)
             if time.monotonic() > end:
-                raise Wrong(f"{what}: not after {LIMIT} s")
+                raise Wrong(f"{what}: not after {self.limit} s")
 
     def step(self, seconds):
         for peer in self.slow:
@@ -224,7 +225,7 @@ class Server:
             self.address = listener.getsockname()
         words = [program, "serve", "--bind", "%s:%d" % self.address]
         self.process = subprocess.Popen(words, stdin=subprocess.DEVNULL, stdout=subprocess.DEVNULL)
-        end = time.monotonic() + 20
+        end = time.monotonic() + Loop.limit
         while self.process.poll() is None and time.monotonic() < end and not self.listens():
             time.sleep(0.02)
         if self.process.poll() is not None:
@@ -466,11 +467,12 @@ def long_run(program, services, changes):
 def main():
     words = argparse.ArgumentParser(description=__doc__.splitlines()[0])
     words.add_argument("--program", default=PROGRAM, metavar="FILE", help="the built linkerd_cli")
-    for name, value in (("subscribers", 200), ("services", 20), ("changes", 2_000)):
+    for name, value in (("subscribers", 200), ("services", 20), ("changes", 2_000), ("limit", Loop.limit)):
         words.add_argument(f"--{name}", type=int, default=value, metavar="N", help=f"default: {value:,}")
     it = words.parse_args()
     if not os.access(it.program, os.X_OK):
         sys.exit("there is no proved program: run tools/prove first")
+    Loop.limit = it.limit
     try:
         at_once(it.program, it.subscribers, it.services, it.changes)
         hostile(it.program, it.subscribers, it.services, it.changes)
