@@ -28,7 +28,7 @@ LIMIT = 300
 NOISE = 0.005      # seconds that two runs of one feed may differ by
 FEW = 10_000       # changes of one slice, each with a drain
 CHANGES = 50_000
-FOLDED = 2_000
+FOLDED = 20_000
 WIDE = 2_000, 100  # changes of a Service in many slices: with the program, and with the older one
 
 
@@ -211,7 +211,7 @@ def slices(bench):
 
 def folds(bench):
     rows = []
-    for count, width in ((1, 10), (100, 100)):
+    for count, width in ((1, 10), (1_000, 10)):
         found = less(bench.folds(count, width, FOLDED), bench.folds(count, width, 0))
         rows.append(tell(f"fold of a change of a view of {count * width:,} endpoints", found, FOLDED))
     ratio("10,000 to 10 endpoints (to reach: 3)", rows[1], rows[0])
