@@ -28,7 +28,7 @@ LIMIT = 300
 NOISE = 0.005      # seconds that two runs of one feed may differ by
 FEW = 10_000       # changes of one slice, each with a drain
 CHANGES = 50_000
-FOLDED = 20_000
+FOLDED = 10_000
 WIDE = 2_000, 100  # changes of a Service in many slices: with the program, and with the older one
 
 
