@@ -1,4 +1,4 @@
-//! Links to peers over TCP: connections that a listener accepts, without threads. No command uses it yet.
+//! Links to peers over TCP: connections that a listener accepts, without threads.
 //!
 //! Stands on mesh_links for the trait `Links`, whose contract `mio_links::MioLinks` meets without a trace, since the system
 //! alone knows what its sockets hold. `specs/Answers` says which answers are counted, and `specs/Numbers` how new links are

@@ -1,5 +1,5 @@
 //! What a server over links does, as definitions and laws alone: whole turns, what each link is due, and that leaving out a link
-//! changes nothing for the others. No command uses it yet.
+//! changes nothing for the others.
 //!
 //! Stands on mesh_hub for what the lines of feeds lead to, on session_core for what the bytes of a link come to, and on
 //! mesh_links for the calls. The contracts of `laws` cite `specs/Turns` and `specs/Traces` (which calls are a turn, and which a

@@ -1,5 +1,4 @@
 //! The session of one link: its path line, then lines or one request frame, in whatever pieces its bytes come; and its outbox.
-//! No command uses it yet.
 //!
 //! Stands on line_run for lines, and on proto_wire and proxy_proto for frames and requests. `Session` in `link` is what a
 //! server keeps of each link. Its contract cites `specs/Sessions` (a session was given these bytes), `specs/Pieces` (the answer
