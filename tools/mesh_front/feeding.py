@@ -50,14 +50,15 @@ class FeedLink:
 
     def __init__(self, address: ServerAddress):
         self.link = Link(address, FEED)
-        self.sent, self.refused, self.stops = 0, 0, False
+        self.sent, self.refused, self.stops = 0, 0, 0
         self.unanswered: dict[int, Line] = {}
         self.closed = threading.Event()
+        self.failure: BrokenPipeError | None = None
 
     def send(self, line: Line) -> None:
         """Sends a line. A blank line has no answer."""
         self.sent += 1
-        self.stops = self.stops or line.stops
+        self.stops += line.stops
         if line.data.strip(b" \t\r"):
             self.unanswered[self.sent] = line
         self.link.send(line.data + b"\n")
@@ -65,11 +66,19 @@ class FeedLink:
     def read_answers(self) -> None:
         """Reads the answers until the server closes the link: names the refused lines, and prints the verdicts."""
         rest = b""
-        while data := self.link.receive():
-            *answers, rest = (rest + data).split(b"\n")
-            for answer in answers:
-                self.take_answer(answer.decode(errors="replace"))
+        try:
+            while data := self.link.receive():
+                *answers, rest = (rest + data).split(b"\n")
+                for answer in answers:
+                    self.take_answer(answer.decode(errors="replace"))
+        except BrokenPipeError as failure:
+            self.failure = failure
         self.closed.set()
+
+    def raise_failure(self) -> None:
+        """Raises what ended the reading of answers: the reader of standard output has left."""
+        if self.failure is not None:
+            raise self.failure
 
     def take_answer(self, answer: str) -> None:
         """Takes an answer."""
@@ -77,6 +86,7 @@ class FeedLink:
         line = self.unanswered.pop(int(number), None) if number.isdecimal() else None
         if word == "refused" and line is not None:
             self.refused += 1
+            self.stops -= line.stops
             say(f"{line.title} is refused: {rest}")
         elif word == "verdict" and line is not None:
             print(answer, flush=True)
@@ -157,10 +167,12 @@ def send_recording(address: ServerAddress, path: pathlib.Path) -> Status:
         thread.start()
     for line in lines.until(link.closed):
         link.send(line)
+    link.raise_failure()
     if link.closed.is_set() and not link.stops:
         raise link.closed_fault()
     link.link.end()
     answers.join()
+    link.raise_failure()
     return link.status()
 
 
@@ -273,6 +285,7 @@ def send_cluster(address: ServerAddress, cluster: Cluster, namespaces: list[str]
             threading.Thread(target=it.run, args=(listings[it.kind],), daemon=True).start()
         for line in lines.until(link.closed):
             link.send(line)
+        link.raise_failure()
         raise link.closed_fault()
     finally:
         lines.are_wanted = False

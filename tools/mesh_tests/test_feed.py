@@ -54,6 +54,11 @@ class Recording(Case):
             run, _ = self.send(text_of(BOOKMARK, '{"control":"stop"}'), Feed(answers, most=2))
             self.require(run, 0, "", "feed: the server stopped, as a line of the recording asked\n")
 
+    def test_a_stop_that_is_refused(self):
+        """The server goes on, and the line is named like any other that is refused."""
+        run, _ = self.send(text_of('{"control":"stop"}', BOOKMARK), Feed({1: "refused 1 NotHere"}))
+        self.require(run, 7, "", "feed: line 1 is refused: NotHere\n")
+
     def test_a_server_that_closes_the_link(self):
         """It is said how far the recording came."""
         run, address = self.send(text_of(BOOKMARK), Feed(most=0))
