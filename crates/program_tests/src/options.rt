@@ -182,7 +182,7 @@ fold --id 1
 fold --id 1 --method Get --default-policy deny
 fold --id 1 --method Get --id 1
 fold 1 Get
-serve --bind 127.0.0.1:8086
+serve --bind 127.0.0.1:65536
 serve
 sampel 5
 sample 
