@@ -1,15 +1,15 @@
 -- What stands under an id, in the entries of a map by ids.
-use Rattle.std.proofs.Common.{◌≡◌, ◌<◌, ℕ, Bool, true, false, cond, eqb, nat_eq, List, [], ◌∷◌, ◌++◌, Option, Some, None, refl, sym, ap, ◌∙◌, arith, inl, inr, eqb-true, eq-eqb}
+use Rattle.std.proofs.Common.{◌≡◌, ◌<◌, ℕ, Bool, true, false, cond, eqb, nat_eq, List, [], ◌∷◌, ◌++◌, map, Option, Some, None, refl, sym, ap, ◌∙◌, arith, inl, inr, eqb-true, eq-eqb}
 use Rattle.std.specs.BTreeMap.{insert_entry}
 use Rattle.std.specs.Cmp.{nat_cmp_is, unsigned_tied}
 use Rattle.std.specs.List.{AllByRecursion}
-use Rattle.std.specs.Map.{lookup, remove_entry, set_value, values_of}
+use Rattle.std.specs.Map.{keys_of, lookup, remove_entry, set_value, values_of}
 use Rattle.std.specs.Ordering.{is_eq, match_ordering, nat_cmp}
 use Rattle.std.specs.declared.cmp.Ordering.TheVariants.{Greater}
 use Rattle.std.proofs.lemmas.Bool.Decides.{eqb_tells}
 use Rattle.feed_history.specs.Ids.{at_id, ended, in_place}
 
-eqb_back : (a b : ℕ) → eqb a b ≡ eqb b a
+pub eqb_back : (a b : ℕ) → eqb a b ≡ eqb b a
 eqb_back a b = elim (eqb_tells a b) [
   | inl same ↦ same.0 ∙ sym (eq-eqb b a (sym same.1))
   | inr apart ↦ elim (eqb_tells b a) [
@@ -27,6 +27,10 @@ above id k lt = sym (nat_cmp_is id k Greater lt)
 module _ {S : Type 0} (id_of : S → ℕ) where
   abbrev pub ByIds : List (ℕ × S) → Type 0
   ByIds entries = AllByRecursion (λ entry. id_of entry.1 ≡ entry.0) entries
+
+  pub ids_are_keys : (entries : List (ℕ × S)) → ByIds entries → keys_of entries ≡ map id_of (values_of entries)
+  ids_are_keys [] by = refl
+  ids_are_keys (e ∷ es) by = (λ i. sym by.0 i ∷ ids_are_keys es by.1 i)
 
   module _ (id : ℕ) where
     abbrev test : ℕ → Bool

@@ -1,6 +1,10 @@
+mod AllFollowed
+pub mod AllStanding
 mod ByCmp
 mod ById
 mod DueIds
+pub mod Mapped
 mod Refreshed
 mod Shown
 mod Standing
+pub mod Streamed

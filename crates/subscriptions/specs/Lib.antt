@@ -2,4 +2,5 @@ pub mod ById
 pub mod DueIds
 pub mod Live
 pub mod Standing
+pub mod Unique
 pub mod Watched

@@ -1,9 +1,15 @@
 -- Live subscriptions, as contracts see them, and what is live under an id.
-use Rattle.std.specs.Prelude.{◌≡◌, ◌<◌, ℕ, nat_eq, List, ◌∷◌, [], Option, Some, if◌then◌else◌, option_map}
+use Rattle.std.specs.Prelude.{◌≡◌, ◌<◌, ℕ, nat_eq, List, ◌∷◌, [], Option, Some, None, if◌then◌else◌, map, option_and_then, option_map}
 use Rattle.std.specs.List.{AllByRecursion}
+use Rattle.std.specs.List.Sorted.{IsStrictlySortedBy}
+use Rattle.std.specs.Ordering.{nat_cmp}
 use Rattle.mesh_base.specs.declared.sub_id.SubId.{SubId}
+use Rattle.view_types.specs.declared.endpoint.EndpointView.{EndpointView}
 use Rattle.view_types.specs.declared.query.Query.{Query}
+use Rattle.view_types.specs.declared.query.Query.TheVariants.{Get}
 use Rattle.view_types.specs.declared.view.View.{View}
+use Rattle.view_types.specs.declared.view.View.TheVariants.{Endpoints}
+use Rattle.mark_rules.specs.declared.keys.EndpointKey.{EndpointKey}
 use Rattle.feed_history.specs.Ids.{at_id}
 
 -- its id, its query, and the view that its subscriber was last shown, if it was drained
@@ -27,6 +33,10 @@ query_at id subs = option_map (λ sub. sub.query) (sub_at id subs)
 abbrev pub AreBelow : ℕ → List LiveSubscription → Type 0
 AreBelow id subs = AllByRecursion (λ sub. id_of sub < id) subs
 
+-- the ids rise, so that each stands once
+abbrev pub IdsRise : List LiveSubscription → Type 0
+IdsRise subs = IsStrictlySortedBy nat_cmp (map id_of subs)
+
 -- the subscriber was shown this view
 abbrev pub showing : View → LiveSubscription → LiveSubscription
 showing view sub = record sub { shown = Some view }
@@ -37,3 +47,27 @@ shown_in_place view sub = showing view sub ∷ []
 -- this stands under the id, and under each other id what stood there
 abbrev pub PutsAt : ℕ → Option LiveSubscription → List LiveSubscription → List LiveSubscription → Type 0
 PutsAt id value old new = (n : ℕ) → sub_at n new ≡ (if nat_eq n id then value else sub_at n old)
+
+-- ---- subscriptions of endpoints
+
+-- the key of the endpoints that a query asks for, if it asks for endpoints
+abbrev pub endpoint_key : Query → Option EndpointKey
+endpoint_key (Get ns name port ctx) = Some (record { ns = ns; name = name; port = port })
+endpoint_key _ = None
+
+-- and that of the query under an id
+abbrev pub key_at : ℕ → List LiveSubscription → Option EndpointKey
+key_at id subs = option_and_then endpoint_key (query_at id subs)
+
+-- the endpoints, where a key is asked for, and else the view that was shown
+abbrev pub shown_by : Option EndpointKey → Option EndpointView → Option View → Option View
+shown_by None endpoints shown = shown
+shown_by (Some key) endpoints shown = option_map Endpoints endpoints
+
+-- A subscription of endpoints was last shown those of its stream.
+abbrev pub with_endpoints : (ℕ → Option EndpointView) → LiveSubscription → LiveSubscription
+with_endpoints endpoints sub = record { id = sub.id; query = sub.query; shown = shown_by (endpoint_key sub.query) (endpoints (id_of sub)) sub.shown }
+
+-- the subscriptions with what the streams of endpoints under their ids have shown
+abbrev pub subs_of : (ℕ → Option EndpointView) → List LiveSubscription → List LiveSubscription
+subs_of endpoints subs = map (with_endpoints endpoints) subs

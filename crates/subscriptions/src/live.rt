@@ -4,7 +4,7 @@ ghost use Rattle.std.specs.Option.{option_copied};
 ghost use Rattle.view_rules.specs.Fold.{IsOrderlyIfShown};
 ghost use Rattle.feed_history.specs.Ids.{ended, in_place};
 ghost use Rattle.subscriptions.specs.ById.{ShowsAt};
-ghost use Rattle.subscriptions.specs.Live.{AreBelow, PutsAt, id_of, shown_in_place, showing, sub_at};
+ghost use Rattle.subscriptions.specs.Live.{AreBelow, IdsRise, PutsAt, id_of, shown_in_place, showing, sub_at};
 
 use mesh_base::memory::Memory;
 use mesh_base::sub_id::SubId;
@@ -19,7 +19,7 @@ use view_types::view::View;
 pub struct Subscription {
     pub id: SubId,
     pub query: Query,
-    /// The view that its subscriber was last shown, if it was drained. Its rows are in order.
+    /// The view that its subscriber was last shown, if it was drained. Its rows are in order. Of endpoints their stream knows it.
     pub shown: Option<View>,
 }
 
@@ -98,6 +98,13 @@ impl Subscriptions {
         ensures { result ≡ length self.now }
     {
         self.by_id.len()
+    }
+
+    /// Their ids rise.
+    pub fn stand_in_order(&self)
+        ensures { IdsRise self.now }
+    {
+        let _len = self.by_id.len();
     }
 
     /// The subscription under the id.

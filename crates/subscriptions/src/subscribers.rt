@@ -1,177 +1,243 @@
-// The live subscriptions, with the marks that each watches and who is due.
-ghost use Rattle.std.specs.Prelude.{◌≡◌, ◌&&◌, ◌||◌, ◌++◌, ◌∷◌, [], ℕ, nat_eq, not, false, OnErr, OnOk, is_some, length, Some};
+// The live subscriptions, with the streams of those that ask for endpoints.
+ghost use Rattle.std.specs.Prelude.{◌≡◌, ◌&&◌, ◌||◌, ◌++◌, ◌∷◌, [], ℕ, nat_eq, not, false, true, None, OnErr, OnOk, is_some, length, Some};
 ghost use Rattle.std.specs.Option.{option_copied};
+ghost use Rattle.mesh_base.specs.declared.limits.Limits.{Limits};
 ghost use Rattle.view_types.specs.Objects.{ObjectMap};
 ghost use Rattle.view_types.specs.declared.config.Config.{Config};
+ghost use Rattle.view_rules.specs.Batch.{batch};
 ghost use Rattle.view_rules.specs.Fold.{IsOrderlyIfShown};
+ghost use Rattle.view_rules.specs.PolicyLaws.{AreLawful};
+ghost use Rattle.view_rules.specs.Views.{view_of};
+ghost use Rattle.feed_history.specs.Drains.{IsOrMemory, frames_within};
 ghost use Rattle.feed_history.specs.Ids.{ended, in_place};
-ghost use Rattle.mark_graph.specs.RowMarks.{has_row};
-ghost use Rattle.row_reads.specs.References.{HaveSame};
-ghost use Rattle.mark_rules.specs.Reads.{query_reads};
+ghost use Rattle.watch_events.specs.declared.event.Event.{Event};
+ghost use Rattle.endpoint_streams.specs.Streams.{SetsAt};
 ghost use Rattle.subscriptions.specs.DueIds.{Rises, is_among};
-ghost use Rattle.subscriptions.specs.Live.{AreBelow, id_of, shown_in_place, sub_at};
-ghost use Rattle.subscriptions.specs.Standing.{Follows, IsShownNow, Refreshes, Stands, new_sub};
+ghost use Rattle.subscriptions.specs.Live.{AreBelow, LiveSubscription, endpoint_key, id_of, key_at, shown_in_place, sub_at, subs_of};
+ghost use Rattle.subscriptions.specs.Standing.{AllFollow, AllStand, IsAfter, IsShownNow, OpensAt, new_sub};
 
-use crate::due_list::DueList;
-use crate::live::{Subscription, Subscriptions};
-use crate::watching::Watching;
-use event_laws::laws::{events_keep_lawful, untouched_queries_stay};
+use crate::live::Subscription;
+use crate::queries::{endpoint_key, watched_reads};
+use crate::watchers::Watchers;
+use bytes::Bytes;
+use endpoint_streams::streams::EndpointStreams;
+use feed_history::refusal::HubFault;
+use mark_rules::laws::endpoints_stay;
 use mesh_base::list::List;
 use mesh_base::memory::Memory;
 use mesh_base::steps::Steps;
 use mesh_base::sub_id::SubId;
+use object_store::change::Change;
 use row_reads::at_mark::Reader;
 use std::alloc::Global;
-use view_types::mark::Mark;
 use view_types::query::Query;
 use view_types::view::View;
 
-/// The live subscriptions. Each watches the marks that its query reads, and some are due.
+/// The live subscriptions, some of which are due. Those that ask for endpoints have a stream each, and the others watch the marks
+/// that their queries read.
 #[derive(Drop)]
-pub struct Subscribers {
-    subs: Subscriptions,
-    watching: Watching,
-    due: DueList,
+pub struct Subscribers<E: EndpointStreams> {
+    live: Watchers,
+    endpoints: E,
 }
 
-impl Subscribers {
-    /// None.
-    pub fn new(alloc: Global) -> Subscribers
-        ensures subs { result.subs ≡ [] }
-        ensures due { result.due ≡ [] }
-        ensures stands { (config : Config) (held : ObjectMap) → Stands config held result }
+impl<E: EndpointStreams> Subscribers<E> {
+    /// None. No stream is open yet.
+    pub fn new(alloc: Global, endpoints: E) -> Subscribers<E>
+        requires { (id : ℕ) → E.key_of endpoints id ≡ None }
+        ensures subs { result.live.subs ≡ [] }
+        ensures due { result.live.due ≡ [] }
+        ensures stands { (config : Config) (limits : Limits) (held : ObjectMap)
+            → E.stands endpoints config limits held
+            → AllStand E.key_of E.shown_to E.stands config limits held result }
     {
         Subscribers {
-            subs: Subscriptions::new(alloc),
-            watching: Watching::new(alloc),
-            due: DueList::new(alloc),
+            live: Watchers::new(alloc),
+            endpoints,
         }
     }
 
     /// How many are live.
     pub fn len(&self) -> usize
-        ensures { result ≡ length self.now.subs }
+        ensures { result ≡ length self.now.live.subs }
     {
-        self.subs.len()
+        self.live.len()
     }
 
-    /// The subscription under the id.
+    /// The subscription under the id. What one of endpoints has shown is known by its stream.
     pub fn get(&self, id: SubId) -> Option<&Subscription>
-        ensures { option_copied result ≡ sub_at id.0 self.now.subs }
+        ensures { option_copied result ≡ sub_at id.0 self.now.live.subs }
     {
-        self.subs.get(id.0 as u64)
+        self.live.get(id)
     }
 
     /// The ids that are due, in order.
     pub fn due(&self) -> &[SubId]
-        ensures value { result.now ≡ self.now.due }
-        ensures rise { Rises self.now.due }
+        ensures value { result.now ≡ self.now.live.due }
+        ensures rise { Rises self.now.live.due }
     {
-        self.due.as_slice()
+        self.live.due()
     }
 
     /// Whether the id is due.
     pub fn is_due(&self, id: SubId) -> bool
-        ensures { result ≡ is_among id.0 self.now.due }
+        ensures { result ≡ is_among id.0 self.now.live.due }
     {
-        self.due.has(id)
+        self.live.is_due(id)
     }
 
-    /// Makes a subscription live, whose id is above those of all others and whose query reads these marks. It is due.
-    pub fn add(&mut self, id: SubId, query: Query, marks: List<Mark>) -> Result<(), Memory>
-        requires { AreBelow id.0 self.old.subs }
-        ensures subs { OnOk result (self.new.subs ≡ self.old.subs ++ new_sub id query ∷ []) }
+    /// Makes a subscription live, whose id is above those of all others. It is due.
+    pub fn add<L>(
+        &mut self,
+        reader: &Reader,
+        id: SubId,
+        query: Query,
+        steps: &mut Steps<L>,
+    ) -> Result<(), Memory>
+        requires below { AreBelow id.0 self.old.live.subs }
+        requires free { E.key_of self.old.endpoints id.0 ≡ None }
+        ensures subs { OnOk result
+            (self.new.live.subs ≡ self.old.live.subs ++ new_sub id query ∷ []) }
         ensures due { OnOk result ((n : ℕ)
-            → is_among n self.new.due ≡ (nat_eq n id.0 || is_among n self.old.due)) }
-        ensures stands { OnOk result ((config : Config) (held : ObjectMap)
-            → HaveSame marks (query_reads config held query)
-            → Stands config held self.old → Stands config held self.new) }
-        ensures err { OnErr result (self.new.subs ≡ self.old.subs) }
+            → is_among n self.new.live.due ≡ (nat_eq n id.0 || is_among n self.old.live.due)) }
+        ensures shown { OnOk result ((config : Config) (limits : Limits)
+            → E.stands self.old.endpoints config limits reader.now.store.now.objects
+            → subs_of (E.shown_to self.new.endpoints) self.new.live.subs
+            ≡ subs_of (E.shown_to self.old.endpoints) self.old.live.subs ++ new_sub id query ∷ []) }
+        ensures stands { reader.now.store.now.spent ≡ false → OnOk result ((limits : Limits)
+            → AreLawful reader.now.store.now.objects
+            → AllStand E.key_of E.shown_to E.stands reader.now.config.now limits
+            reader.now.store.now.objects self.old
+            → AllStand E.key_of E.shown_to E.stands reader.now.config.now limits
+            reader.now.store.now.objects self.new) }
+        ensures err { OnErr result (self.new.live.subs ≡ self.old.live.subs) }
     {
-        self.watching.watch(id.0 as u64, marks)?;
-        self.due.put(id)?;
-        self.subs.add(Subscription::new(id, query))?;
+        let marks = watched_reads(reader, &query, steps)?;
+        open_stream(&mut self.endpoints, reader, id, &query, steps)?;
+        self.live.add(id, query, marks)?;
         Ok(())
     }
 
-    /// Ends the subscription under the id. Answers whether there was one.
+    /// Ends the subscription under the id. Answers whether there was one. It takes no memory.
     pub fn end(&mut self, id: SubId) -> bool
-        ensures there { result ≡ is_some (sub_at id.0 self.old.subs) }
-        ensures subs { self.new.subs ≡ in_place id_of id.0 ended self.old.subs }
+        ensures there { result ≡ is_some (sub_at id.0 self.old.live.subs) }
+        ensures subs { self.new.live.subs ≡ in_place id_of id.0 ended self.old.live.subs }
         ensures due { (n : ℕ)
-            → is_among n self.new.due ≡ (not (nat_eq n id.0) && is_among n self.old.due) }
-        ensures stands { (config : Config) (held : ObjectMap)
-            → Stands config held self.old → Stands config held self.new }
+            → is_among n self.new.live.due ≡ (not (nat_eq n id.0) && is_among n self.old.live.due) }
+        ensures shown { (config : Config) (limits : Limits) (held : ObjectMap)
+            → E.stands self.old.endpoints config limits held
+            → subs_of (E.shown_to self.new.endpoints) self.new.live.subs
+            ≡ in_place id_of id.0 ended (subs_of (E.shown_to self.old.endpoints) self.old.live.subs) }
+        ensures stands { (config : Config) (limits : Limits) (held : ObjectMap)
+            → AllStand E.key_of E.shown_to E.stands config limits held self.old
+            → AllStand E.key_of E.shown_to E.stands config limits held self.new }
     {
-        self.watching.unwatch(id.0 as u64);
-        self.due.take(id);
-        self.subs.end(id.0 as u64)
+        self.endpoints.close(id.0 as u64);
+        self.live.end(id)
     }
 
-    /// Notes the view that the subscriber of the id was shown. It is due no more.
+    /// Notes the view that the subscriber of the id was shown, which asks for no endpoints. It is due no more.
     pub fn show(&mut self, id: SubId, view: View)
-        requires { IsOrderlyIfShown (Some view) }
-        ensures subs { self.new.subs ≡ in_place id_of id.0 (shown_in_place view) self.old.subs }
+        requires orderly { IsOrderlyIfShown (Some view) }
+        requires other { key_at id.0 self.old.live.subs ≡ None }
+        ensures subs { self.new.live.subs
+            ≡ in_place id_of id.0 (shown_in_place view) self.old.live.subs }
         ensures due { (n : ℕ)
-            → is_among n self.new.due ≡ (not (nat_eq n id.0) && is_among n self.old.due) }
-        ensures stands { (config : Config) (held : ObjectMap)
-            → IsShownNow config held view (sub_at id.0 self.old.subs)
-            → Stands config held self.old → Stands config held self.new }
+            → is_among n self.new.live.due ≡ (not (nat_eq n id.0) && is_among n self.old.live.due) }
+        ensures shown { subs_of (E.shown_to self.new.endpoints) self.new.live.subs
+            ≡ in_place id_of id.0 (shown_in_place view)
+            (subs_of (E.shown_to self.old.endpoints) self.old.live.subs) }
+        ensures stands { (config : Config) (limits : Limits) (held : ObjectMap)
+            → IsShownNow config held view (sub_at id.0 self.old.live.subs)
+            → AllStand E.key_of E.shown_to E.stands config limits held self.old
+            → AllStand E.key_of E.shown_to E.stands config limits held self.new }
     {
-        self.due.take(id);
-        self.subs.show(id.0 as u64, view);
+        self.live.show(id, view);
     }
 
-    /// Makes those due that watch one of these marks, which are those of an event, and lets them watch what their queries
-    /// read after it.
+    /// The frames that bring the subscriber of the id from the endpoints that it was last shown to those now. It is due no more.
+    /// `Oversize` comes where a message is longer than may be; it tells the first such length. An error shows nobody anything.
+    pub fn drain(&mut self, id: SubId) -> Result<List<Bytes>, HubFault>
+        requires standing { (config : Config) × (limits : Limits) × (held : ObjectMap)
+            × E.stands self.old.endpoints config limits held }
+        requires streamed { is_some (key_at id.0 self.old.live.subs) ≡ true }
+        ensures frames { (config : Config) (limits : Limits) (held : ObjectMap)
+            → AllStand E.key_of E.shown_to E.stands config limits held self.old
+            → (sub : LiveSubscription)
+            → sub_at id.0 (subs_of (E.shown_to self.old.endpoints) self.old.live.subs) ≡ Some sub
+            → IsOrMemory (frames_within limits.message
+            (batch sub.shown (view_of config held sub.query) limits)) result }
+        ensures due { OnOk result ((n : ℕ)
+            → is_among n self.new.live.due ≡ (not (nat_eq n id.0) && is_among n self.old.live.due)) }
+        ensures shown { OnOk result ((config : Config) (limits : Limits) (held : ObjectMap)
+            → AllStand E.key_of E.shown_to E.stands config limits held self.old
+            → (sub : LiveSubscription)
+            → sub_at id.0 (subs_of (E.shown_to self.old.endpoints) self.old.live.subs) ≡ Some sub
+            → subs_of (E.shown_to self.new.endpoints) self.new.live.subs
+            ≡ in_place id_of id.0 (shown_in_place (view_of config held sub.query))
+            (subs_of (E.shown_to self.old.endpoints) self.old.live.subs)) }
+        ensures subs { self.new.live.subs ≡ self.old.live.subs }
+        ensures stands { (config : Config) (limits : Limits) (held : ObjectMap)
+            → AllStand E.key_of E.shown_to E.stands config limits held self.old
+            → AllStand E.key_of E.shown_to E.stands config limits held self.new }
+        ensures undue { OnErr result (self.new.live.due ≡ self.old.live.due) }
+        ensures kept { OnErr result (subs_of (E.shown_to self.new.endpoints) self.new.live.subs
+            ≡ subs_of (E.shown_to self.old.endpoints) self.old.live.subs) }
+    {
+        self.live.stand_in_order();
+        match self.endpoints.drain(id.0 as u64) {
+            Ok(frames) => {
+                self.live.show_endpoints(id);
+                Ok(frames)
+            }
+            Err(fault) => Err(fault),
+        }
+    }
+
+    /// Makes those due whose queries read a mark of this change of the store, which is that of an event.
     pub fn follow<L>(
         &mut self,
         reader: &Reader,
-        marks: &[Mark],
+        change: &Change,
         steps: &mut Steps<L>,
     ) -> Result<(), Memory>
-        ensures subs { self.new.subs ≡ self.old.subs }
+        ensures subs { self.new.live.subs ≡ self.old.live.subs }
         ensures follows { reader.now.store.now.spent ≡ false → OnOk result
-            (Follows reader.now.config.now reader.now.store.now.objects marks.now self.old self.new) }
-    {
-        untouched_queries_stay();
-        events_keep_lawful();
-        let ids = self.watching.due(marks)?;
-        self.refresh_all(reader, ids.as_slice(), steps)?;
-        Ok(())
-    }
-
-    // Makes the subscriptions of these ids due, and lets them watch what their queries read now.
-    fn refresh_all<L>(
-        &mut self,
-        reader: &Reader,
-        ids: &[u64],
-        steps: &mut Steps<L>,
-    ) -> Result<(), Memory>
-        ensures subs { self.new.subs ≡ self.old.subs }
-        ensures refreshes { reader.now.store.now.spent ≡ false → OnOk result
-            (Refreshes reader.now.config.now reader.now.store.now.objects (λ id. has_row id ids.now)
+            ((limits : Limits) (before : ObjectMap) (event : Event)
+            → IsAfter before reader.now.store.now.objects change.now.marks event
+            → AllStand E.key_of E.shown_to E.stands reader.now.config.now limits before self.old
+            → AllFollow E.key_of E.shown_to E.stands reader.now.config.now limits before event
             self.old self.new) }
     {
-        for id in ids {
-            self.refresh(reader, *id, steps)?;
-        }
+        endpoints_stay();
+        let streamed = self.endpoints.follow(reader.store, change, steps)?;
+        self.live.follow(reader, change.marks.as_slice(), steps)?;
+        self.live.make_due(streamed.as_slice())?;
         Ok(())
     }
+}
 
-    // Makes the subscription of an id due, and lets it watch what its query reads now.
-    fn refresh<L>(&mut self, reader: &Reader, id: u64, steps: &mut Steps<L>) -> Result<(), Memory>
-        ensures subs { self.new.subs ≡ self.old.subs }
-        ensures refreshes { reader.now.store.now.spent ≡ false → OnOk result
-            (Refreshes reader.now.config.now reader.now.store.now.objects (λ n. nat_eq n id) self.old self.new) }
-    {
-        let Some(sub) = self.subs.get(id) else {
-            return Ok(());
-        };
-        let marks = reader.query_reads(&sub.query, steps)?;
-        let due = sub.id;
-        self.watching.watch(id, marks)?;
-        self.due.put(due)?;
-        Ok(())
+// Opens a stream for a subscription that asks for endpoints.
+fn open_stream<E: EndpointStreams, L>(
+    endpoints: &mut E,
+    reader: &Reader,
+    id: SubId,
+    query: &Query,
+    steps: &mut Steps<L>,
+) -> Result<(), Memory>
+    requires { E.key_of endpoints.old id.0 ≡ None }
+    ensures keys { OnOk result
+        (SetsAt id.0 (endpoint_key query.now) (E.key_of endpoints.old) (E.key_of endpoints.new)) }
+    ensures shown { OnOk result ((config : Config) (limits : Limits)
+        → E.stands endpoints.old config limits reader.now.store.now.objects
+        → OpensAt id.0 (endpoint_key query.now) (E.shown_to endpoints.old)
+        (E.shown_to endpoints.new)) }
+    ensures stands { OnOk result ((config : Config) (limits : Limits)
+        → E.stands endpoints.old config limits reader.now.store.now.objects
+        → E.stands endpoints.new config limits reader.now.store.now.objects) }
+{
+    match endpoint_key(query)? {
+        Some(key) => endpoints.open(reader.store, id.0 as u64, key, steps),
+        None => Ok(()),
     }
 }

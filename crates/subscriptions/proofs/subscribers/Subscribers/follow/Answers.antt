@@ -1,18 +1,35 @@
-use Rattle.std.proofs.Common.{◌≡◌, ℕ, Bool, sym, subst, ap, ◌∙◌}
-use Rattle.view_rules.specs.PolicyLaws.{AreLawful}
+use Rattle.std.proofs.Common.{◌≡◌, ℕ, ap, sym, subst, ◌∙◌}
 use Rattle.mark_graph.specs.RowMarks.{has_row}
-use Rattle.feed_history.specs.Due.{marks_of_event}
+use Rattle.endpoint_streams.specs.Streams.{is_met}
 use Rattle.feed_history.specs.Events.{objects_after}
-use Rattle.subscriptions.specs.Standing.{IsRefreshed, is_met}
-use Rattle.subscriptions.proofs.Refreshed.{followed}
+use Rattle.subscriptions.specs.Live.{subs_of}
+use Rattle.subscriptions.specs.Standing.{IsAfter}
+use Rattle.subscriptions.proofs.AllFollowed.{all_due, all_streamed, made_stands}
 use Rattle.subscriptions.proofs.subscribers.Subscribers.follow.Goals as goal
 
 pub returns-clause-follows : goal.returns-clause-follows
-returns-clause-follows g c = λ going before event at_keys lawful right held_is marks_is stands.
-    let keeps : AreLawful c.args.reader.now.store.now.objects = subst AreLawful (sym held_is) (c.events_keep_lawful.ensures before lawful event right) in
-    let done = c.in_ok-refresh_all.ensures.refreshes going keeps in
-    let met : (λ (n : ℕ). has_row n c.as_slice.result.now) ≡ (λ (n : ℕ). is_met c.args.self.now (marks_of_event before event) n) =
-    (λ i n. (ap (has_row n) c.as_slice.ensures ∙ c.in_ok-ids.ensures n ∙ ap (λ marks. is_met c.args.self.now marks n) marks_is) i) in
-    let here = subst (λ held. IsRefreshed c.args.reader.now.config.now held (λ n. has_row n c.as_slice.result.now) c.args.self.now c.refresh_all.new.self) held_is done in
-    followed c.untouched_queries_stay.ensures c.args.reader.now.config.now before event at_keys lawful right c.args.self.now c.refresh_all.new.self stands c.in_ok-refresh_all.ensures.subs
-    (subst (λ (test : ℕ → Bool). IsRefreshed c.args.reader.now.config.now (objects_after before event) test c.args.self.now c.refresh_all.new.self) met here)
+returns-clause-follows g c = λ going limits before event is all.
+    let config = c.args.reader.now.config.now in
+    let held = c.args.reader.now.store.now.objects in
+    let marks = c.args.change.now.marks in
+    let old = c.args.self.now.live in
+    let mid = c.follow-2.new.self in
+    let new = c.make_due.new.self in
+    let ids = c.as_slice-2.result.now in
+    let then = c.follow.new.self in
+    let stay = c.endpoints_stay.ensures in
+    let keys = g.E.EndpointStreams.key_of in
+    let shown = g.E.EndpointStreams.shown_to in
+    let here = c.args.self.now.endpoints in
+    let done = c.in_ok-follow.ensures.follows going before event (subst (λ marks. IsAfter before held marks event) (sym c.as_slice.ensures) is) all.live in
+    let touched : (n : ℕ) → has_row n ids ≡ is_met before marks (keys here n) = λ n. ap (has_row n) c.as_slice-2.ensures ∙ c.in_ok-streamed.ensures.touched config limits before all.endpoints is.leads n in
+    let stays = c.in_ok-streamed.ensures.shown config limits before all.endpoints is.leads in
+    record {
+      due = all_due stay config before held marks event is (keys here) (keys then) (shown here) (shown then) old mid new all.streamed done ids touched c.in_ok-make_due.ensures.due c.follow-2.ensures.subs c.make_due.ensures.subs c.in_ok-streamed.ensures.keys stays;
+      shown = (λ i. subs_of (λ n. stays n i) ((c.make_due.ensures.subs ∙ c.follow-2.ensures.subs) i));
+      stands = record {
+        live = made_stands config (objects_after before event) (λ n. has_row n ids) mid new done.stands c.in_ok-make_due.ensures.due c.make_due.ensures.subs c.make_due.ensures.watching;
+        streamed = all_streamed stay config before held marks event is (keys here) (keys then) (shown here) (shown then) old mid new all.streamed done ids touched c.in_ok-make_due.ensures.due c.follow-2.ensures.subs c.make_due.ensures.subs c.in_ok-streamed.ensures.keys stays;
+        endpoints = subst (λ now. g.E.EndpointStreams.stands then config limits now) is.objects (c.in_ok-streamed.ensures.stands config limits before all.endpoints is.leads);
+      };
+    }

@@ -1,6 +1,9 @@
-use Rattle.subscriptions.proofs.Standing.{new_stands}
+use Rattle.subscriptions.proofs.AllStanding.{new_streamed}
 use Rattle.subscriptions.proofs.subscribers.Subscribers.new.Goals as goal
 
 pub returns-clause-stands : goal.returns-clause-stands
-returns-clause-stands c = λ config held.
-    new_stands config held (record { subs = c.new.result; watching = c.new-2.result; due = c.new-3.result }) c.new.ensures c.new-3.ensures c.new-2.ensures.going c.new-2.ensures.none
+returns-clause-stands g c = λ config limits held given. record {
+  live = c.new.ensures.stands config held;
+  streamed = new_streamed config held (g.E.EndpointStreams.key_of c.args.endpoints) (g.E.EndpointStreams.shown_to c.args.endpoints) c.new.result c.new.ensures.subs c.requires;
+  endpoints = given;
+}

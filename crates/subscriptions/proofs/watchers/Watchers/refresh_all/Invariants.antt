@@ -1,7 +1,7 @@
 use Rattle.std.proofs.Common.{◌≡◌, false, take}
 use Rattle.mark_graph.specs.RowMarks.{has_row}
 use Rattle.subscriptions.specs.Standing.{Refreshes}
-use Rattle.subscriptions.proofs.subscribers.Subscribers.refresh_all.Given as goal
+use Rattle.subscriptions.proofs.watchers.Watchers.refresh_all.Given as goal
 
 -- those of the ids so far are refreshed
 abbrev pub invariant-loop-id : goal.invariant-loop-id

@@ -1,7 +1,7 @@
 use Rattle.std.proofs.Common.{◌≡◌, Some, sym, ap, ◌∙◌}
 use Rattle.subscriptions.specs.Live.{LiveSubscription, sub_at}
 use Rattle.subscriptions.proofs.Refreshed.{refreshed_one}
-use Rattle.subscriptions.proofs.subscribers.Subscribers.refresh.Goals as goal
+use Rattle.subscriptions.proofs.watchers.Watchers.refresh.Goals as goal
 
 pub returns-clause-refreshes : goal.returns-clause-refreshes
 returns-clause-refreshes g c = λ going lawful.
