@@ -30,7 +30,8 @@ use Rattle.feed_history.specs.declared.refusal.HubFault.{HubFault}
 use Rattle.feed_history.specs.declared.refusal.Refusal.{Refusal}
 use Rattle.feed_history.specs.declared.refusal.Refusal.TheVariants as refusals
 use Rattle.feed_history.proofs.Placed.{found_has_id}
-use Rattle.mesh_hub.proofs.HubSteps.{applied_seen, cancelled_seen, drained_seen, mapped_in_place, same_in_place, sub_seen, subscribe_refused, subscribed_seen, unknown_refused}
+use Rattle.subscriptions.proofs.Mapped.{mapped_in_place}
+use Rattle.mesh_hub.proofs.HubSteps.{applied_seen, cancelled_seen, drained_seen, same_in_place, sub_seen, subscribe_refused, subscribed_seen, unknown_refused}
 use Rattle.feed_history.specs.Lengths.{HasLength, RowHasLength}
 use Rattle.feed_step.specs.Transcript.{Saying, refusal_in, reply_text, said_by, saying, sim_text, with_reply}
 use Rattle.feed_history.specs.KnownPatterns.{PatternsNow, facts_in, known_of}

@@ -3,7 +3,7 @@ use Rattle.std.proofs.Common.{◌≡◌, ◌||◌, false, cond, List, [], ◌∷
 use Rattle.std.specs.FinMap as map
 use Rattle.mesh_base.specs.declared.key.Kind.{Kind}
 use Rattle.mesh_base.specs.declared.key.ObjKey.{ObjKey}
-use Rattle.view_types.specs.Objects.{key_of}
+use Rattle.view_types.specs.Objects.{AtKeys, key_of}
 use Rattle.view_types.specs.declared.object.Object.{Object}
 use Rattle.mark_rules.specs.Marks.{has_mark, marks_of_all}
 use Rattle.mark_rules.proofs.EachOnce.{once_stands}
@@ -21,13 +21,15 @@ use Rattle.view_rules.specs.PolicyLaws.{AreLawful}
 use Rattle.watch_events.specs.Lawful.{IsLawfulEvent}
 use Rattle.watch_events.specs.declared.event.Event.{Event}
 use Rattle.event_laws.specs.Laws.{EventsKeepLawful}
+use Rattle.subscriptions.specs.Standing.{IsAfter}
 use Rattle.mesh_hub.specs.Changing.{Changes, Refuses}
 
-module _ (old new : Held) (change : Change) (going : new.spent ≡ false) (went : new.spent ≡ false → old.spent ≡ false) (limit : new.limit ≡ old.limit) where
+module _ (old new : Held) (change : Change) (going : new.spent ≡ false) (went : new.spent ≡ false → old.spent ≡ false) (limit : new.limit ≡ old.limit) (at_keys : AtKeys old.objects) where
   pub put_changes : (o : Object) → Puts old.objects new.objects o change → lacks_room old.objects old.limit (key_of o) ≡ false → Changes old new (Set o) change
   put_changes o puts room = record {
     objects = puts.objects;
     marks = puts.marks ∙ ap (λ before. marks_of_all (o ∷ before)) puts.before;
+    leads = puts.leads at_keys;
     accepted = ap (λ b. cond b (Some (Full (map.len old.objects))) None) room;
     going = λ _. going;
     went = went;
@@ -38,6 +40,7 @@ module _ (old new : Held) (change : Change) (going : new.spent ≡ false) (went 
   taken_changes key takes = record {
     objects = takes.objects;
     marks = takes.marks ∙ ap marks_of_all takes.before;
+    leads = takes.leads at_keys;
     accepted = refl;
     going = λ _. going;
     went = went;
@@ -48,6 +51,7 @@ module _ (old new : Held) (change : Change) (going : new.spent ≡ false) (went 
   relisted_changes kind items relists room = record {
     objects = relists.objects;
     marks = relists.marks ∙ (λ i. marks_of_all (of_kind kind (relists.objects i) ++ relists.before i));
+    leads = relists.leads at_keys;
     accepted = ap (λ b. cond b (Some (Full (map.len old.objects))) None) room;
     going = λ _. going;
     went = went;
@@ -59,10 +63,11 @@ no_marks : (marks : List Mark) → ((mark : Mark) → has_mark marks mark ≡ fa
 no_marks [] none = refl
 no_marks (m ∷ ms) none = absurd (cc (sym (ap (λ b. b || has_mark ms m) (is_itself m)) ∙ none m))
 
-pub nothing_changes : (held : Held) (change : Change) → change.marks ≡ [] → Changes held held Bookmark change
-nothing_changes held change none = record {
+pub nothing_changes : (held : Held) (change : Change) → AtKeys held.objects → change.marks ≡ [] → Changes held held Bookmark change
+nothing_changes held change at_keys none = record {
   objects = refl;
   marks = none ∙ sym (no_marks (marks_of_all []) (λ mark. once_stands [] mark));
+  leads = record { at_keys = at_keys; keys_kept = at_keys; same = λ mark key misses. refl };
   accepted = refl;
   going = λ going. going;
   went = λ going. going;
@@ -79,3 +84,8 @@ module _ (keep : EventsKeepLawful) (old new : Held) (event : Event) (lawful : ol
   stays_lawful (Ok change) changes refuses = λ going. subst AreLawful (sym changes.objects) (keep old.objects (lawful (changes.went going)) event right)
   stays_lawful (Err store.Memory) changes refuses = λ going. absurd (cc (sym refuses.1 ∙ going))
   stays_lawful (Err (store.Full held)) changes refuses = subst Lawful (sym refuses.1) lawful
+
+-- ---- the event after which the objects are these
+
+pub is_after : (old new : Held) (event : Event) (change : Change) → AreLawful old.objects → IsLawfulEvent event → Changes old new event change → IsAfter old.objects new.objects change.marks event
+is_after old new event change lawful right changes = record { lawful = lawful; right = right; objects = changes.objects; is_marked = changes.marks; leads = changes.leads }

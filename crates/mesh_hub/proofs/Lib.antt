@@ -3,4 +3,5 @@ pub mod Calls
 mod Changed
 mod Drained
 pub mod HubSteps
+mod LiveSubs
 mod UpTo

@@ -1,5 +1,6 @@
 -- What a watch event changes of a store.
 use Rattle.std.specs.Prelude.{◌≡◌, Bool, true, false, Some, None}
+use Rattle.mark_rules.specs.Changes.{Leads}
 use Rattle.object_store.specs.Held.{Held}
 use Rattle.object_store.specs.declared.change.Change.{Change}
 use Rattle.object_store.specs.declared.change.StoreFault.{StoreFault}
@@ -10,10 +11,11 @@ use Rattle.feed_history.specs.Events.{event_refusal, objects_after}
 use Rattle.feed_history.specs.declared.refusal.HubFault.{HubFault}
 use Rattle.feed_history.specs.declared.refusal.HubFault.TheVariants.{Memory, Full}
 
--- the objects are those after the event, which isn't refused, and the marks are the event's
+-- The objects are those after the event, which isn't refused. The marks are the event's, and the change leads to the objects by them.
 pub record Changes (old new : Held) (event : Event) (change : Change) : Type 0 where
   pub objects : new.objects ≡ objects_after old.objects event
   pub marks : change.marks ≡ marks_of_event old.objects event
+  pub leads : Leads change.marks old.objects new.objects
   pub accepted : event_refusal old.limit old.objects event ≡ None
   pub going : old.spent ≡ false → new.spent ≡ false
   pub went : new.spent ≡ false → old.spent ≡ false

@@ -8,7 +8,7 @@ use Rattle.mesh_hub.specs.declared.hub.Hub.{Hub}
 
 -- the id is due; after Memory none is
 abbrev pub is_due : Hub → ℕ → Bool
-is_due hub id = not hub.spent && is_among id hub.subscribers.due
+is_due hub id = not hub.spent && is_among id hub.subscribers.live.due
 
 -- ---- what becomes of it
 

@@ -1,6 +1,6 @@
 -- What a hub shows of itself, and what its calls come to.
-use Rattle.std.specs.Prelude.{◌≡◌, ℕ, Bool, true, false, List, [], ◌∷◌, ◌++◌, Option, Some, None, Result, Ok, Err, is_some, length}
-use Rattle.std.specs.FinMap as map
+use Rattle.std.specs.Prelude.{◌≡◌, ℕ, Bool, true, false, List, [], ◌∷◌, ◌++◌, Option, Some, None, Result, Ok, Err, is_some, length, map}
+use Rattle.std.specs.FinMap.{empty}
 use Rattle.mesh_base.specs.declared.limits.Limits.{Limits}
 use Rattle.mesh_base.specs.declared.sub_id.SubId.{SubId}
 use Rattle.view_types.specs.Objects.{ObjectMap}
@@ -19,6 +19,7 @@ use Rattle.request_sim.specs.declared.fault.SimFault.TheVariants as sim
 use Rattle.feed_history.specs.Drains.{frames_within, too_long, unless_too_long}
 use Rattle.feed_history.specs.Events.{event_refusal, objects_after}
 use Rattle.feed_history.specs.Ids.{ended, in_place, subscribe_refusal, unless_refused}
+use Rattle.mesh_hub.specs.LiveSubs.{live_in}
 use Rattle.mesh_hub.specs.declared.hub.Hub.{Hub}
 pub use Rattle.subscriptions.specs.Live.{LiveSubscription, id_of, sub_at}
 use Rattle.feed_history.specs.declared.refusal.HubFault.{HubFault}
@@ -36,18 +37,22 @@ pub record HubState : Type 0 where
   pub spent : Bool
 
 abbrev pub state_of : Hub → HubState
-state_of hub = record { config = hub.config; limits = hub.limits; objects = hub.store.objects; subs = hub.subscribers.subs; last = hub.last; spent = hub.spent }
+state_of hub = record { config = hub.config; limits = hub.limits; objects = hub.store.objects; subs = live_in hub.spent hub.subscribers; last = hub.last; spent = hub.spent }
 
 -- nothing is held or asked for
 abbrev pub fresh : Config → Limits → HubState
-fresh config limits = record { config = config; limits = limits; objects = map.empty; subs = []; last = None; spent = false }
+fresh config limits = record { config = config; limits = limits; objects = empty; subs = []; last = None; spent = false }
 
 -- ---- what a call comes to
 
--- It was out of memory: the hub is spent, and lets go of no subscription.
+-- a subscription, whatever it was shown
+abbrev pub asked_in : LiveSubscription → SubId × Query
+asked_in sub = (sub.id, sub.query)
+
+-- It was out of memory: the hub is spent, and lets go of no subscription. It no longer tells which endpoints were shown.
 pub record Spends (old new : HubState) : Type 0 where
   pub spent : new.spent ≡ true
-  pub subs : new.subs ≡ old.subs
+  pub subs : map asked_in new.subs ≡ map asked_in old.subs
   pub last : new.last ≡ old.last
 
 -- The call answers this and leads here. A spent hub can't.

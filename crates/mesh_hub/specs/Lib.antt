@@ -5,6 +5,7 @@ pub mod Due
 pub mod Greatest
 pub mod Hub
 pub mod HubAfter
+pub mod LiveSubs
 pub mod Replies
 pub mod Scripts
 pub mod Sending

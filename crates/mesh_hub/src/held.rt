@@ -76,6 +76,7 @@ fn change_by(alloc: Global, store: &mut Store, event: Event) -> Result<Change, S
     ensures ok { IfOk result (Changes store.old store.new event) }
     ensures refused { IfErr result (Refuses store.old store.new event) }
 {
+    store.stand_at_keys();
     match event {
         Event::Set(object) => store.set(object),
         Event::Delete(key) => Ok(store.remove(&key)?),

@@ -1,17 +1,15 @@
-ghost use Rattle.std.specs.Prelude.{◌≡◌, ◌≤◌, ◌&&◌, ◌||◌, not, nat_eq, ℕ, false, true, None, Ok, IfOk, OnOk, Some};
+ghost use Rattle.std.specs.Prelude.{◌≡◌, ◌≤◌, ◌&&◌, ◌||◌, not, nat_eq, ℕ, false, true, None, Ok, IfOk, OnErr, OnOk, Some};
 ghost use Rattle.std.specs.FinMap.{values};
 ghost use Rattle.view_rules.specs.Batch.{batch};
 ghost use Rattle.view_rules.specs.Fold.{IsOrderlyIfShown};
-ghost use Rattle.std.specs.Coded.{codes};
-ghost use Rattle.view_types.specs.contracts.view.View as the_view;
 ghost use Rattle.view_rules.specs.Views.{view_of};
 ghost use Rattle.route_match.specs.Asking.{AsksPatterns, facts_of};
 ghost use Rattle.request_sim.specs.Faults.{MetPattern, Simulated};
 ghost use Rattle.feed_history.specs.Due.{is_touched};
 ghost use Rattle.subscriptions.specs.DueIds.{Rises, is_among};
 ghost use Rattle.subscriptions.specs.Live.{query_at};
-ghost use Rattle.subscriptions.specs.Standing.{Stands};
 ghost use Rattle.mesh_hub.specs.Greatest.{AreUpTo};
+ghost use Rattle.mesh_hub.specs.LiveSubs.{Stand, Stand-prop};
 
 use crate::held::{LawfulStore, fault_of};
 use crate::machine::Machine;
@@ -30,8 +28,10 @@ use policy_rows::snapshot::Snapshot;
 use request_sim::decide::decide;
 use request_sim::fault::SimFault;
 use row_reads::at_mark::Reader;
+use shared_endpoints::shared::SharedEndpoints;
 use std::alloc::Global;
 use subscriptions::live::Subscription;
+use subscriptions::queries::asks_for_endpoints;
 use subscriptions::subscribers::Subscribers;
 use view_diff::views::batch;
 use view_scratch::inbound::inbound;
@@ -51,16 +51,16 @@ pub struct Hub {
     config: Config,
     limits: Limits,
     store: LawfulStore,
-    subscribers: Subscribers,
+    subscribers: Subscribers<SharedEndpoints>,
     /// The greatest id that was accepted.
     last: Option<u32>,
     /// Memory ran out once.
     spent: bool,
     ghost some_addresses: { 1 ≤ limits.frame_addrs },
     ghost room: { store.limit ≡ limits.objects },
-    ghost up_to: { AreUpTo last subscribers.subs },
+    ghost up_to: { AreUpTo last subscribers.live.subs },
     ghost going: { spent ≡ false → store.spent ≡ false },
-    ghost stands: { spent ≡ false → Stands config store.objects subscribers } by { Prim.hlevel (codes, the_view.the_row.coded) },
+    ghost stands: { spent ≡ false → Stand config limits store.objects subscribers } by { Prim.hlevel (Stand-prop) },
 }
 
 /// Written by hand, so that a crate that drops a hub needs no proof of what is in it.
@@ -80,9 +80,9 @@ impl Drop for Hub {
 
 impl Hub {
     ghost use Rattle.mesh_hub.specs.Due.{IdlesUnlessDue, IsUndueUnlessMemory, StaysDue, StaysDueOr, Undue, is_due};
-    ghost use Rattle.mesh_hub.specs.Hub.{Answers, Cancels, answer_of, applied, apply_refusal, drained, frames_at, fresh, is_live, new_refusal, state_of, sub_at, subscribed, Simulates};
+    ghost use Rattle.mesh_hub.specs.Hub.{Answers, Cancels, LiveSubscription, answer_of, applied, apply_refusal, drained, frames_at, fresh, is_live, new_refusal, state_of, sub_at, subscribed, Simulates};
     ghost use Rattle.mesh_hub.specs.Replies.{MayApply, MayDrain, MaySubscribe};
-    ghost use Rattle.mesh_hub.specs.Sending.{IsDueOrTooLong};
+    ghost use Rattle.mesh_hub.specs.Sending.{IsDueOrTooLong, IsSent};
     ghost use Rattle.watch_events.specs.Lawful.{IsLawfulEvent};
 
     /// Nothing is held or asked for.
@@ -91,7 +91,16 @@ impl Hub {
         ensures state { IfOk result (λ hub. state_of hub ≡ fresh config limits) }
         ensures due { IfOk result (λ hub. (id : ℕ) → is_due hub id ≡ false) }
     {
-        Ok(Hub::empty(alloc, config, limits))
+        let endpoints = SharedEndpoints::new(alloc, &config, &limits)?;
+        Ok(Hub {
+            alloc,
+            config,
+            limits,
+            store: LawfulStore::new(alloc, limits.objects),
+            subscribers: Subscribers::new(alloc, endpoints),
+            last: None,
+            spent: false,
+        })
     }
 
     /// Does what a watch event says. `Full` comes where more objects would be held than may be. Those subscriptions become due
@@ -103,7 +112,7 @@ impl Hub {
             (applied (state_of self.old) event) result (state_of self.new) }
         ensures may { MayApply result }
         ensures due { StaysDueOr (λ id. is_touched self.old.config self.old.store.objects event
-            (query_at id self.old.subscribers.subs)) result self.old self.new }
+            (query_at id (state_of self.old).subs)) result self.old self.new }
     {
         if self.spent {
             return Err(HubFault::Memory);
@@ -119,10 +128,7 @@ impl Hub {
             config: &self.config,
             store: self.store.get(),
         };
-        match self
-            .subscribers
-            .follow(&reader, change.marks.as_slice(), steps)
-        {
+        match self.subscribers.follow(&reader, &change, steps) {
             Ok(()) => Ok(()),
             Err(_) => {
                 self.spent = true;
@@ -187,17 +193,14 @@ impl Hub {
             return Err(HubFault::Memory);
         }
         same_view_sends_nothing();
-        let Some(sub) = self.subscribers.get(id) else {
+        if !self.is_live(id) {
             return Err(HubFault::NoSuchId { id: id.0 });
-        };
+        }
         if !self.subscribers.is_due(id) {
             return Ok(List::new(self.alloc));
         }
-        match self.next_batch(sub) {
-            Ok((view, frames)) => {
-                self.subscribers.show(id, view);
-                Ok(frames)
-            }
+        match self.send(id) {
+            Ok(frames) => Ok(frames),
             Err(HubFault::Oversize { bytes }) => {
                 self.subscribers.end(id);
                 Err(HubFault::Oversize { bytes })
@@ -285,22 +288,6 @@ impl Hub {
         self.subscribers.get(id).is_some()
     }
 
-    fn empty(alloc: Global, config: Config, limits: Limits) -> Hub
-        requires { 1 ≤ limits.frame_addrs }
-        ensures state { state_of result ≡ fresh config limits }
-        ensures due { (id : ℕ) → is_due result id ≡ false }
-    {
-        Hub {
-            alloc,
-            config,
-            limits,
-            store: LawfulStore::new(alloc, limits.objects),
-            subscribers: Subscribers::new(alloc),
-            last: None,
-            spent: false,
-        }
-    }
-
     // Makes a subscription live that is refused by nothing.
     fn make_live<L>(
         &mut self,
@@ -321,14 +308,7 @@ impl Hub {
             config: &self.config,
             store: self.store.get(),
         };
-        let marks = match reader.query_reads(&query, steps) {
-            Ok(marks) => marks,
-            Err(_) => {
-                self.spent = true;
-                return Err(HubFault::Memory);
-            }
-        };
-        match self.subscribers.add(id, query, marks) {
+        match self.subscribers.add(&reader, id, query, steps) {
             Ok(()) => {
                 self.last = Some(id.0);
                 Ok(())
@@ -337,6 +317,34 @@ impl Hub {
                 self.spent = true;
                 Err(HubFault::Memory)
             }
+        }
+    }
+
+    // The frames that bring a subscriber to the view that it is to see now. It is due no more, unless that fails.
+    fn send(&mut self, id: SubId) -> Result<List<Bytes>, HubFault>
+        requires going { self.old.spent ≡ false }
+        ensures sends { (sub : LiveSubscription)
+            → sub_at id.0 (state_of self.old).subs ≡ Some sub
+            → IsSent (state_of self.old) id.0 sub result (state_of self.new) }
+        ensures due { OnOk result (Undue id.0 self.old self.new) }
+        ensures undue { OnErr result (StaysDue self.old self.new) }
+        ensures going { self.new.spent ≡ false }
+        ensures live { OnErr result (self.new.subscribers.live.subs
+            ≡ self.old.subscribers.live.subs) }
+        ensures last { self.new.last ≡ self.old.last }
+    {
+        let Some(sub) = self.subscribers.get(id) else {
+            return Err(HubFault::NoSuchId { id: id.0 });
+        };
+        if asks_for_endpoints(&sub.query) {
+            return self.subscribers.drain(id);
+        }
+        match self.next_batch(sub) {
+            Ok((view, frames)) => {
+                self.subscribers.show(id, view);
+                Ok(frames)
+            }
+            Err(fault) => Err(fault),
         }
     }
 
@@ -388,8 +396,16 @@ impl Machine for Hub {
         if self.spent {
             return Err(Memory);
         }
-        *self = Hub::empty(self.alloc, config, limits);
-        Ok(())
+        match Hub::new(self.alloc, config, limits) {
+            Ok(hub) => {
+                *self = hub;
+                Ok(())
+            }
+            Err(_) => {
+                self.spent = true;
+                Err(Memory)
+            }
+        }
     }
 
     fn apply<L>(&mut self, event: Event, steps: &mut Steps<L>) -> Result<(), HubFault> {

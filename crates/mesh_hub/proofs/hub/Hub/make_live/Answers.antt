@@ -1,27 +1,48 @@
-use Rattle.std.proofs.Common.{◌≡◌, false, length, Some, subst, sym, ap, ◌∙◌}
+use Rattle.std.proofs.Common.{◌≡◌, ◌++◌, ◌∷◌, [], true, false, length, Some, refl, subst, sym, ap, ◌∙◌}
 use Rattle.object_store.specs.Held.{Held}
 use Rattle.view_rules.specs.PolicyLaws.{AreLawful}
-use Rattle.mark_rules.specs.Reads.{query_reads}
-use Rattle.row_reads.specs.References.{HaveSame}
+use Rattle.subscriptions.specs.Standing.{new_sub}
+use Rattle.subscriptions.proofs.Streamed.{no_key_below}
 use Rattle.mesh_hub.specs.Greatest.{AreUpTo}
+use Rattle.mesh_hub.specs.Hub.{state_of}
+use Rattle.mesh_hub.specs.LiveSubs.{Stand, live_in}
+use Rattle.mesh_hub.proofs.Accepted.{sub_accepted}
+use Rattle.mesh_hub.proofs.LiveSubs.{asked_same, going_live}
 use Rattle.mesh_hub.proofs.UpTo.{accepted_is_above, added_up_to}
 use Rattle.mesh_hub.proofs.hub.Hub.make_live.Goals as goal
 
-pub add-requires : goal.add-requires
-add-requires g c =
-    accepted_is_above c.args.self.now.limits.subs (length c.args.self.now.subscribers.subs) c.args.id.0 c.args.self.now.last c.args.self.now.subscribers.subs c.requires.accepted c.args.self.now.up_to
+pub add-requires-clause-below : goal.add-requires-clause-below
+add-requires-clause-below g c =
+    accepted_is_above c.args.self.now.limits.subs (length (live_in c.args.self.now.spent c.args.self.now.subscribers)) c.args.id.0 c.args.self.now.last c.args.self.now.subscribers.live.subs c.requires.accepted c.args.self.now.up_to
 
-pub invariant_of-self-in-Ok-add : goal.invariant_of-self-in-Ok-add
-invariant_of-self-in-Ok-add g c =
-    let below = accepted_is_above c.args.self.now.limits.subs (length c.args.self.now.subscribers.subs) c.args.id.0 c.args.self.now.last c.args.self.now.subscribers.subs c.requires.accepted c.args.self.now.up_to in
-    let going : c.get.result.now.spent ≡ false = ap (λ (held : Held). held.spent) c.get.ensures.value ∙ c.args.self.now.going c.requires.going in
-    let lawful = subst (λ (held : Held). AreLawful held.objects) (sym c.get.ensures.value) (c.get.ensures.lawful (c.args.self.now.going c.requires.going)) in
+pub add-requires-clause-free : goal.add-requires-clause-free
+add-requires-clause-free g c =
+    (c.args.self.now.stands c.requires.going).streamed.opened c.args.id.0 ∙ no_key_below c.args.id.0 c.args.self.now.subscribers.live.subs (add-requires-clause-below g c)
+
+pub invariant_of-self : goal.invariant_of-self
+invariant_of-self g c =
+    let self = c.args.self.now in
+    let going : c.get.result.now.spent ≡ false = ap (λ (held : Held). held.spent) c.get.ensures.value ∙ self.going c.requires.going in
+    let below = accepted_is_above self.limits.subs (length (live_in self.spent self.subscribers)) c.args.id.0 self.last self.subscribers.live.subs c.requires.accepted self.up_to in
+    let lawful = subst (λ (held : Held). AreLawful held.objects) (sym c.get.ensures.value) (c.get.ensures.lawful (self.going c.requires.going)) in
     record {
-      some_addresses = c.args.self.now.some_addresses;
-      room = c.args.self.now.room;
-      up_to = subst (AreUpTo (Some c.args.id.0)) (sym c.in-Ok-add.ensures.subs) (added_up_to c.args.id c.args.query c.args.self.now.subscribers.subs below);
-      going = c.args.self.now.going;
-      stands = λ again. c.in-Ok-add.ensures.stands c.args.self.now.config c.args.self.now.store.objects
-          (subst (λ (held : Held). HaveSame c.in-Ok.marks (query_reads c.args.self.now.config held.objects c.args.query)) c.get.ensures.value (c.in-Ok.ensures going lawful))
-          (c.args.self.now.stands again);
+      some_addresses = self.some_addresses;
+      room = self.room;
+      up_to = subst (AreUpTo (Some c.args.id.0)) (sym c.in-Ok.ensures.subs) (added_up_to c.args.id c.args.query self.subscribers.live.subs below);
+      going = self.going;
+      stands = λ again. subst (λ (held : Held). Stand self.config self.limits held.objects c.add.new.self) c.get.ensures.value
+          (c.in-Ok.ensures.stands going self.limits lawful (subst (λ (held : Held). Stand self.config self.limits held.objects self.subscribers) (sym c.get.ensures.value) (self.stands again)));
     }
+
+pub returns-in-Ok-clause-answers : goal.returns-in-Ok-clause-answers
+returns-in-Ok-clause-answers g c =
+    let self = c.args.self.now in
+    let stands = subst (λ (held : Held). Stand self.config self.limits held.objects self.subscribers) (sym c.get.ensures.value) (self.stands c.requires.going) in
+    let subs : live_in self.spent c.add.new.self ≡ live_in self.spent self.subscribers ++ new_sub c.args.id c.args.query ∷ [] =
+    going_live self.spent c.add.new.self c.requires.going
+    ∙ c.in-Ok.ensures.shown self.config self.limits stands.endpoints
+    ∙ ap (λ subs. subs ++ new_sub c.args.id c.args.query ∷ []) (sym (going_live self.spent self.subscribers c.requires.going)) in
+    sub_accepted (state_of self) c.requires.going c.args.id c.args.query c.requires.accepted _ (ap (λ subs. record (state_of self) { subs = subs; last = Some c.args.id.0 }) subs)
+
+pub returns-in-Err-clause-answers : goal.returns-in-Err-clause-answers
+returns-in-Err-clause-answers g c = record { spent = refl; subs = asked_same c.args.self.now.spent true c.args.self.now.subscribers c.add.new.self c.in-Err.ensures.err; last = refl }
