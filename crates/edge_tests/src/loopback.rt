@@ -81,7 +81,7 @@ fn closed_links<R: Net + Abort, N: Links>(rt: &R, links: &mut N) -> Result<(), F
     Ok(())
 }
 
-// Writes until the link takes no more.
+// Writes until the link accepts no more.
 fn fill<N: Links>(links: &mut N, link: u32) -> usize {
     let piece = [7; 65536];
     let mut total = 0usize;
@@ -108,7 +108,7 @@ fn drain(rt: &impl Net, alloc: Global, peer: &mut TcpStream, total: usize) -> io
     Ok(left)
 }
 
-// A link that took no more is shown as writable once its peer has read.
+// A link that accepted no more is shown as writable once its peer has read.
 fn full_link<R: Net + Abort, N: Links>(rt: &R, alloc: Global, links: &mut N) -> Result<(), Fail> {
     let mut peer = connect(rt)?;
     assert!(rt; is_shown(links, LinkEvent::New(3))?);

@@ -106,7 +106,7 @@ fn is_current_at<F: Drop>(groups: &[Group<F>], place: usize, exists: bool) -> bo
     }
 }
 
-/// Puts the group where there is none, and answers its place.
+/// Puts the group where there is none, and returns its place.
 fn open<F: Drop>(groups: &mut Vec<Group<F>>, group: Group<F>) -> Result<usize, Memory>
     requires { 0 < length groups.old.items }
     ensures free { IfOk result (λ to. IsFree groups.old.items to) }

@@ -19,13 +19,13 @@ use std::alloc::Global;
 use std::mem;
 use view_types::endpoint::{EndpointRow, EndpointView};
 
-/// The rows that slices give, and a view of them. Slices are put and taken one after the other, and
+/// The rows that slices give, and a view of them. Slices are put and removed one after the other, and
 /// then the view is brought up to them at once.
 #[derive(Drop)]
 pub struct EndpointRows {
     pub(crate) slices: Slices,
     pub(crate) view: EndpointView,
-    /// The addresses and ports of the slices that were put or taken since the view was brought up.
+    /// The addresses and ports of the slices that were put or removed since the view was brought up.
     pub(crate) touched: List<(Ip, u16)>,
     pub(crate) notes: List<(Ip, u16, Option<EndpointRow>)>,
     alloc: Global,

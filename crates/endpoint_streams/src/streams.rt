@@ -51,7 +51,7 @@ pub trait EndpointStreams: Drop {
             + cost store.now.objects (endpoint_reads store.now.objects key) }
         ensures kept { OnErr result (Keeps (key_of self.old) (key_of self.new)) };
 
-    /// Closes the stream of an id, if it has one. It takes no memory.
+    /// Closes the stream of an id, if it has one. It allocates nothing.
     fn close(&mut self, id: u64)
         ensures keys { SetsAt id None (key_of self.old) (key_of self.new) }
         ensures shown { (config : Config) (limits : Limits) (held : ObjectMap)

@@ -40,7 +40,7 @@ IsItem text item = item ≡ Some text
 abbrev pub HasByte : List ℕ → Type 0
 HasByte text = 0 < length text
 
--- what the line is answered after these, if it is
+-- the answers of the line after these
 abbrev pub answers_of : Program → ℕ → State → Option SimFault → Result Line LineFault → List (List ℕ)
 answers_of program number now met line = row_answer number (refusal_of program now met line) (line_answer program number now line)
 

@@ -1,4 +1,4 @@
-// What lines are answered.
+// The answers of lines.
 ghost use Rattle.std.specs.Prelude.{◌≡◌, ◌≢◌, [], ◌++◌, ◌∷◌, IfOk, IfSome, OnOk};
 ghost use Rattle.feed_history.specs.Text.{refused_line};
 ghost use Rattle.feed_history.specs.VerdictText.{verdict_line};

@@ -123,7 +123,7 @@ impl FedHub {
         }
     }
 
-    /// Applies the line of this number, and adds what it is answered. A row that is None is a line above the limit.
+    /// Applies the line of this number, and adds its answer. A row that is None is a line above the limit.
     pub fn answer<P: Patterns>(
         &mut self,
         patterns: &mut P,
@@ -142,7 +142,7 @@ impl FedHub {
         }
     }
 
-    // Applies a row, and returns what it is answered, if it is.
+    // Applies a row, and returns its answer, if it has one.
     fn take_row<P: Patterns>(
         &mut self,
         patterns: &mut P,

@@ -34,7 +34,7 @@ pub fn change(members: &mut BTreeMap<u64, u64>, id: u64, number: u64)
     }
 }
 
-/// Takes the id out, and answers the group that it had.
+/// Removes the id, and returns the group that it had.
 pub fn take(members: &mut BTreeMap<u64, u64>, id: u64) -> Option<u64>
     ensures value { result ≡ group_of members.old id }
     ensures gone { SetsMember id None members.old members.new }

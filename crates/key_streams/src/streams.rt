@@ -85,7 +85,7 @@ impl<F: Drop> KeyStreams<F> {
         Ok(())
     }
 
-    /// Closes the stream of an id, if it has one. It takes no memory.
+    /// Closes the stream of an id, if it has one. It allocates nothing.
     pub fn leave(&mut self, id: u64)
         ensures open { (n : ℕ)
             → has_stream self.new n ≡ (not (nat_eq n id) && has_stream self.old n) }

@@ -13,7 +13,7 @@ use mesh_base::limits::Limits;
 use mesh_outside::{Failed, Sink, SinkFault, Source};
 use std::alloc::{AllocError, Global};
 
-// How many bytes one read takes at most.
+// The greatest length of one read.
 const BLOCK: usize = 65536;
 
 fn new_block(alloc: Global) -> Result<Vec<u8>, AllocError>

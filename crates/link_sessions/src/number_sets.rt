@@ -14,7 +14,7 @@ pub fn first_from(numbers: &BTreeSet<u32>, from: u32) -> Option<u32>
     numbers.range(from..).next().copied()
 }
 
-/// Puts a number into a set, or takes it out.
+/// Puts a number into a set, or removes it.
 pub fn set_member(numbers: &mut BTreeSet<u32>, number: u32, is_member: bool) -> Result<(), Memory>
     ensures { OnOk result (Updates nat_cmp numbers.old numbers.new number is_member) }
 {

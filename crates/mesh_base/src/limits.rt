@@ -1,7 +1,7 @@
 ghost use Rattle.std.specs.Prelude.{◌≡◌};
 ghost use Rattle.mesh_base.specs.Limits.{usual_limits};
 
-/// How much a run may take and hold. Each limit is at least 1.
+/// The limits of a run. Each limit is at least 1.
 #[derive(Clone, Copy, Debug, PartialEq, Eq)]
 pub struct Limits {
     /// Bytes of a line, without its line feed; at most 4,294,967,295.
@@ -18,7 +18,7 @@ pub struct Limits {
     pub frame_addrs: u32,
     /// Bytes of one message.
     pub message: u32,
-    /// Bytes that are taken from an input.
+    /// Bytes that are read from an input.
     pub input: u64,
     /// Bytes of a request frame on a link.
     pub request: u32,

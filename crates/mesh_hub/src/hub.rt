@@ -167,7 +167,7 @@ impl Hub {
         self.make_live(id, query, steps)
     }
 
-    /// Ends a live subscription. It takes no memory, and a spent hub does it too.
+    /// Ends a live subscription. It allocates nothing, and a spent hub does it too.
     pub fn cancel(&mut self, id: SubId) -> Result<(), NoSuchId>
         ensures state { Cancels id.0 (state_of self.old) result (state_of self.new) }
         ensures due { Undue id.0 self.old self.new }
@@ -181,7 +181,7 @@ impl Hub {
 
     /// The frames that bring a subscriber from the view that it was last shown to that of what is held now. `NoSuchId`
     /// comes where the id isn't live, and `Oversize` where a message is longer than may be; it tells the first such
-    /// length, and the subscription has ended. For an id that isn't due there are none: that takes no memory.
+    /// length, and the subscription has ended. For an id that isn't due there are none: that allocates nothing.
     pub fn drain(&mut self, id: SubId) -> Result<List<Bytes>, HubFault>
         ensures answers { Answers (state_of self.old) (frames_at (state_of self.old) id.0)
             (drained (state_of self.old) id.0) result (state_of self.new) }

@@ -75,7 +75,7 @@ pub trait Machine {
         ensures replies { Grows (replies self.old) (replies self.new) (done_reply result) }
         ensures may { MaySubscribe result };
 
-    /// Ends a live subscription. It takes no memory. A machine that tells its replies always answers Ok, and adds none.
+    /// Ends a live subscription. It allocates nothing. A machine that tells its replies always answers Ok, and adds none.
     fn cancel(&mut self, id: SubId) -> Result<(), NoSuchId>
         ensures state { Becomes (state self.old) (state self.new) (λ old new.
             Cancels id.0 old result new) }

@@ -9,7 +9,7 @@ use mesh_base::list::List;
 use std::alloc::Global;
 use std::io::Write;
 
-/// Why a sink took nothing.
+/// Why a write to a sink failed.
 #[derive(Clone, Copy, Debug, PartialEq, Eq)]
 pub enum SinkFault {
     Failed,
@@ -77,7 +77,7 @@ impl Sink for MemSink {
         ensures memory { IsErrOf result SinkFault.Memory
             → Some self.new.bytes.items ≡ Some self.old.bytes.items }
 
-        // The fields say which calls fail, and the others take the whole piece. A call that had no memory isn't counted.
+        // The fields say which calls fail, and the others accept the whole piece. A call that had no memory isn't counted.
         ensures fails { IsErrOf result SinkFault.Failed
             ↔ Contains self.old.fails (one_more self.old.calls) }
         ensures whole { IfOk result (λ n. n ≡ length piece.now) }
@@ -119,7 +119,7 @@ impl Sink for SureSink {
         ensures memory { IsErrOf result SinkFault.Memory
             → Some self.new.bytes.items ≡ Some self.old.bytes.items }
 
-        // It takes the whole piece.
+        // It accepts the whole piece.
         ensures whole { IfOk result (λ n. n ≡ length piece.now) }
         ensures none { ¬ (IsErrOf result SinkFault.Failed) }
     {
@@ -159,7 +159,7 @@ impl<W: Write> Sink for WriteSink<W> {
         ensures memory { IsErrOf result SinkFault.Memory
             → W.contents self.new.writer ≡ W.contents self.old.writer }
 
-        // Faults alone are counted, and it takes no memory.
+        // Faults alone are counted, and it allocates nothing.
         ensures count { self.new.count ≡ counted (is_fault piece.now result) self.old.count }
         ensures none { ¬ (IsErrOf result SinkFault.Memory) }
     {

@@ -334,7 +334,7 @@ impl<'r, R: Wait> Links for MioLinks<'r, R> {
         ensures cause { KeptInCall link (counts_of self.old.faults self.old.pendings)
             (counts_of self.new.faults self.new.pendings) result }
 
-        // Failures and answers Pending alone are counted, and no memory is taken.
+        // Failures and answers Pending alone are counted, and nothing is allocated.
         ensures faults { self.new.faults ≡ counted (is_failed result) self.old.faults }
         ensures pendings { self.new.pendings ≡ counted (is_pending result) self.old.pendings }
         ensures none { ¬ (IsErrOf result LinkFault.Memory) }
@@ -355,7 +355,7 @@ impl<'r, R: Wait> Links for MioLinks<'r, R> {
         ensures cause { KeptInCall link (counts_of self.old.faults self.old.pendings)
             (counts_of self.new.faults self.new.pendings) result }
 
-        // Failures and answers Pending alone are counted, and no memory is taken.
+        // Failures and answers Pending alone are counted, and nothing is allocated.
         ensures faults { self.new.faults ≡ counted (is_failed result) self.old.faults }
         ensures pendings { self.new.pendings ≡ counted (is_pending result) self.old.pendings }
         ensures none { ¬ (IsErrOf result LinkFault.Memory) }

@@ -89,7 +89,7 @@ fn places(alloc: Global, routes: &str, path: &str) -> Result<String, Fail> {
     }
 }
 
-// Of equal matches the first is taken: by its route, then by its rule, then by its place.
+// Of equal matches the first is chosen: by its route, then by its rule, then by its place.
 #[test]
 fn best_matches(rt: HostRuntime) -> Result<(), Fail> {
     let alloc = rt.alloc();

@@ -8,7 +8,7 @@ pub const USAGE: &str = "
   fold        reads what replay wrote, and writes the view of one subscriber
   sample N    replays a generated cluster of N Services, 0 to 1000, and writes
               one line of counts
-  serve       listens on a TCP port, takes feeds from its links, and sends each
+  serve       listens on a TCP port, reads feeds from its links, and sends each
               proxy its frames
 
 Input is standard input, and for serve what its links send. A feed has one JSON

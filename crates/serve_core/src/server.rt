@@ -37,7 +37,7 @@ pub enum ServeFault {
     Links,
 }
 
-/// A server that takes turns over links.
+/// A server that serves links in turns.
 #[derive(Drop)]
 pub struct Server {
     turning: Turning,

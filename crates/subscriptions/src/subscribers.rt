@@ -118,7 +118,7 @@ impl<E: EndpointStreams> Subscribers<E> {
         Ok(())
     }
 
-    /// Ends the subscription under the id. Answers whether there was one. It takes no memory.
+    /// Ends the subscription under the id. Answers whether there was one. It allocates nothing.
     pub fn end(&mut self, id: SubId) -> bool
         ensures there { result ≡ is_some (sub_at id.0 self.old.live.subs) }
         ensures subs { self.new.live.subs ≡ in_place id_of id.0 ended self.old.live.subs }

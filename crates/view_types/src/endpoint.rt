@@ -18,7 +18,7 @@ pub struct EndpointRow {
     pub labels: Labels,
     /// The identity that its proxy proves, where it has one.
     pub identity: Option<Text>,
-    /// The port at which its proxy takes tunnelled connections.
+    /// The port at which its proxy accepts tunnelled connections.
     pub tunnel: Option<u16>,
     /// It is reached by HTTP/2.
     pub h2: bool,

@@ -100,7 +100,7 @@ impl Object {
         })
     }
 
-    /// How the object's key compares with a key. It takes no memory.
+    /// How the object's key compares with a key. It allocates nothing.
     pub fn compare_key(&self, key: &ObjKey) -> Ordering
         ensures { result ≡ key_cmp (key_of self.now) key.now }
     {
@@ -114,7 +114,7 @@ impl Object {
         }
     }
 
-    /// How the keys of two objects compare. It takes no memory.
+    /// How the keys of two objects compare. It allocates nothing.
     pub fn compare_keys(&self, other: &Object) -> Ordering
         ensures { result ≡ key_cmp (key_of self.now) (key_of other.now) }
     {
