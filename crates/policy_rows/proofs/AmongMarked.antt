@@ -1,5 +1,5 @@
 -- The authorizations that apply to a Server or to a route are found among those with its marks.
-use Rattle.std.proofs.Common.{◌≡◌, Bool, true, false, ◌&&◌, List, [], ◌∷◌, ◌++◌, Some, None, refl, sym, ap, ◌∙◌, append-nil, append_assoc}
+use Rattle.std.proofs.Common.{◌≡◌, Bool, true, false, ◌&&◌, ◌||◌, inl, inr, List, [], ◌∷◌, ◌++◌, Some, None, refl, sym, ap, ◌∙◌, append-nil, append_assoc}
 use Rattle.std.specs.FinMap.{get, values}
 use Rattle.std.specs.List.{filter, flat_map}
 use Rattle.std.specs.Str.{bytes_eq}
@@ -24,10 +24,11 @@ use Rattle.mark_rules.specs.Marks.{has_mark, marks_of, meets, objects_with}
 use Rattle.mark_rules.specs.Reads.{server_authz_marks}
 use Rattle.mark_rules.proofs.Authz.{only_gateway, only_linkerd, route_authz_have, server_authz_have}
 use Rattle.mark_rules.proofs.FilterLists.{kept_among}
+use Rattle.mark_rules.proofs.MarkTests.{either_first, either_second}
 use Rattle.mark_rules.proofs.SortsOfMarks.{meets_one}
 use Rattle.object_store.proofs.Kept.{any_of}
 use Rattle.policy_rows.specs.ByMark.{AreAmong, route_target}
-use Rattle.policy_rows.proofs.Merged.{pass_in_order}
+use Rattle.policy_rows.proofs.Merged.{all_kept, each_among, pass_in_order}
 
 -- ---- targets
 
@@ -40,6 +41,22 @@ no_target : (k : Kind) → None ≡ route_target k → (t : RefKind) → is_rout
 no_target kind.LinkerdRoute is t = absurd (cc is)
 no_target kind.GatewayRoute is t = absurd (cc is)
 no_target _ is t = refl
+
+-- ---- marks
+
+only_one : (mark : Mark) (marks : List Mark) → meets (mark ∷ []) marks ≡ true → has_mark marks mark ≡ true
+only_one mark marks e = by (has_mark marks mark) e
+  where
+    by : (b : Bool) → (b || false) ≡ true → b ≡ true
+    by true e = refl
+    by false e = e
+
+has_some : (others marks : List Mark) (mark : Mark) → Among mark marks → has_mark others mark ≡ true → meets marks others ≡ true
+has_some others [] mark at has = absurd at
+has_some others (m ∷ ms) mark at has = elim at [
+  | inl is ↦ either_first (has_mark others m) (meets ms others) (ap (has_mark others) is ∙ has)
+  | inr rest ↦ either_second (has_mark others m) (meets ms others) (has_some others ms mark rest has)
+]
 
 -- ---- candidates
 
@@ -73,10 +90,20 @@ module _ (held : ObjectMap) where
         let one = any_of (has_mark (marks_of o)) marks has in
         among_flat with marks one.0 o one.1 (among_kept (λ o. meets (one.0 ∷ []) (marks_of o)) (values held) o at (meets_one one.0 (marks_of o) one.2))
 
-    pub among_server : (server : ServerSpec) → AreAmong held (applies_to_server held server) (in_order_by key_cmp key_of (with_each (server_authz_marks server.meta.ns server.meta.name)))
-    among_server server =
-        let marks = server_authz_marks server.meta.ns server.meta.name in
-        pass_in_order keys_total keys_exact key_of held own (applies_to_server held server) (with_each marks) (each_held marks) (λ o at passes. among_each marks o at (server_authz_have held server o passes))
+    each_has : (marks : List Mark) (o : Object) → Among o (with_each marks) → meets marks (marks_of o) ≡ true
+    each_has marks o at =
+        let one = from_flat with marks o at in
+        has_some (marks_of o) marks one.0 one.1 (only_one one.0 (marks_of o) (from_kept (λ o. meets (one.0 ∷ []) (marks_of o)) (values held) o one.2).1)
+
+    -- the objects with some of the marks are those with each, in order
+    pub objects_in_order : (marks : List Mark) → in_order_by key_cmp key_of (with_each marks) ≡ objects_with held marks
+    objects_in_order marks =
+        sym (all_kept (λ o. meets marks (marks_of o)) (in_order_by key_cmp key_of (with_each marks)) (λ o at. each_has marks o (each_among keys_total keys_exact key_of (with_each marks) o at)))
+        ∙ sym (pass_in_order keys_total keys_exact key_of held own (λ o. meets marks (marks_of o)) (with_each marks) (each_held marks) (among_each marks))
+
+  pub among_server : (server : ServerSpec) → AreAmong held (applies_to_server held server) (objects_with held (server_authz_marks server.meta.ns server.meta.name))
+  among_server server =
+      kept_among (applies_to_server held server) (λ o. meets (server_authz_marks server.meta.ns server.meta.name) (marks_of o)) (server_authz_have held server) (values held)
 
   pub among_route : (route : ObjKey) (target : RefKind) → Some target ≡ route_target route.kind → AreAmong held (applies_to_route held route) (with (PolicyOn route.ns target route.name))
   among_route route target is =

@@ -1,4 +1,6 @@
 mod AmongMarked
+pub mod Costs
 mod InOrder
-mod Merged
+pub mod Merged
+mod References
 pub mod Steps

@@ -9,7 +9,7 @@ use Rattle.std.specs.declared.cmp.Ordering.{Ordering}
 use Rattle.mesh_base.specs.Keyed.{keyed}
 use Rattle.view_rules.specs.InOrder.{in_order_by}
 use Rattle.view_rules.proofs.Among.{Among}
-use Rattle.view_rules.proofs.Entries.{equal, stands}
+use Rattle.view_rules.proofs.Entries.{equal, held_somewhere, stands}
 use Rattle.mark_rules.proofs.EqualLists.{found_alike}
 use Rattle.mark_rules.proofs.FilterLists.{kept_is_found, kept_one}
 
@@ -62,3 +62,14 @@ module _ {K X : Type 0} {R : K → K → Ordering} (o : IsTotalOrder R) (same : 
         kept_is_found passes (values held)
         ∙ found_alike o same (kept_one passes) held (from_entries (by_key xs)) (λ k. alike k (find R k (by_key xs)) refl ∙ ap (option_and_then (kept_one passes)) (sym (get-from_entries o (by_key xs) k)))
         ∙ sym (kept_is_found passes (in_order_by R key xs))
+
+  -- the items that are left are among those that were put in order
+  pub each_among : (xs : List X) (x : X) → Among x (in_order_by R key xs) → Among x xs
+  each_among xs x at =
+      let place = held_somewhere o (from_entries (by_key xs)) x at in
+      (found_is place.0 xs x (sym (get-from_entries o (by_key xs) place.0) ∙ place.1)).0
+
+-- nothing is left out where each passes
+pub all_kept : {X : Type 0} (passes : X → Bool) (xs : List X) → ((x : X) → Among x xs → passes x ≡ true) → filter passes xs ≡ xs
+all_kept passes [] each = refl
+all_kept passes (x ∷ xs) each = rw (each x (inl refl)) (ap (λ ys. x ∷ ys) (all_kept passes xs (λ y at. each y (inr at))))

@@ -1,7 +1,9 @@
-ghost use Rattle.std.specs.Prelude.{◌≡◌, [], ◌∷◌, IfOk, find};
-ghost use Rattle.std.specs.Option.{option_copied, unwrap_or};
-ghost use Rattle.view_types.specs.Lawful.{gives_clients, gives_networks};
-ghost use Rattle.view_rules.specs.Policies.{blocks_in, clients, everywhere, ids_at, ids_in, is_complete, is_there, networks, ns_of, policy_authn};
+ghost use Rattle.std.specs.Prelude.{◌≡◌, ◌≤◌, ◌+◌, [], ◌∷◌, IfOk, Some, flat_map};
+ghost use Rattle.std.specs.Option.{option_copied, option_map, option_or, unwrap_or};
+ghost use Rattle.view_rules.specs.Policies.{everywhere, ns_of, policy_authn};
+ghost use Rattle.mark_rules.specs.Reads.{cost, need_marks};
+ghost use Rattle.policy_rows.specs.References.{given_by, needs_found, with_given};
+ghost use Rattle.policy_rows.specs.declared.refs.Given.TheVariants as gives;
 
 use crate::clients::clients_shown;
 use crate::held::{mesh_authn_held, net_authn_held};
@@ -14,10 +16,26 @@ use mesh_base::text::Text;
 use net_cidr::block::Block;
 use net_cidr::ip::Ip;
 use net_cidr::net::Net;
-use object_store::store::Store;
 use std::alloc::Global;
 use view_types::authn::{AuthzPolicy, IdSpec, MeshAuthn, NetAuthn, Ref, RefKind};
+use view_types::config::Config;
 use view_types::server_view::Authn;
+
+/// What the references of a policy give.
+#[derive(Drop)]
+pub(crate) struct Needs {
+    /// The networks of the first NetworkAuthentication, if there is one.
+    pub(crate) networks: Option<List<Block>>,
+    /// The clients of the first reference that gives some, if there is one.
+    pub(crate) clients: Option<List<IdSpec>>,
+}
+
+/// What one reference gives.
+#[derive(Drop)]
+pub(crate) enum Given {
+    Networks(List<Block>),
+    Clients(List<IdSpec>),
+}
 
 /// The namespace of a reference, by default that of its policy.
 pub(crate) fn ns_of<'a>(own: &'a Text, need: &'a Ref) -> &'a Text
@@ -29,72 +47,116 @@ pub(crate) fn ns_of<'a>(own: &'a Text, need: &'a Ref) -> &'a Text
     }
 }
 
-/// Each reference of the policy is there.
-pub(crate) fn is_complete<L>(store: &Store, policy: &AuthzPolicy, steps: &mut Steps<L>) -> bool
-    ensures { result ≡ is_complete store.now.objects policy.now }
-{
-    let own = &policy.meta.ns;
-    for need in policy.needs.as_slice() {
-        if !is_there(store, ns_of(own, need), &need.name, need.kind, steps) {
-            return false;
-        }
-    }
-    true
-}
-
-fn is_there<L>(store: &Store, ns: &Text, name: &Text, kind: RefKind, steps: &mut Steps<L>) -> bool
-    ensures { result ≡ is_there store.now.objects ns.now name.now kind }
-{
-    match kind {
-        RefKind::ServiceAccount => true,
-        RefKind::MeshAuthn => mesh_authn_held(store, ns, name, steps).is_some(),
-        RefKind::NetAuthn => net_authn_held(store, ns, name, steps).is_some(),
-        _ => false,
-    }
-}
-
-/// The networks that the policy refers to, or all addresses.
-pub(crate) fn policy_blocks<L>(
+/// What the references of the policy give, if each is there. Each is looked up once.
+pub(crate) fn needs_found<L>(
     from: &Snapshot,
     policy: &AuthzPolicy,
     steps: &mut Steps<L>,
-) -> Result<List<Block>, Memory>
-    ensures { IfOk result (λ blocks.
-        blocks ≡ unwrap_or (networks from.now.store.now.objects policy.now) everywhere) }
+) -> Result<Option<Needs>, Memory>
+    ensures value { IfOk result (λ needs.
+        needs ≡ needs_found from.now.store.now.objects policy.now) }
+    ensures steps { steps.new ≤ steps.old + cost from.now.store.now.objects (flat_map
+        (λ need. need_marks (ns_of policy.now.meta.ns need) need.name need.kind) policy.now.needs) }
 {
-    match networks_need(policy.needs.as_slice()) {
-        Some(need) => {
-            let ns = ns_of(&policy.meta.ns, need);
-            blocks_in(
-                from.alloc,
-                net_authn_held(from.store, ns, &need.name, steps),
-            )
+    let own = &policy.meta.ns;
+    let mut found = Needs {
+        networks: None,
+        clients: None,
+    };
+    for need in policy.needs.as_slice() {
+        match given_by(from, ns_of(own, need), &need.name, need.kind, steps)? {
+            Some(given) => keep(&mut found, given),
+            None => return Ok(None),
         }
-        None => everywhere(from.alloc),
     }
+    Ok(Some(found))
 }
 
-fn networks_need(needs: &[Ref]) -> Option<&Ref>
-    ensures { option_copied result ≡ find (λ need. gives_networks need.kind) needs.now }
-{
-    needs.iter().find(|need| gives_networks(need.kind))
-}
-
-fn gives_networks(kind: RefKind) -> bool
-    ensures { result ≡ gives_networks kind }
+/// What a reference gives, if it is there.
+fn given_by<L>(
+    from: &Snapshot,
+    ns: &Text,
+    name: &Text,
+    kind: RefKind,
+    steps: &mut Steps<L>,
+) -> Result<Option<Given>, Memory>
+    ensures value { IfOk result (λ given.
+        given ≡ given_by from.now.store.now.objects ns.now name.now kind) }
+    ensures steps { steps.new ≤ steps.old
+        + cost from.now.store.now.objects (need_marks ns.now name.now kind) }
 {
     match kind {
-        RefKind::NetAuthn => true,
-        _ => false,
+        RefKind::ServiceAccount => Ok(Some(Given::Clients(account(from.alloc, ns, name)?))),
+        RefKind::MeshAuthn => {
+            clients_given(from.alloc, mesh_authn_held(from.store, ns, name, steps))
+        }
+        RefKind::NetAuthn => networks_given(
+            from.alloc,
+            net_authn_held(from.store, ns, name, steps),
+        ),
+        _ => Ok(None),
     }
 }
 
-fn blocks_in(alloc: Global, found: Option<&NetAuthn>) -> Result<List<Block>, Memory>
-    ensures { IfOk result (λ blocks. blocks ≡ blocks_in (option_copied found.entry)) }
+fn account(alloc: Global, ns: &Text, name: &Text) -> Result<List<IdSpec>, Memory>
+    ensures { IfOk result (λ ids. ids ≡ IdSpec.Account ns.now name.now ∷ []) }
+{
+    let mut ids = List::new(alloc);
+    ids.add(IdSpec::Account {
+        ns: ns.copy()?,
+        name: name.copy()?,
+    })?;
+    Ok(ids)
+}
+
+fn clients_given(alloc: Global, found: Option<&MeshAuthn>) -> Result<Option<Given>, Memory>
+    ensures { IfOk result (λ given. given
+        ≡ option_map (λ authn. gives.Clients authn.ids) (option_copied found.entry)) }
 {
     match found {
-        Some(authn) => authn.blocks.copy(alloc),
-        None => Ok(List::new(alloc)),
+        Some(authn) => Ok(Some(Given::Clients(authn.ids.copy(alloc)?))),
+        None => Ok(None),
+    }
+}
+
+fn networks_given(alloc: Global, found: Option<&NetAuthn>) -> Result<Option<Given>, Memory>
+    ensures { IfOk result (λ given. given
+        ≡ option_map (λ authn. gives.Networks authn.blocks) (option_copied found.entry)) }
+{
+    match found {
+        Some(authn) => Ok(Some(Given::Networks(authn.blocks.copy(alloc)?))),
+        None => Ok(None),
+    }
+}
+
+/// Keeps what a reference gives, if it is the first of its sort.
+fn keep(needs: &mut Needs, given: Given)
+    ensures { needs.new ≡ with_given needs.old given }
+{
+    match given {
+        Given::Networks(blocks) => keep_first(&mut needs.networks, blocks),
+        Given::Clients(ids) => keep_first(&mut needs.clients, ids),
+    }
+}
+
+fn keep_first<T: Drop>(first: &mut Option<T>, item: T)
+    ensures { first.new ≡ option_or first.old (Some item) }
+{
+    if first.is_none() {
+        *first = Some(item);
+    }
+}
+
+/// The networks that a policy refers to, or all addresses.
+pub(crate) fn policy_blocks(
+    alloc: Global,
+    networks: Option<List<Block>>,
+) -> Result<List<Block>, Memory>
+    ensures { IfOk result (λ blocks. blocks ≡ unwrap_or networks everywhere) }
+{
+    match networks {
+        Some(blocks) => Ok(blocks),
+        None => everywhere(alloc),
     }
 }
 
@@ -117,74 +179,16 @@ fn whole(alloc: Global, base: Ip) -> Block
     }
 }
 
-/// The clients that the policy refers to, or anyone.
-pub(crate) fn policy_authn<L>(
-    from: &Snapshot,
-    policy: &AuthzPolicy,
-    steps: &mut Steps<L>,
+/// The clients that a policy refers to, or anyone.
+pub(crate) fn policy_authn(
+    alloc: Global,
+    config: &Config,
+    clients: Option<List<IdSpec>>,
 ) -> Result<Authn, Memory>
-    ensures { IfOk result (λ authn.
-        authn ≡ policy_authn from.now.config.now (clients from.now.store.now.objects policy.now)) }
+    ensures { IfOk result (λ authn. authn ≡ policy_authn config.now clients) }
 {
-    match clients_need(policy.needs.as_slice()) {
-        Some(need) => {
-            let ns = ns_of(&policy.meta.ns, need);
-            let ids = ids_at(from, ns, &need.name, need.kind, steps)?;
-            clients_shown(from.alloc, from.config, ids.as_slice())
-        }
+    match clients {
+        Some(ids) => clients_shown(alloc, config, ids.as_slice()),
         None => Ok(Authn::Anyone),
     }
-}
-
-fn clients_need(needs: &[Ref]) -> Option<&Ref>
-    ensures { option_copied result ≡ find (λ need. gives_clients need.kind) needs.now }
-{
-    needs.iter().find(|need| gives_clients(need.kind))
-}
-
-fn gives_clients(kind: RefKind) -> bool
-    ensures { result ≡ gives_clients kind }
-{
-    match kind {
-        RefKind::MeshAuthn => true,
-        RefKind::ServiceAccount => true,
-        _ => false,
-    }
-}
-
-/// The clients of a MeshTLSAuthentication, or a ServiceAccount.
-fn ids_at<L>(
-    from: &Snapshot,
-    ns: &Text,
-    name: &Text,
-    kind: RefKind,
-    steps: &mut Steps<L>,
-) -> Result<List<IdSpec>, Memory>
-    ensures { IfOk result (λ ids. ids ≡ ids_at from.now.store.now.objects ns.now name.now kind) }
-{
-    match kind {
-        RefKind::MeshAuthn => ids_in(from.alloc, mesh_authn_held(from.store, ns, name, steps)),
-        RefKind::ServiceAccount => account(from.alloc, ns, name),
-        _ => Ok(List::new(from.alloc)),
-    }
-}
-
-fn ids_in(alloc: Global, found: Option<&MeshAuthn>) -> Result<List<IdSpec>, Memory>
-    ensures { IfOk result (λ ids. ids ≡ ids_in (option_copied found.entry)) }
-{
-    match found {
-        Some(authn) => authn.ids.copy(alloc),
-        None => Ok(List::new(alloc)),
-    }
-}
-
-fn account(alloc: Global, ns: &Text, name: &Text) -> Result<List<IdSpec>, Memory>
-    ensures { IfOk result (λ ids. ids ≡ IdSpec.Account ns.now name.now ∷ []) }
-{
-    let mut ids = List::new(alloc);
-    ids.add(IdSpec::Account {
-        ns: ns.copy()?,
-        name: name.copy()?,
-    })?;
-    Ok(ids)
 }

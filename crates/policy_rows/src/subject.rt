@@ -1,11 +1,15 @@
-ghost use Rattle.std.specs.Prelude.{◌≡◌, Bool, IfOk, map};
+ghost use Rattle.std.specs.Prelude.{◌≡◌, ◌≤◌, ◌+◌, ◌&&◌, Bool, List, IfOk, map};
 ghost use Rattle.view_types.specs.Objects.{ObjectMap};
+ghost use Rattle.view_types.specs.declared.mark.Mark.{Mark};
 ghost use Rattle.view_types.specs.declared.object.Object.{Object as Held};
-ghost use Rattle.view_rules.specs.Policies.{applies_to_route, applies_to_server, authorizes, is_on_route, is_on_server, is_route_kind, names_server, policy_applies};
+ghost use Rattle.view_rules.specs.Policies.{applies_to_route, applies_to_server, authorizes, is_complete, is_on_route, is_on_server, is_route_kind, names_server, policy_applies};
+ghost use Rattle.mark_rules.specs.Marks.{objects_with};
+ghost use Rattle.mark_rules.specs.Reads.{cost, server_authz_marks};
 ghost use Rattle.policy_rows.specs.ByMark.{AreAmong, route_target};
+ghost use Rattle.policy_rows.specs.References.{is_whole, route_marks};
 
 use crate::candidates::{route_candidates, server_candidates};
-use crate::refs::{is_complete, ns_of};
+use crate::refs::ns_of;
 use crate::selects::selects;
 use mesh_base::key::{Kind, ObjKey};
 use mesh_base::memory::Memory;
@@ -22,30 +26,40 @@ pub trait Subject {
     /// An object applies to it.
     ghost applies: { ObjectMap → Self → Held → Bool };
 
-    fn applies<L>(&self, store: &Store, object: &Object, steps: &mut Steps<L>) -> bool
-        ensures { result ≡ applies store.now.objects self.now object.now };
+    /// The marks of the objects among which all stand that apply to it.
+    ghost marks: { Self → List Mark };
 
-    /// Objects among which all stand that apply to it, in the order of their keys.
+    /// An object applies to it if all its references are there.
+    fn concerns(&self, object: &Object) -> bool
+        ensures { (held : ObjectMap)
+            → applies held self.now object.now ≡ (result && is_whole held object.now) };
+
+    /// The objects with one of its marks, in the order of their keys. All stand among them that apply to it.
     fn candidates<'a, L>(
         &self,
         alloc: Global,
         store: &'a Store,
         steps: &mut Steps<L>,
     ) -> Result<Vec<&'a Object>, Memory>
-        ensures { IfOk result (λ found. AreAmong store.now.objects
-            (applies store.now.objects self.now) (map (λ o. o.now) found.items)) };
+        ensures objects { IfOk result (λ found.
+            map (λ o. o.now) found.items ≡ objects_with store.now.objects (marks self.now)) }
+        ensures among { IfOk result (λ found. AreAmong store.now.objects
+            (applies store.now.objects self.now) (map (λ o. o.now) found.items)) }
+        ensures steps { steps.new ≤ steps.old + cost store.now.objects (marks self.now) };
 }
 
 impl Subject for ServerSpec {
     ghost applies = { applies_to_server };
 
-    fn applies<L>(&self, store: &Store, object: &Object, steps: &mut Steps<L>) -> bool {
+    ghost marks = { λ server. server_authz_marks server.meta.ns server.meta.name };
+
+    fn concerns(&self, object: &Object) -> bool {
         match object {
             Object::ServerAuthorization(authz) => authorizes(authz.get(), self),
             Object::AuthorizationPolicy(policy) => {
                 let target = &policy.get().target;
                 let is_target = is_on_server(self, target.kind, &target.name);
-                policy_applies(store, &self.meta.ns, is_target, policy.get(), steps)
+                is_aimed(&self.meta.ns, is_target, policy.get())
             }
             _ => false,
         }
@@ -65,12 +79,14 @@ impl Subject for ServerSpec {
 impl Subject for ObjKey {
     ghost applies = { applies_to_route };
 
-    fn applies<L>(&self, store: &Store, object: &Object, steps: &mut Steps<L>) -> bool {
+    ghost marks = { λ route. route_marks route (route_target route.kind) };
+
+    fn concerns(&self, object: &Object) -> bool {
         match object {
             Object::AuthorizationPolicy(policy) => {
                 let target = &policy.get().target;
                 let is_target = is_on_route(self, target.kind, &target.name);
-                policy_applies(store, &self.ns, is_target, policy.get(), steps)
+                is_aimed(&self.ns, is_target, policy.get())
             }
             _ => false,
         }
@@ -89,21 +105,13 @@ impl Subject for ObjKey {
     }
 }
 
-/// The policy and its target are in the namespace, the target is what is asked for, and the policy is complete.
-fn policy_applies<L>(
-    store: &Store,
-    ns: &Text,
-    is_target: bool,
-    policy: &AuthzPolicy,
-    steps: &mut Steps<L>,
-) -> bool
-    ensures { result ≡ policy_applies store.now.objects ns.now (λ kind name. is_target) policy.now }
+/// The policy and its target are in the namespace, and the target is what is asked for.
+fn is_aimed(ns: &Text, is_target: bool, policy: &AuthzPolicy) -> bool
+    ensures { (held : ObjectMap) → policy_applies held ns.now (λ kind name. is_target) policy.now
+        ≡ (result && is_complete held policy.now) }
 {
     let own = &policy.meta.ns;
-    *own == *ns
-        && *ns_of(own, &policy.target) == *ns
-        && is_target
-        && is_complete(store, policy, steps)
+    *own == *ns && *ns_of(own, &policy.target) == *ns && is_target
 }
 
 fn is_on_server(server: &ServerSpec, kind: RefKind, name: &Text) -> bool

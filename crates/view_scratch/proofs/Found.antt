@@ -1,6 +1,6 @@
 -- Lists that are added up item by item.
 use Rattle.std.proofs.Common.{◌≡◌, ℕ, ◌+◌, ◌<◌, List, [], ◌∷◌, ◌++◌, Some, None, Option, get_or, length, map, option_to_list, refl, sym, ap, take, ◌∙◌, append-nil}
-use Rattle.std.proofs.lemmas.List.{flat_map_more, take_more}
+use Rattle.std.proofs.lemmas.List.{flat_map_more, map_more, take_more}
 use Rattle.std.specs.List.{filter_map, cons_option, flat_map}
 
 at_one : {A B : Type 0} (f : A → List B) (found : Option A) (as' : List A) → flat_map f (option_to_list found) ++ flat_map f as' ≡ flat_map f (cons_option found as')
@@ -23,3 +23,9 @@ flat_more f before rows new xs i x lt at so_far adds =
 pub map_through : {X Y Z : Type 0} (f : Y → Z) (g : X → Y) (xs : List X) → map (λ x. f (g x)) xs ≡ map f (map g xs)
 map_through f g [] = refl
 map_through f g (x ∷ xs) = ap (λ zs. f (g x) ∷ zs) (map_through f g xs)
+
+-- what a function gives at the items so far, and at one more
+pub mapped_more : {X Y : Type 0} (f : X → Y) (xs : List X) (i : ℕ) (x : X) (so_far new : List Y) (y : Y) → i < length xs → x ≡ get_or xs i x → so_far ≡ map f (take i xs) → y ≡ f x → new ≡ so_far ++ y ∷ []
+    → new ≡ map f (take (i + 1) xs)
+mapped_more f xs i x so_far new y lt at before is adds =
+    adds ∙ (λ j. before j ++ is j ∷ []) ∙ ap (λ z. map f (take i xs) ++ f z ∷ []) at ∙ sym (map_more f xs i x lt)

@@ -1,8 +1,14 @@
-ghost use Rattle.std.specs.Prelude.{◌≡◌, IfOk, codes, map, option_and_then};
+ghost use Rattle.std.specs.Prelude.{◌≡◌, ◌≤◌, ◌+◌, ◌∷◌, IfOk, codes, flat_map, map, option_and_then};
 ghost use Rattle.std.specs.FinMap.{get};
 ghost use Rattle.std.specs.Option.{option_copied};
 ghost use Rattle.view_rules.specs.Inbound.{default_policy, default_protocol, default_row, inbound, inbound_route, inbound_routes, inbound_rule, port_row, server_row};
+ghost use Rattle.view_rules.specs.Routes.{attached_routes, is_server_parent, route_key};
+ghost use Rattle.view_types.specs.declared.mark.Mark.TheVariants.{RouteOn};
+ghost use Rattle.view_types.specs.declared.query.Query.TheVariants as query;
+ghost use Rattle.view_types.specs.declared.route.ParentKind.TheVariants as parent;
+ghost use Rattle.mark_rules.specs.Reads.{authz_reads, cost, query_reads};
 ghost use Rattle.mesh_text.specs.PolicyWords.{policy_of};
+ghost use Rattle.view_scratch.specs.Reads.{port_marks, server_marks};
 
 use crate::opaque::is_opaque;
 use crate::pod::pod_named;
@@ -35,9 +41,12 @@ pub fn inbound<L>(
     port: u16,
     steps: &mut Steps<L>,
 ) -> Result<ServerView, Memory>
-    ensures { IfOk result (λ view.
+    ensures value { IfOk result (λ view.
         view ≡ inbound from.now.config.now from.now.store.now.objects ns.now name.now port) }
+    ensures steps { steps.new ≤ steps.old + cost from.now.store.now.objects (query_reads
+        from.now.config.now from.now.store.now.objects (query.Port ns.now name.now port)) }
 {
+    from.store.stand_at_keys();
     match pod_named(from.store, ns, name, steps) {
         Some(pod) => {
             let server = chosen_server(from.store, ns, pod, port, steps)?;
@@ -55,9 +64,11 @@ fn port_row<L>(
     server: Option<&ServerSpec>,
     steps: &mut Steps<L>,
 ) -> Result<ServerRow, Memory>
-    ensures { IfOk result (λ row. row
+    ensures value { IfOk result (λ row. row
         ≡ port_row from.now.config.now from.now.store.now.objects pod.now port
         (option_copied server.entry)) }
+    ensures steps { steps.new ≤ steps.old + cost from.now.store.now.objects
+        (port_marks from.now.store.now.objects (option_copied server.entry)) }
 {
     match server {
         Some(server) => server_row(from, server, steps),
@@ -114,8 +125,10 @@ fn server_row<L>(
     server: &ServerSpec,
     steps: &mut Steps<L>,
 ) -> Result<ServerRow, Memory>
-    ensures { IfOk result (λ row. row
+    ensures value { IfOk result (λ row. row
         ≡ server_row from.now.config.now from.now.store.now.objects server.now) }
+    ensures steps { steps.new ≤ steps.old + cost from.now.store.now.objects (server_marks
+        from.now.store.now.objects server.now.meta.ns server.now.meta.name) }
 {
     Ok(ServerRow {
         protocol: server.protocol,
@@ -131,8 +144,13 @@ fn inbound_routes<L>(
     server: &ServerSpec,
     steps: &mut Steps<L>,
 ) -> Result<List<RouteRow>, Memory>
-    ensures { IfOk result (λ rows.
+    ensures value { IfOk result (λ rows.
         rows ≡ inbound_routes from.now.config.now from.now.store.now.objects server.now) }
+    ensures steps { steps.new ≤ steps.old + cost from.now.store.now.objects
+        (RouteOn server.now.meta.ns parent.Server server.now.meta.name
+        ∷ flat_map (λ route. authz_reads from.now.store.now.objects (route_key route))
+        (attached_routes from.now.store.now.objects server.now.meta.ns
+        (is_server_parent server.now.meta.name))) }
 {
     let attachment = ServerNamed {
         name: &server.meta.name,
@@ -146,9 +164,11 @@ fn route_rows<L>(
     routes: &[&Route],
     steps: &mut Steps<L>,
 ) -> Result<List<RouteRow>, Memory>
-    ensures { IfOk result (λ rows.
+    ensures rows { IfOk result (λ rows.
         rows ≡ map (λ route. inbound_route from.now.config.now from.now.store.now.objects route.now)
         routes.now) }
+    ensures steps { steps.new ≤ steps.old + cost from.now.store.now.objects (flat_map
+        (λ route. authz_reads from.now.store.now.objects (route_key route.now)) routes.now) }
 {
     let mut rows = List::new(from.alloc);
     for route in routes {
@@ -162,8 +182,10 @@ fn inbound_route<L>(
     route: &Route,
     steps: &mut Steps<L>,
 ) -> Result<RouteRow, Memory>
-    ensures { IfOk result (λ row. row
+    ensures value { IfOk result (λ row. row
         ≡ inbound_route from.now.config.now from.now.store.now.objects route.now) }
+    ensures steps { steps.new ≤ steps.old + cost from.now.store.now.objects
+        (authz_reads from.now.store.now.objects (route_key route.now)) }
 {
     let rules = inbound_rules(from.alloc, route.rules.as_slice())?;
     let authz = authz_rows(from, &route_key(route)?, steps)?;

@@ -1,12 +1,17 @@
-ghost use Rattle.std.specs.Prelude.{◌≡◌, ◌||◌, IfOk, map, not};
+ghost use Rattle.std.specs.Prelude.{◌≡◌, ◌≤◌, ◌+◌, ◌∷◌, ◌||◌, IfOk, flat_map, map, not};
 ghost use Rattle.std.specs.Option.{option_copied};
+ghost use Rattle.view_types.specs.declared.mark.Mark.TheVariants.{IpService, RouteOn};
+ghost use Rattle.view_types.specs.declared.route.ParentKind.TheVariants as parent;
 ghost use Rattle.view_rules.specs.Outbound.{backend_row, exists, is_missing, outbound, outbound_route, outbound_routes, outbound_rule, to_address, to_pod, to_service};
 ghost use Rattle.view_rules.specs.Profiles.{pod_at, service_at};
+ghost use Rattle.mark_rules.specs.Reads.{address_reads, backend_marks, backends_of, cost, outbound_reads, routes_on, service_outbound_reads};
+ghost use Rattle.view_scratch.specs.Reads.{rule_marks};
 
 use crate::address::{pod_at, service_at};
 use crate::endpoint::row_of;
 use crate::opaque::{is_opaque, is_opaque_at};
 use crate::service::service_held;
+use mark_rules::laws::rows_by_marks;
 use mesh_base::copied::Copied;
 use mesh_base::list::List;
 use mesh_base::memory::Memory;
@@ -33,8 +38,10 @@ pub fn outbound<L>(
     target: &Target,
     steps: &mut Steps<L>,
 ) -> Result<OutboundView, Memory>
-    ensures { IfOk result (λ view.
+    ensures value { IfOk result (λ view.
         view ≡ outbound from.now.config.now from.now.store.now.objects target.now) }
+    ensures steps { steps.new ≤ steps.old + cost from.now.store.now.objects
+        (outbound_reads from.now.store.now.objects target.now) }
 {
     match target {
         Target::Service { ns, name, port } => to_service(from, ns, name, *port, steps),
@@ -42,14 +49,18 @@ pub fn outbound<L>(
     }
 }
 
+#[tactic(auto, using(mark_rules::proofs::Counts::cost_cons))]
 fn to_address<L>(
     from: &Snapshot,
     ip: Ip,
     port: u16,
     steps: &mut Steps<L>,
 ) -> Result<OutboundView, Memory>
-    ensures { IfOk result (λ view.
+    ensures value { IfOk result (λ view.
         view ≡ to_address from.now.config.now from.now.store.now.objects ip port
+        (service_at from.now.store.now.objects ip)) }
+    ensures steps { steps.new ≤ steps.old + cost from.now.store.now.objects (IpService ip
+        ∷ address_reads (service_outbound_reads from.now.store.now.objects) ip
         (service_at from.now.store.now.objects ip)) }
 {
     match service_at(from.store, ip, steps)? {
@@ -79,6 +90,7 @@ fn to_pod(
     })
 }
 
+#[tactic(auto, using(mark_rules::proofs::Counts::cost_cons))]
 fn to_service<L>(
     from: &Snapshot,
     ns: &Text,
@@ -86,7 +98,10 @@ fn to_service<L>(
     port: u16,
     steps: &mut Steps<L>,
 ) -> Result<OutboundView, Memory>
-    ensures { IfOk result (λ view. view ≡ to_service from.now.store.now.objects ns.now name.now port) }
+    ensures value { IfOk result (λ view.
+        view ≡ to_service from.now.store.now.objects ns.now name.now port) }
+    ensures steps { steps.new ≤ steps.old + cost from.now.store.now.objects
+        (service_outbound_reads from.now.store.now.objects ns.now name.now) }
 {
     match service_held(from.store, ns, name, steps) {
         Some(service) if !service.external => Ok(OutboundView::Service {
@@ -107,9 +122,13 @@ fn outbound_routes<L>(
     port: u16,
     steps: &mut Steps<L>,
 ) -> Result<List<RouteRow>, Memory>
-    ensures { IfOk result (λ rows.
+    ensures value { IfOk result (λ rows.
         rows ≡ outbound_routes from.now.store.now.objects ns.now name.now port) }
+    ensures steps { steps.new ≤ steps.old + cost from.now.store.now.objects
+        (RouteOn ns.now parent.Service name.now
+        ∷ flat_map backends_of (routes_on from.now.store.now.objects ns.now name.now)) }
 {
+    rows_by_marks();
     let attachment = ServiceAt { name, port };
     let routes = attached_routes(from.alloc, from.store, ns, &attachment, steps)?;
     route_rows(from, routes.as_slice(), steps)
@@ -120,8 +139,10 @@ fn route_rows<L>(
     routes: &[&Route],
     steps: &mut Steps<L>,
 ) -> Result<List<RouteRow>, Memory>
-    ensures { IfOk result (λ rows.
+    ensures rows { IfOk result (λ rows.
         rows ≡ map (λ route. outbound_route from.now.store.now.objects route.now) routes.now) }
+    ensures steps { steps.new ≤ steps.old + cost from.now.store.now.objects
+        (flat_map (λ route. backends_of route.now) routes.now) }
 {
     let mut rows = List::new(from.alloc);
     for route in routes {
@@ -136,7 +157,10 @@ fn outbound_route<L>(
     route: &Route,
     steps: &mut Steps<L>,
 ) -> Result<RouteRow, Memory>
-    ensures { IfOk result (λ row. row ≡ outbound_route from.now.store.now.objects route.now) }
+    ensures value { IfOk result (λ row.
+        row ≡ outbound_route from.now.store.now.objects route.now) }
+    ensures steps { steps.new ≤ steps.old
+        + cost from.now.store.now.objects (backends_of route.now) }
 {
     let rules = outbound_rules(from, route.rules.as_slice(), steps)?;
     route_row(from.alloc, route, rules, List::new(from.alloc))
@@ -147,7 +171,10 @@ fn outbound_rules<L>(
     rules: &[Rule],
     steps: &mut Steps<L>,
 ) -> Result<List<RuleRow>, Memory>
-    ensures { IfOk result (λ rows. rows ≡ map (outbound_rule from.now.store.now.objects) rules.now) }
+    ensures rows { IfOk result (λ rows.
+        rows ≡ map (outbound_rule from.now.store.now.objects) rules.now) }
+    ensures steps { steps.new ≤ steps.old
+        + cost from.now.store.now.objects (flat_map rule_marks rules.now) }
 {
     let mut rows = List::new(from.alloc);
     for rule in rules {
@@ -157,7 +184,9 @@ fn outbound_rules<L>(
 }
 
 fn outbound_rule<L>(from: &Snapshot, rule: &Rule, steps: &mut Steps<L>) -> Result<RuleRow, Memory>
-    ensures { IfOk result (λ row. row ≡ outbound_rule from.now.store.now.objects rule.now) }
+    ensures value { IfOk result (λ row. row ≡ outbound_rule from.now.store.now.objects rule.now) }
+    ensures steps { steps.new ≤ steps.old
+        + cost from.now.store.now.objects (rule_marks rule.now) }
 {
     Ok(RuleRow {
         matches: rule.matches.copy(from.alloc)?,
@@ -173,7 +202,10 @@ fn backend_rows<L>(
     backends: &[BackendRef],
     steps: &mut Steps<L>,
 ) -> Result<List<BackendRow>, Memory>
-    ensures { IfOk result (λ rows. rows ≡ map (backend_row from.now.store.now.objects) backends.now) }
+    ensures rows { IfOk result (λ rows.
+        rows ≡ map (backend_row from.now.store.now.objects) backends.now) }
+    ensures steps { steps.new ≤ steps.old
+        + cost from.now.store.now.objects (flat_map backend_marks backends.now) }
 {
     let mut rows = List::new(from.alloc);
     for backend in backends {
@@ -187,7 +219,9 @@ fn backend_row<L>(
     backend: &BackendRef,
     steps: &mut Steps<L>,
 ) -> Result<BackendRow, Memory>
-    ensures { IfOk result (λ row. row ≡ backend_row store.now.objects backend.now) }
+    ensures value { IfOk result (λ row. row ≡ backend_row store.now.objects backend.now) }
+    ensures steps { steps.new ≤ steps.old
+        + cost store.now.objects (backend_marks backend.now) }
 {
     Ok(BackendRow {
         ns: backend.ns.copy()?,
@@ -199,7 +233,9 @@ fn backend_row<L>(
 }
 
 fn is_missing<L>(store: &Store, backend: &BackendRef, steps: &mut Steps<L>) -> bool
-    ensures { result ≡ is_missing store.now.objects backend.now }
+    ensures value { result ≡ is_missing store.now.objects backend.now }
+    ensures steps { steps.new ≤ steps.old
+        + cost store.now.objects (backend_marks backend.now) }
 {
     !backend.service || !exists(service_held(store, &backend.ns, &backend.name, steps))
 }

@@ -1,4 +1,4 @@
-use Rattle.std.proofs.Common.{◌+◌, ◌≤◌, length, map, sym, ap, arith, ◌∙◌}
+use Rattle.std.proofs.Common.{length, map, sym, ap, arith, ◌∙◌}
 use Rattle.std.specs.Prelude.{is_some}
 use Rattle.std.specs.FinMap.{get}
 use Rattle.std.specs.List.{filter, filter_map, sum_by}

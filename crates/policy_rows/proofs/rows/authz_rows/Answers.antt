@@ -1,21 +1,36 @@
-use Rattle.std.proofs.Common.{map, sym, ap, ◌∙◌}
-use Rattle.std.specs.List.{filter, filter_map}
-use Rattle.std.proofs.lemmas.List.{take_all}
+use Rattle.std.proofs.Common.{Bor, map, sym, ap, ◌∙◌, arith}
+use Rattle.std.proofs.lemmas.Result.{IfOk-weaker}
+use Rattle.std.specs.List.{filter, filter_map, flat_map}
+use Rattle.view_types.specs.declared.object.Object.{Object}
 use Rattle.view_rules.specs.Policies.{authz_row}
-use Rattle.policy_rows.proofs.Steps.{shows}
+use Rattle.mark_rules.specs.Marks.{objects_with}
+use Rattle.mark_rules.specs.Reads.{cost, needs_of}
+use Rattle.mark_rules.proofs.Counts.{cost_append}
+use Rattle.policy_rows.proofs.Costs.{with_needs_cost}
 use Rattle.policy_rows.proofs.rows.authz_rows.Goals as goal
 
-pub loop-object-preserved : goal.loop-object-preserved
-loop-object-preserved g c =
+pub returns-in_err-objects-clause-steps : goal.returns-in_err-objects-clause-steps
+returns-in_err-objects-clause-steps g c =
     let held = c.args.from.now.store.now.objects in
-    shows (authz_row c.args.from.now.config.now held) (g.S.Subject.applies held c.args.subject.now) (λ o. o.now) c.as_slice-object-items.result.now c.loop-object.object-index c.object-item.result c.loop-object.rows c.add_if_applies.new.rows
-    c.loop-object-test.true c.object-item.is c.loop-object.invariant c.in_ok-add_if_applies.ensures
+    let marks = g.S.Subject.marks c.args.subject.now in
+    let all = cost_append held marks (flat_map needs_of (objects_with held marks)) in
+    let first = c.candidates.ensures.steps in
+    omega (arith, all, first)
 
-pub returns : goal.returns
-returns g c =
+pub returns-clause-rows : goal.returns-clause-rows
+returns-clause-rows g c =
     let held = c.args.from.now.store.now.objects in
     let row = authz_row c.args.from.now.config.now held in
     let applies = g.S.Subject.applies held c.args.subject.now in
-    c.loop-object.invariant
-    ∙ ap (λ objects. filter_map row (filter applies (map (λ o. o.now) objects))) (take_all c.loop-object.object-index c.as_slice-object-items.result.now c.loop-object-test.false ∙ c.as_slice-object-items.ensures.value)
-    ∙ ap (filter_map row) (sym c.in_ok-objects.ensures)
+    IfOk-weaker c.rows_among.result _ _
+    (λ rows is. is ∙ ap (λ objects. filter_map row (filter applies (map (λ o. o.now) objects))) c.as_slice.ensures.value ∙ ap (filter_map row) (sym c.in_ok-objects.ensures.among))
+    c.rows_among.ensures.rows
+
+pub returns-clause-steps : goal.returns-clause-steps
+returns-clause-steps g c =
+    let held = c.args.from.now.store.now.objects in
+    let all = with_needs_cost held (g.S.Subject.marks c.args.subject.now) c.in_ok-objects.objects.items c.in_ok-objects.ensures.objects in
+    let first = c.candidates.ensures.steps in
+    let each = c.rows_among.ensures.steps in
+    let seen = ap (λ objects. cost held (flat_map (λ (o : Bor Object). needs_of o.now) objects)) c.as_slice.ensures.value in
+    omega (arith, all, first, each, seen)

@@ -1,6 +1,5 @@
-use Rattle.std.proofs.Common.{◌≡◌, length, sym, ap, ◌∙◌, arith}
-use Rattle.std.specs.FinMap.{get}
-use Rattle.std.specs.List.{filter_map, find}
+use Rattle.std.proofs.Common.{length, sym, ap, ◌∙◌, arith}
+use Rattle.std.specs.List.{find}
 use Rattle.view_types.specs.declared.mark.Mark.TheVariants.{ServersIn}
 use Rattle.view_rules.specs.Servers.{is_server_for, server_found}
 use Rattle.mark_rules.proofs.Counts.{objects_count}

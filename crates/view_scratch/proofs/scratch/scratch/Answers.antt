@@ -18,8 +18,8 @@ returns-in_ok-view-in-Profile-clause-value g c =
 
 pub returns-in_ok-view-in-Port-clause-value : goal.returns-in_ok-view-in-Port-clause-value
 returns-in_ok-view-in-Port-clause-value g c =
-    ap Server c.in_ok-view-in-Port.ensures ∙ ap (view_of c.args.config.now c.args.store.now.objects) (sym c.in-Port.is)
+    ap Server c.in_ok-view-in-Port.ensures.value ∙ ap (view_of c.args.config.now c.args.store.now.objects) (sym c.in-Port.is)
 
 pub returns-in_ok-view-in-Traffic-clause-value : goal.returns-in_ok-view-in-Traffic-clause-value
 returns-in_ok-view-in-Traffic-clause-value g c =
-    ap Outbound c.in_ok-view-in-Traffic.ensures ∙ ap (view_of c.args.config.now c.args.store.now.objects) (sym c.in-Traffic.is)
+    ap Outbound c.in_ok-view-in-Traffic.ensures.value ∙ ap (view_of c.args.config.now c.args.store.now.objects) (sym c.in-Traffic.is)
