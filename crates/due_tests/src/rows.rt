@@ -11,6 +11,12 @@ two subscriptions of one query: get => 1, get_again => 1 9, drain_1 => 9, slice 
 an endpoint that goes and comes: service slice => nobody, get => 1, drain_1 => nobody, slice_gone slice => 1, drain_1 => nobody
 an endpoint that comes back with a Pod: service slice => nobody, get => 1, drain_1 => nobody, slice_gone pod slice_of_pod => 1, drain_1 => nobody
 an address of two slices, the first of which goes: bare_pod bare_pod_2 service slice_of_pod slice_b_of_pod_2 => nobody, get => 1, drain_1 => nobody, slice_gone => 1
+an address of two slices, the first of which goes and then the second: bare_pod bare_pod_2 service slice_of_pod slice_b_of_pod_2 => nobody, get => 1, drain_1 => nobody, slice_gone => 1, drain_1 => nobody, bare_pod_2 => 1, drain_1 => nobody, slice_b_gone => 1, drain_1 bare_pod bare_pod_2 => nobody
+an endpoint that comes back with another Pod: bare_pod bare_pod_2 service slice_of_pod => nobody, get => 1, drain_1 => nobody, slice_gone slice_b_of_pod_2 => 1, drain_1 bare_pod => nobody, bare_pod_2 => 1
+a Pod that leaves the mesh and joins it again: service slice_of_pod pod => nobody, get => 1, drain_1 => nobody, bare_pod => 1, drain_1 => nobody, pod => 1, drain_1 => nobody, bare_pod pod => 1
+two subscriptions of one query, drained at times of their own: service slice => nobody, get => 1, get_again => 1 9, drain_1 => 9, slice_b => 1 9, drain_9 => 1, slice_b_gone => 1 9, drain_1 => 9, drain_9 => nobody
+a subscription that is cancelled with a change to send, and another of its query: service slice => nobody, get => 1, drain_1 => nobody, slice_b => 1, cancel_1 => nobody, get_again => 9, drain_9 => nobody, slice_b_gone => 9
+a Service that goes and comes with its slices: service slice => nobody, get => 1, drain_1 => nobody, service_gone => 1, drain_1 => nobody, slice => 1, drain_1 => nobody, service => 1, drain_1 => nobody, service_gone service => 1
 simulations, which subscribe to nothing: pod server policy simulate cli simulate => nobody
 a list in place of two slices: service slice slice_b => nobody, get => 1, drain_1 => nobody, list_b_and_c => 1
 lists that are refused: service slice slice_b => nobody, get => 1, drain_1 => nobody, list_without_name list_of_b_twice => refused nobody
@@ -61,6 +67,7 @@ a Pod at the address of a Service: service | pod_at => nobody, service_gone => 1
 a Pod of the host's network at the address: bookmark | pod_at_host => nobody, pod_at => 5 6, drain_5 => 6, drain_6 => nobody, pod_at_host => 5 6
 a ServiceProfile in the client's namespace, where one of the Service's stands: service profile_in_app | profile_in_cli => 2 5, drain_2 => 5, drain_5 => nobody, profile_in_cli_gone => 2 5
 a ServiceProfile in the Service's namespace, where one of the client's stands: service profile_in_cli | profile_in_app => 2 5
+a ServiceProfile that moves to the client's namespace: service profile_in_app | profile_in_app_gone => 2 5, drain_2 => 5, profile_in_cli => 2 5, drain_2 => 5, drain_5 => nobody, profile_in_cli_gone => 2 5
 a ServiceProfile without the Service: bookmark | profile_in_cli => 2, drain_2 => nobody, profile_in_app => 2
 a ServiceProfile in a third namespace: service | profile_in_db => nobody
 a Server in another namespace: pod server | server_in_db => nobody
