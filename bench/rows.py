@@ -3,12 +3,13 @@
 
     bench/rows.py --program FILE --old FILE     both, in turn, with the ratios of the older to the newer
     bench/rows.py                               the proved program (tools/prove) alone
-    bench/rows.py --rows few,shared             these rows alone: few, cluster, shared, wide, slices, folds, given
+    bench/rows.py --rows few,shared             these rows alone: few, cluster, shared, wide, slices, annotated, folds, given
 
 Each row is one measurement of `replay`, or of `fold`: the least of TIMES runs, of which each is ended after LIMIT seconds of processor
 time. The time of a change is that of a run less that of a run over the same feed without the changes. A run that doesn't write as many
 lines as it should ends the measurement."""
 import argparse
+import json
 import os
 import random
 import resource
@@ -29,6 +30,8 @@ NOISE = 0.005      # seconds that two runs of one feed may differ by
 FEW = 10_000       # changes of one slice, each with a drain
 CHANGES = 50_000
 FOLDED = 10_000
+ANNOTATED, ANNOTATION = 50, 250_000  # Pods with an annotation, and its bytes
+CHANGES_BESIDE = 100  # changes of a slice beside them
 WIDE = 2_000, 100  # changes of a Service in many slices: with the program, and with the older one
 
 
@@ -209,6 +212,33 @@ def slices(bench):
     ratio("100 slices to one slice (to reach: 3)", rows[1], rows[0])
 
 
+def annotated_pod(number):
+    """The Pod that an endpoint targets, with an annotation of ANNOTATION bytes, which names no port of it."""
+    line = json.loads(pod_line(number))
+    line["object"]["metadata"]["annotations"]["config.linkerd.io/opaque-ports"] = ("1-2," * (ANNOTATION // 4))[:-1]
+    return json.dumps(line, separators=(",", ":"))
+
+
+def annotated_pods(count):
+    """A Service of ANNOTATED Pods in one slice, and of one endpoint more in another, which changes so often and is drained each time."""
+    yield service_line(0)
+    for number in range(ANNOTATED):
+        yield annotated_pod(number)
+    yield slice_line(0, 0, "ADDED", [endpoint(number) for number in range(ANNOTATED)])
+    yield slice_line(1, 0, "ADDED", [endpoint(ANNOTATED)])
+    yield subscribe_line(1, 0)
+    yield drain_line(1)
+    for number in range(count):
+        yield slice_line(1, 0, "MODIFIED", [endpoint(ANNOTATED + 1 + number)])
+        yield drain_line(1)
+
+
+def annotated(bench):
+    before = bench.replays(annotated_pods(0), 1)
+    after = bench.replays(annotated_pods(CHANGES_BESIDE), 1 + 2 * CHANGES_BESIDE)
+    tell(f"a slice changes beside {ANNOTATED} Pods with annotations of {ANNOTATION // 1_000} KB, drained", less(after, before), CHANGES_BESIDE)
+
+
 def folds(bench):
     rows = []
     for count, width in ((1, 10), (1_000, 10)):
@@ -225,7 +255,7 @@ def given(bench):
         tell(f"{LINES:,} slices {title}", bench.replays(lines, 0), with_memory=True)
 
 
-ROWS = {"few": few, "cluster": cluster, "shared": shared, "wide": wide, "slices": slices, "folds": folds, "given": given}
+ROWS = {"few": few, "cluster": cluster, "shared": shared, "wide": wide, "slices": slices, "annotated": annotated, "folds": folds, "given": given}
 
 
 def main():
