@@ -45,6 +45,10 @@ pod_in_db: {"type":"ADDED","object":{"apiVersion":"v1","kind":"Pod","metadata":{
 bare_pod: {"type":"ADDED","object":{"apiVersion":"v1","kind":"Pod","metadata":{"name":"web-1","namespace":"app"},"status":{"podIP":"10.1.2.3"}}}
 bare_pod_2: {"type":"ADDED","object":{"apiVersion":"v1","kind":"Pod","metadata":{"name":"web-2","namespace":"app"},"status":{"podIP":"10.1.2.3"}}}
 bare_pod_of_api: {"type":"MODIFIED","object":{"apiVersion":"v1","kind":"Pod","metadata":{"name":"web-1","namespace":"app"},"spec":{"serviceAccountName":"api"},"status":{"podIP":"10.1.2.3"}}}
+drain_3: {"control":"drain","id":3}
+slice_b_gone: {"type":"DELETED","object":{"apiVersion":"discovery.k8s.io/v1","kind":"EndpointSlice","metadata":{"name":"web-b","namespace":"app"}}}
+slice_of_pod_2: {"type":"MODIFIED","object":{"apiVersion":"discovery.k8s.io/v1","kind":"EndpointSlice","metadata":{"name":"web-a","namespace":"app","labels":{"kubernetes.io/service-name":"web"}},"addressType":"IPv4","endpoints":[{"addresses":["10.1.2.3"],"targetRef":{"kind":"Pod","name":"web-2"}}],"ports":[{"name":"http","port":8080}]}}
+slice_of_three: {"type":"ADDED","object":{"apiVersion":"discovery.k8s.io/v1","kind":"EndpointSlice","metadata":{"name":"web-a","namespace":"app","labels":{"kubernetes.io/service-name":"web"}},"addressType":"IPv4","endpoints":[{"addresses":["10.1.2.3"],"targetRef":{"kind":"Pod","name":"web-1"}},{"addresses":["10.1.2.4"]},{"addresses":["10.1.2.5"]}],"ports":[{"name":"http","port":8080}]}}
 one: frame 1 00000000130a110a0f0a0a0a050d0302010a10903f18904e
 both: frame 1 00000000240a220a0f0a0a0a050d0302010a10903f18904e0a0f0a0a0a050d0402010a10903f18904e
 no_service: frame 1 00000000021a00
@@ -54,6 +58,11 @@ fifth: frame 1 00000000130a110a0f0a0a0a050d0502010a10903f18904e
 sixth: frame 1 00000000130a110a0f0a0a0a050d0602010a10903f18904e
 fifth_and_sixth: frame 1 00000000240a220a0f0a0a0a050d0502010a10903f18904e0a0f0a0a0a050d0602010a10903f18904e
 both_and_6: frame 1 00000000440a420a0f0a0a0a050d0302010a10903f18904e0a0f0a0a0a050d0402010a10903f18904e0a1e0a190a1412120900000000000000fd11010000000000000010903f18904e
+one_to_2: frame 2 00000000130a110a0f0a0a0a050d0302010a10903f18904e
+second_to_2: frame 2 00000000130a110a0f0a0a0a050d0402010a10903f18904e
+first_gone_to_2: frame 2 000000000e120c0a0a0a050d0302010a10903f
+one_to_3: frame 3 00000000130a110a0f0a0a0a050d0302010a10903f18904e
+fifth_gone: frame 1 000000000e120c0a0a0a050d0502010a10903f
 first_gone: frame 1 000000000e120c0a0a0a050d0302010a10903f
 second_gone: frame 1 000000000e120c0a0a0a050d0402010a10903f
 both_gone: frame 1 000000001a12180a0a0a050d0302010a10903f0a0a0a050d0402010a10903f
@@ -114,6 +123,26 @@ a drain before the subscription: drain get => refused 1 NoSuchId 1, no_service
 a drain and a cancel of an id that was cancelled: get cancel drain cancel => refused 3 NoSuchId 1, refused 4 NoSuchId 1
 ids that go down, and the greatest cancelled: get_5 get cancel_5 drain_5 => refused 2 IdOrder 5, refused 4 NoSuchId 5
 a cancelled id doesn't come back: get cancel get get_2 => refused 3 IdOrder 1, frame 2 00000000021a00
+an endpoint that comes back with another Pod: service slice_of_pod bare_pod bare_pod_2 get drain slice_gone slice_b_of_pod_2 drain => labelled, labelled_2
+an endpoint that goes over to another Pod: service slice_of_pod bare_pod bare_pod_2 get drain slice_of_pod_2 drain => labelled, labelled_2
+an endpoint that changes twice between two drains: service slice_of_pod get drain pod pod_opaque drain => one, opaque
+an endpoint that changes and changes back between two drains: service slice_of_pod get drain pod pod_gone drain pod drain => one, meshed
+an address of two slices that goes from the first and then from the second: bare_pod bare_pod_2 service slice_of_pod slice_b_of_pod_2 get drain slice_gone drain slice_b_gone drain => labelled, labelled_2, no_endpoints
+an address of two slices that goes from the second and then from the first: bare_pod bare_pod_2 service slice_of_pod slice_b_of_pod_2 get drain slice_b_gone drain slice_gone drain => labelled, no_endpoints
+an address of two slices that goes from both between two drains: bare_pod bare_pod_2 service slice_of_pod slice_b_of_pod_2 get drain slice_gone slice_b_gone drain => labelled, no_endpoints
+an address of two slices that goes from the first and comes back there: bare_pod bare_pod_2 service slice_of_pod slice_b_of_pod_2 get drain slice_gone slice_of_pod drain => labelled
+a Pod that leaves the mesh and joins it again: service slice_of_pod pod get drain bare_pod drain pod drain => meshed, labelled, meshed
+a Pod that leaves the mesh and joins it again between two drains: service slice_of_pod pod get drain bare_pod pod drain => meshed
+a Service without endpoints that goes and comes between two drains: service get drain service_gone service drain service_gone drain => no_endpoints, no_service
+a Service without endpoints that comes and goes between two drains: get drain service service_gone drain service drain => no_service, no_endpoints
+a Service that goes and comes with its slices: service slice_of_both get drain service_gone drain service drain => both, no_service, both
+a Service that goes and comes with its slices between two drains: service slice_of_both get drain service_gone service drain => both
+a Service that goes and comes while its slice changes: service slice get drain service_gone slice_of_both service drain => one, second
+two subscriptions that stand alike, then apart, then alike: service slice get get_2 drain drain_2 slice_of_second drain slice drain_2 drain slice_of_second drain drain_2 => one, one_to_2, second, first_gone, one, second_gone, second, first_gone, second_to_2, first_gone_to_2
+a third subscription beside two that were told otherwise: service slice get get_2 drain drain_2 slice_of_second drain slice get_3 drain_3 drain_2 drain => one, one_to_2, second, first_gone, one_to_3, one, second_gone
+a cancel with a change to send, and another subscription: service slice get drain slice_of_second cancel get_2 drain_2 slice drain_2 => one, second_to_2, one_to_2, frame 2 000000000e120c0a0a0a050d0402010a10903f
+a cancel with a change to send, beside another subscription that has it to send: service slice get get_2 drain drain_2 slice_of_second cancel drain_2 => one, one_to_2, second_to_2, first_gone_to_2
+a cancel of the last subscription, and another after its slice changed: service slice get drain cancel slice_of_second get_2 drain_2 => one, second_to_2
 a refused line between two drains: service slice get drain broken drain => one, refused 5 NotJson
 a refused list, whose third item has no name: service slice slice_b get drain list_without_name drain => both, refused 6 Missing items[2].metadata.name
 a refused list, in which a slice stands twice: service slice slice_b get drain list_of_b_twice drain => both, refused 6 RepeatedItem 1
@@ -133,6 +162,8 @@ subs=1 message=18 | an id that ended leaves room, and doesn't come back: service
 subs=1 | a cancel leaves room: get get_2 cancel get_2 => refused 2 TooManySubs 1, frame 2 00000000021a00
 objects=2 | an object too many, and one in place of another: service slice pod slice_modified => refused 3 Full 2
 objects=2 | an object too many, a Pod, between two drains: service slice_of_pod get drain pod drain slice_modified drain => one, refused 5 Full 2
+addrs=1 | one address in each message, one changed and two gone: bare_pod bare_pod_2 service slice_of_three get drain slice_of_pod_2 drain => labelled, second, fifth, labelled_2, second_gone, fifth_gone
+addrs=1 | one address in each message, two gone that come back: service slice_of_both get drain slice_gone slice_of_both drain => one, second
 addrs=1 | one address in each message: service slice_of_both get drain list_b_and_c drain => one, second, fifth, sixth, first_gone, second_gone
 ";
 

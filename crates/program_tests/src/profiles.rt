@@ -20,6 +20,7 @@ profile: {"type":"ADDED","object":{"apiVersion":"linkerd.io/v1alpha2","kind":"Se
 profile_of_api: {"type":"ADDED","object":{"apiVersion":"linkerd.io/v1alpha2","kind":"ServiceProfile","metadata":{"name":"api.app.svc.cluster.local","namespace":"app"},"spec":{"routes":[{"name":"post","condition":{"method":"POST"}}]}}}
 profile_of_another_domain: {"type":"ADDED","object":{"apiVersion":"linkerd.io/v1alpha2","kind":"ServiceProfile","metadata":{"name":"web.app.svc.example.org","namespace":"app"},"spec":{"routes":[{"name":"post","condition":{"method":"POST"}}]}}}
 profile_in_cli: {"type":"ADDED","object":{"apiVersion":"linkerd.io/v1alpha2","kind":"ServiceProfile","metadata":{"name":"web.app.svc.cluster.local","namespace":"cli"},"spec":{"dstOverrides":[{"authority":"c","weight":1}]}}}
+profile_moved_to_cli: {"type":"ADDED","object":{"apiVersion":"linkerd.io/v1alpha2","kind":"ServiceProfile","metadata":{"name":"web.app.svc.cluster.local","namespace":"cli"},"spec":{"routes":[{"name":"get","condition":{"method":"GET"}}]}}}
 by_name_for_cli: {"control":"subscribe","id":1,"query":{"method":"GetProfile","path":"web.app.svc.cluster.local:80","token":"{\"ns\":\"cli\"}"}}
 profile_in_cli_empty: {"type":"ADDED","object":{"apiVersion":"linkerd.io/v1alpha2","kind":"ServiceProfile","metadata":{"name":"web.app.svc.cluster.local","namespace":"cli"}}}
 by_name_for_nobody: {"control":"subscribe","id":1,"query":{"method":"GetProfile","path":"web.app.svc.cluster.local:80","token":"{\"ns\":\"nobody\"}"}}
@@ -197,6 +198,10 @@ a drain after a change of the profile: service profile by_name drain profile_pos
 a drain after a route was added before the others: profile by_name drain profile_both => get_route, both_routes
 a drain after the profile went: profile by_name drain profile_gone => get_route, plain
 a drain after a profile came in the client's namespace, and went: profile by_name_for_cli drain profile_in_cli drain profile_in_cli_gone drain => get_route, override_of_cli, get_route
+a profile that moves to the client's namespace with other contents: service profile by_name_for_cli drain profile_gone profile_in_cli drain => get_route, override_of_cli
+a profile that moves to the client's namespace as it is: service profile by_name_for_cli drain profile_gone profile_moved_to_cli drain profile_in_cli_gone drain => get_route, plain
+a profile that moves to the client's namespace in two drains, by the address: service profile by_address_for_cli drain profile_gone drain profile_moved_to_cli drain => get_route, plain, get_route
+a profile that moves to the client's namespace, beside another client: service profile by_name by_name_for_cli_2 drain profile_gone profile_in_cli drain => get_route, plain, override_of_cli_to_2
 a list in place of the profiles: profile by_name drain list_of_post drain no_profiles => get_route, post_route, plain
 a drain after a change of the Service: service profile by_name drain service_opaque drain service drain => get_route, opaque_get_route, get_route
 a drain after the Service went, by its name: service profile by_name drain service_gone => get_route
