@@ -25,7 +25,8 @@ fn push_bytes(alloc: Global, text: &mut String, bytes: &[u8]) -> Result<(), Fail
     push_lines(text, shown)
 }
 
-fn written(alloc: Global, trace: &[LinkCall], number: u32) -> Result<Vec<u8>, Fail> {
+/// The bytes that were written on a link.
+pub fn written(alloc: Global, trace: &[LinkCall], number: u32) -> Result<Vec<u8>, Fail> {
     let mut bytes = Vec::new(alloc);
     for call in trace {
         if let LinkCall::Write { link, piece, got } = call {
@@ -38,6 +39,18 @@ fn written(alloc: Global, trace: &[LinkCall], number: u32) -> Result<Vec<u8>, Fa
         }
     }
     Ok(bytes)
+}
+
+/// Whether a link was closed.
+pub fn is_closed(trace: &[LinkCall], number: u32) -> bool {
+    for call in trace {
+        if let LinkCall::Close { link } = call {
+            if *link == number {
+                return true;
+            }
+        }
+    }
+    false
 }
 
 fn push_closes(text: &mut String, trace: &[LinkCall]) -> Result<(), Fail> {
