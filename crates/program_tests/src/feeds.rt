@@ -2,7 +2,7 @@
 ghost use Rattle.std.specs.Prelude.{◌≤◌};
 
 use crate::cases::holds_within;
-use crate::lines::{GET, NO_ENDPOINTS, NO_SERVICE, SERVICE, SLICE, named};
+use crate::lines::{GET, NO_ENDPOINTS, NO_SERVICE, ONE, SERVICE, SLICE, named};
 use crate::pods::PODS;
 use crate::rows::{ACCEPTED, LIMITED, NAMED, REFUSED};
 use crate::runs::{comes_to, run_of, sink_of, source_of, tried};
@@ -175,6 +175,35 @@ fn faults_and_limits(rt: HostRuntime) -> Result<(), Fail> {
     let (status, written) = failing(alloc, &[], &[], &Limits::USUAL)?;
     assert_eq!(rt; status, Status::Done);
     assert!(rt; written > 0);
+    Ok(())
+}
+
+// Whether a replay of three lines where the call of this number fails ends with the status of that fault and has written a front
+// of the whole output, or, as there is no such call, ends with the whole output.
+fn is_front(alloc: Global, reads: &[u64], writes: &[u64], fault: Status) -> Result<bool, Fail> {
+    let text = format!(in alloc; "{SERVICE}\n{SLICE}\n{GET}\n")?;
+    let mut input = source_of(alloc, &text, reads)?;
+    let mut out = sink_of(alloc, writes)?;
+    let status = tried(alloc, "replay", &Limits::USUAL, &mut input, &mut out)?;
+    if input.count > 0 || out.count > 0 {
+        return Ok(status == fault && ONE.as_bytes().starts_with(out.bytes.as_slice()));
+    }
+    Ok(status == Status::Done && ONE.as_bytes() == out.bytes.as_slice())
+}
+
+#[test]
+fn a_fault_at_each_call(rt: HostRuntime) -> Result<(), Fail> {
+    let alloc = rt.alloc();
+    for call in 1..5 {
+        assert!(rt;
+            is_front(alloc, &[call], &[], Status::ReadFault)?,
+            "read {call}"
+        );
+        assert!(rt;
+            is_front(alloc, &[], &[call], Status::WriteFault)?,
+            "write {call}"
+        );
+    }
     Ok(())
 }
 
