@@ -4,9 +4,11 @@ ghost use Rattle.std.specs.BTreeSet.{contains};
 ghost use Rattle.std.specs.List.{list_any};
 ghost use Rattle.std.specs.List.Sorted.{IsStrictlySortedBy};
 ghost use Rattle.std.specs.Ordering.{nat_cmp};
+ghost use Rattle.mark_graph.specs.Moves.{has_after};
 ghost use Rattle.mark_graph.specs.RowMarks.{Agree, AllHaveRows, MovesRow, Rewatches, has_mark, has_row, watches};
 
 use crate::by_mark::{gather_all, list_of, put_new, set_of, take_old};
+use crate::moves::{MarkMoves, move_at_marks, move_in_set};
 use mesh_base::copied::Copied;
 use mesh_base::list::List;
 use mesh_base::memory::Memory;
@@ -56,6 +58,25 @@ impl<M: Ord + Copied> Graph<M> {
         Ok(())
     }
 
+    /// Lets the row watch some marks more, and some no more. This costs what these marks cost, however many the row watches.
+    /// After Memory the graph is spent.
+    pub fn move_marks(&mut self, row: u64, moves: MarkMoves<M>) -> Result<(), Memory>
+        ensures watched { OnOk result (Rewatches M.cmp
+            (has_after M.cmp moves (watches M.cmp self.old.rows row)) row self.old.rows
+            self.new.rows) }
+        ensures going { OnOk result (self.new.spent ≡ false) }
+        ensures spent { IsErr result → self.new.spent ≡ true }
+        ensures was_spent { self.old.spent ≡ true → IsErr result }
+    {
+        if self.spent {
+            return Err(Memory);
+        }
+        self.spent = true;
+        move_row_marks(self.alloc, &mut self.by_mark, &mut self.rows, row, moves)?;
+        self.spent = false;
+        Ok(())
+    }
+
     /// Lets the row watch nothing.
     pub fn unwatch(&mut self, row: u64)
         ensures watched { Rewatches M.cmp (λ m. false) row self.old.rows self.new.rows }
@@ -94,6 +115,26 @@ fn change_row<M: Ord + Copied>(
 {
     let old = take_marks(alloc, rows, row);
     move_row(alloc, by, &old, &marks, row)?;
+    rows.insert(row, marks)?;
+    Ok(())
+}
+
+/// Lets the row watch some marks more, and some no more.
+fn move_row_marks<M: Ord + Copied>(
+    alloc: Global,
+    by: &mut BTreeMap<M, BTreeSet<u64>>,
+    rows: &mut BTreeMap<u64, BTreeSet<M>>,
+    row: u64,
+    moves: MarkMoves<M>,
+) -> Result<(), Memory>
+    ensures watched { OnOk result (Rewatches M.cmp
+        (has_after M.cmp moves (watches M.cmp rows.old row)) row rows.old rows.new) }
+    ensures agree { Agree M.cmp by.old rows.old → OnOk result (Agree M.cmp by.new rows.new) }
+    ensures kept { AllHaveRows M.cmp by.old → OnOk result (AllHaveRows M.cmp by.new) }
+{
+    move_at_marks(alloc, by, &moves, row)?;
+    let mut marks = take_marks(alloc, rows, row);
+    move_in_set(&mut marks, moves)?;
     rows.insert(row, marks)?;
     Ok(())
 }

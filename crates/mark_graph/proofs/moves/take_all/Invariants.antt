@@ -1,0 +1,7 @@
+use Rattle.std.proofs.Common.{◌≡◌, ◌&&◌, not, nat_eq, ℕ, take}
+use Rattle.mark_graph.specs.RowMarks.{AllHaveRows, has_mark, row_at}
+use Rattle.mark_graph.proofs.moves.take_all.Given as goal
+
+-- the row stands at none of the marks so far
+abbrev pub invariant-loop-mark : goal.invariant-loop-mark
+invariant-loop-mark g l = ((m : _) (r : ℕ) → row_at g.M.Ord.cmp l.by m r ≡ (not (has_mark g.M.Ord.cmp (take l.mark-index l.marks) m && nat_eq r l.row) && row_at g.M.Ord.cmp l.initial.by m r)) × (AllHaveRows g.M.Ord.cmp l.initial.by → AllHaveRows g.M.Ord.cmp l.by)
