@@ -1,5 +1,5 @@
 -- The parts of a table stay tied when a row is put, changed or removed.
-use Rattle.std.proofs.Common.{◌≡◌, inl, inr, ℕ, ◌+◌, false, cond, nat_eq, List, Option, Some, None, refl, sym, ap, subst, ◌∙◌, arith}
+use Rattle.std.proofs.Common.{◌≡◌, inl, inr, ℕ, ◌+◌, ◌&&◌, ◌||◌, not, false, cond, nat_eq, List, Option, Some, None, refl, sym, ap, subst, ◌∙◌, arith}
 use Rattle.std.specs.BTreeMap as tree
 use Rattle.std.specs.BTreeMap.{BTreeMap}
 use Rattle.std.specs.BTreeSet.{BTreeSet}
@@ -9,12 +9,14 @@ use Rattle.std.specs.Ordering.{nat_cmp}
 use Rattle.std.specs.declared.cmp.Ordering.{Ordering}
 use Rattle.std.proofs.lemmas.Bool.Decides.{eqb_tells}
 use Rattle.view_types.specs.declared.mark.Mark.{Mark}
+use Rattle.mark_graph.specs.Moves.{has_after}
 use Rattle.mark_graph.specs.RowMarks.{Rewatches, watches}
 use Rattle.mark_rules.specs.Marks.{has_mark, mark_cmp}
 use Rattle.row_table.specs.IndexRows.{HaveSame}
+use Rattle.row_table.specs.MarksAfter.{MarksFollow}
 use Rattle.row_table.specs.TableRows.{AreTied, PutsAt, Rewatched, marks_behind, marks_of, number_in, row_at}
 use Rattle.row_table.specs.declared.row_rule.MarksAfter.{MarksAfter}
-use Rattle.row_table.specs.declared.row_rule.MarksAfter.TheVariants.{Same, Other}
+use Rattle.row_table.specs.declared.row_rule.MarksAfter.TheVariants.{Same, Moved, Other}
 use Rattle.row_table.specs.declared.table_rows.KeptRow.{KeptRow}
 use Rattle.row_table.proofs.Keys.{is_itself, tells}
 
@@ -118,8 +120,19 @@ module _ {Key Kept : Type 0} (cmp : Key → Key → Ordering) (total : IsTotalOr
       | inr apart ↦ ap (λ row. has_mark (marks_of marks_in row) mark) (put_other cmp total exact key (Some row_after) old new put k apart.1)
     ]
 
-    pub tied_followed : (marks : MarksAfter) → (marks ≡ Same → HaveSame (marks_in row_after.kept) (marks_in row.kept)) → Rewatched marks (marks_in row_after.kept) row_after.number watched after → AreTied cmp marks_in new keys after next
-    tied_followed Same same watch = subst (λ (w : BTreeMap ℕ (BTreeSet Mark)). AreTied cmp marks_in new keys w next) (sym watch) (tied_as_before old new keys watched next tied numbers_stay (marks_stay (same refl)))
+    -- the marks that the graph watches at the number before the change
+    stood : (mark : Mark) → watches mark_cmp watched row_after.number mark ≡ has_mark (marks_in row.kept) mark
+    stood mark =
+        tied.watch row_after.number mark
+        ∙ ap (λ k. has_mark (marks_behind cmp marks_in old k) mark) (tied.numbers key row_after.number (ap number_in there ∙ ap Some (sym number)))
+        ∙ ap (λ row. has_mark (marks_of marks_in row) mark) there
+
+    pub tied_followed : (marks : MarksAfter) → MarksFollow marks (marks_in row.kept) (marks_in row_after.kept) → Rewatched marks (marks_in row_after.kept) row_after.number watched after → AreTied cmp marks_in new keys after next
+    tied_followed Same same watch = subst (λ (w : BTreeMap ℕ (BTreeSet Mark)). AreTied cmp marks_in new keys w next) (sym watch) (tied_as_before old new keys watched next tied numbers_stay (marks_stay same))
+    tied_followed (Moved moves) moved watch = tied_rewatched old new keys watched next tied numbers_stay key row_after.number after (ap number_in there ∙ ap Some (sym number)) (put_other cmp total exact key (Some row_after) old new put)
+        (subst (λ (row : Option (KeptRow Kept)). Rewatches mark_cmp (has_mark (marks_of marks_in row)) row_after.number watched after) (sym at_new)
+        (λ i mark. watch i mark ∙ ap (λ b. cond (nat_eq i row_after.number) b (watches mark_cmp watched i mark))
+        (ap (λ b. has_mark moves.come mark || (not (has_mark moves.gone mark) && b)) (stood mark) ∙ sym (moved mark))))
     tied_followed Other same watch = tied_rewatched old new keys watched next tied numbers_stay key row_after.number after (ap number_in there ∙ ap Some (sym number)) (put_other cmp total exact key (Some row_after) old new put)
         (subst (λ (row : Option (KeptRow Kept)). Rewatches mark_cmp (has_mark (marks_of marks_in row)) row_after.number watched after) (sym at_new) watch)
 

@@ -1,3 +1,4 @@
 pub mod IndexRows
+pub mod MarksAfter
 pub mod RowLaws
 pub mod TableRows

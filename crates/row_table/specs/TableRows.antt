@@ -7,11 +7,12 @@ use Rattle.std.specs.Ordering.{eq_by_cmp, nat_cmp}
 use Rattle.std.specs.declared.cmp.Ordering.{Ordering}
 use Rattle.view_types.specs.Objects.{ObjectMap}
 use Rattle.view_types.specs.declared.mark.Mark.{Mark}
+use Rattle.mark_graph.specs.Moves.{has_after}
 use Rattle.mark_graph.specs.RowMarks.{Rewatches, has_row, watches}
 use Rattle.mark_rules.specs.Changes.{Leads}
 use Rattle.mark_rules.specs.Marks.{has_mark, mark_cmp}
 use Rattle.row_table.specs.declared.row_rule.MarksAfter.{MarksAfter}
-use Rattle.row_table.specs.declared.row_rule.MarksAfter.TheVariants.{Same, Other}
+use Rattle.row_table.specs.declared.row_rule.MarksAfter.TheVariants.{Same, Moved, Other}
 use Rattle.row_table.specs.declared.table_rows.KeptRow.{KeptRow}
 
 -- the number of a row, if there is one, is among these
@@ -22,6 +23,7 @@ is_among numbers (Some n) = has_row n numbers
 -- the number watches these marks, if they may be others than it watched before
 abbrev pub Rewatched : MarksAfter → List Mark → ℕ → BTreeMap ℕ (BTreeSet Mark) → BTreeMap ℕ (BTreeSet Mark) → Type 0
 Rewatched Same marks n old new = new ≡ old
+Rewatched (Moved moves) marks n old new = Rewatches mark_cmp (has_after mark_cmp moves (watches mark_cmp old n)) n old new
 Rewatched Other marks n old new = Rewatches mark_cmp (has_mark marks) n old new
 
 module _ {Kept : Type 0} where

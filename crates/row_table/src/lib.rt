@@ -1,5 +1,5 @@
 //! Rows kept by their keys, each equal to its filter over the objects held while it has users, and brought up to a change by
-//! the marks that it reads. No command uses it yet.
+//! the marks that it reads.
 //!
 //! Stands on mark_rules for marks and for changes that lead from one map of objects to another, on object_store for the store
 //! and its changes, and on mark_graph. The contract of the trait `RowIndex`, which `RowTable` implements for any `RowRule`,

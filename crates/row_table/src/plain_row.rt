@@ -108,8 +108,8 @@ impl<F: RowFinder> RowRule for FindAnew<F> {
         &kept.row
     }
 
-    fn marks(kept: &PlainRow<F::Row>) -> &[Mark] {
-        kept.marks.as_slice()
+    fn marks(alloc: Global, kept: &PlainRow<F::Row>) -> Result<List<Mark>, Memory> {
+        kept.marks.copy(alloc)
     }
 
     ghost shows = { λ rule held key kept stands. stands };

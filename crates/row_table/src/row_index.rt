@@ -88,8 +88,8 @@ pub trait RowIndex {
         ensures { option_copied result ≡ row_at self.now key.now };
 
     /// The marks that the row of a key reads, if it has users. Each may stand more than once.
-    fn marks(&self, key: &Self::Key) -> &[Mark]
-        ensures { result.now ≡ marks_at self.now key.now };
+    fn marks(&self, key: &Self::Key) -> Result<List<Mark>, Memory>
+        ensures { IfOk result (λ marks. marks ≡ marks_at self.now key.now) };
 
     /// An index that stands for the objects held has for each key with users its row and its marks, and for no other.
     ghost current: { (index : Self) (held : ObjectMap) → stands index held → (key : Self.Key)

@@ -6,10 +6,12 @@ ghost use Rattle.view_types.specs.declared.mark.Mark.{Mark};
 ghost use Rattle.mark_rules.specs.Changes.{Leads};
 ghost use Rattle.mark_rules.specs.Reads.{cost};
 ghost use Rattle.object_store.specs.declared.change.Change.{Change};
-ghost use Rattle.row_table.specs.IndexRows.{Filter, HaveSame, KeptShows, KeptStays};
-ghost use Rattle.row_table.specs.declared.row_rule.MarksAfter.TheVariants.{Same};
+ghost use Rattle.row_table.specs.IndexRows.{Filter, KeptShows, KeptStays};
+ghost use Rattle.row_table.specs.MarksAfter.{MarksFollow};
 
+use mark_graph::moves::MarkMoves;
 use mesh_base::copied::Copied;
+use mesh_base::list::List;
 use mesh_base::memory::Memory;
 use mesh_base::steps::Steps;
 use object_store::change::Change;
@@ -26,10 +28,12 @@ pub struct StoreChange<'a> {
 }
 
 /// The marks that a row reads after a change.
-#[derive(Clone, Copy, Debug, PartialEq, Eq)]
+#[derive(Drop)]
 pub enum MarksAfter {
     /// Those that it read before.
     Same,
+    /// Those that it read before, but for these.
+    Moved(MarkMoves<Mark>),
     /// They may be others.
     Other,
 }
@@ -99,8 +103,8 @@ pub trait RowRule: Drop {
         ensures tells { OnOk result ((held : ObjectMap) → keeps self.now held key.now kept.old
             → Leads after.now.change.now.marks held after.now.store.now.objects
             → tells kept.old kept.new) }
-        ensures marks { IfOk result (λ marks. marks ≡ Same
-            → HaveSame (marks_in kept.new) (marks_in kept.old)) }
+        ensures marks { IfOk result (λ marks.
+            MarksFollow marks (marks_in kept.old) (marks_in kept.new)) }
         ensures notes { OnOk result
             (notes_hold self.now after.now.store.now.objects after.now.change.now notes.new) }
         ensures steps { steps.new ≤ steps.old + cost after.now.store.now.objects
@@ -109,8 +113,9 @@ pub trait RowRule: Drop {
     fn row(kept: &Self::Kept) -> &Self::Row
         ensures { result.now ≡ row_in kept.now };
 
-    fn marks(kept: &Self::Kept) -> &[Mark]
-        ensures { result.now ≡ marks_in kept.now };
+    /// Makes a list of the marks. This is asked for only where no move of marks is told.
+    fn marks(alloc: Global, kept: &Self::Kept) -> Result<List<Mark>, Memory>
+        ensures { IfOk result (λ marks. marks ≡ marks_in kept.now) };
 
     /// What is kept gives the row and its marks.
     ghost shows: { (rule : Self) → KeptShows (filter rule) (keeps rule) row_in marks_in };

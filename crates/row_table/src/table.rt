@@ -147,10 +147,10 @@ impl<F: RowRule> RowIndex for RowTable<F> {
         Some(F::row(self.kept(key)?))
     }
 
-    fn marks(&self, key: &F::Key) -> &[Mark] {
+    fn marks(&self, key: &F::Key) -> Result<List<Mark>, Memory> {
         match self.kept(key) {
-            Some(kept) => F::marks(kept),
-            None => &[],
+            Some(kept) => F::marks(self.alloc, kept),
+            None => Ok(List::new(self.alloc)),
         }
     }
 

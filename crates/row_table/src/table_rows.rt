@@ -9,7 +9,7 @@ ghost use Rattle.row_table.specs.IndexRows.{AreMet, OneMore, has_key};
 ghost use Rattle.row_table.specs.TableRows.{AllStand, AreTied, Follow, PutsAt, Rewatched, TakesOne, TakesUser, marks_of, number_in, one_less, one_more, row_at, users_in};
 
 use crate::row_rule::{MarksAfter, RowRule, StoreChange};
-use crate::watching::{due, new_graph, unwatch, watch};
+use crate::watching::{due, move_marks, new_graph, unwatch, watch};
 use mark_graph::graph::Graph;
 use mesh_base::copied::Copied;
 use mesh_base::list::List;
@@ -128,7 +128,8 @@ impl<F: RowRule> TableRows<F> {
     {
         let number = self.next;
         self.next = number_after(number)?;
-        watch(self.alloc, &mut self.graph, number, F::marks(&kept))?;
+        let marks = F::marks(self.alloc, &kept)?;
+        watch(&mut self.graph, number, marks)?;
         self.keys.insert(number, key.copy(self.alloc)?)?;
         self.rows.insert(
             key,
@@ -283,7 +284,8 @@ fn rewatch<F: RowRule>(
 {
     match marks {
         MarksAfter::Same => Ok(()),
-        MarksAfter::Other => watch(alloc, graph, row.number, F::marks(&row.kept)),
+        MarksAfter::Moved(moves) => move_marks(graph, row.number, moves),
+        MarksAfter::Other => watch(graph, row.number, F::marks(alloc, &row.kept)?),
     }
 }
 

@@ -4,11 +4,12 @@ ghost use Rattle.std.specs.List.{list_any};
 ghost use Rattle.std.specs.List.Sorted.{IsStrictlySortedBy};
 ghost use Rattle.std.specs.Ordering.{nat_cmp};
 ghost use Rattle.view_types.specs.declared.mark.Mark.{Mark as TheMark};
+ghost use Rattle.mark_graph.specs.Moves.{has_after};
 ghost use Rattle.mark_graph.specs.RowMarks.{Rewatches, has_row, watches};
 ghost use Rattle.mark_rules.specs.Marks.{has_mark, mark_cmp};
 
 use mark_graph::graph::Graph;
-use mesh_base::copied::Copied;
+use mark_graph::moves::MarkMoves;
 use mesh_base::list::List;
 use mesh_base::memory::Memory;
 use std::alloc::Global;
@@ -23,17 +24,26 @@ pub fn new_graph(alloc: Global) -> Graph<Mark>
 }
 
 /// Lets the number watch these marks, and no others.
-pub fn watch(
-    alloc: Global,
-    graph: &mut Graph<Mark>,
-    number: u64,
-    marks: &[Mark],
-) -> Result<(), Memory>
+pub fn watch(graph: &mut Graph<Mark>, number: u64, marks: List<Mark>) -> Result<(), Memory>
     ensures watched { OnOk result
-        (Rewatches mark_cmp (has_mark marks.now) number graph.old.rows graph.new.rows) }
+        (Rewatches mark_cmp (has_mark marks) number graph.old.rows graph.new.rows) }
     ensures going { OnOk result (graph.new.spent ≡ false) }
 {
-    graph.watch(number, copy_marks(alloc, marks)?)
+    graph.watch(number, marks)
+}
+
+/// Lets the number watch some marks more, and some no more.
+pub fn move_marks(
+    graph: &mut Graph<Mark>,
+    number: u64,
+    moves: MarkMoves<Mark>,
+) -> Result<(), Memory>
+    ensures watched { OnOk result (Rewatches mark_cmp
+        (has_after mark_cmp moves (watches mark_cmp graph.old.rows number)) number graph.old.rows
+        graph.new.rows) }
+    ensures going { OnOk result (graph.new.spent ≡ false) }
+{
+    graph.move_marks(number, moves)
 }
 
 /// Lets the number watch nothing.
@@ -51,14 +61,4 @@ pub fn due(graph: &Graph<Mark>, marks: &[Mark]) -> Result<List<u64>, Memory>
     ensures in_order { IfOk result (λ numbers. IsStrictlySortedBy nat_cmp numbers) }
 {
     graph.due(marks)
-}
-
-fn copy_marks(alloc: Global, marks: &[Mark]) -> Result<List<Mark>, Memory>
-    ensures { IfOk result (λ copy. copy ≡ marks.now) }
-{
-    let mut copy = List::new(alloc);
-    for mark in marks {
-        copy.add(mark.copy(alloc)?)?;
-    }
-    Ok(copy)
 }

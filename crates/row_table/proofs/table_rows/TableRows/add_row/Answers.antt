@@ -22,7 +22,7 @@ returns-clause-tied g c =
     let row : KeptRow g.row.F-Kept.Denot = record { number = self.next; users = 1; kept = c.args.kept } in
     let here : tree.get nat_cmp c.insert.new.self self.next ≡ Some c.args.key = c.in_ok-insert.ensures.updates.1 ∙ ap Some c.in_ok-copy.ensures in
     let watched : Rewatches mark_cmp (has_mark (marks_in c.args.kept)) self.next self.graph.rows c.watch.new.graph.rows =
-    subst (λ (marks : List Mark). Rewatches mark_cmp (has_mark marks) self.next self.graph.rows c.watch.new.graph.rows) c.marks.ensures c.in_ok-watch.ensures.watched in
+    subst (λ (marks : List Mark). Rewatches mark_cmp (has_mark marks) self.next self.graph.rows c.watch.new.graph.rows) c.in_ok-marks.ensures c.in_ok-watch.ensures.watched in
     subst (λ (next : ℕ). AreTied cmp marks_in c.insert-2.new.self c.insert.new.self c.watch.new.graph.rows next) (sym c.in_ok-self.ensures)
     (tied_more cmp total exact marks_in self.rows c.insert-2.new.self self.keys c.insert.new.self self.graph.rows c.watch.new.graph.rows self.next self.next c.args.key c.requires.tied
     (λ i ne. c.in_ok-insert.ensures.updates.2 i (is_other nat_cmp nat_cmp_total nat_cmp-IsAntisymmetric self.next i (λ e. ne (sym e))))

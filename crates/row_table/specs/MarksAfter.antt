@@ -1,0 +1,14 @@
+-- What is told of the marks that a row reads after a change.
+use Rattle.std.specs.Prelude.{◌≡◌, List}
+use Rattle.view_types.specs.declared.mark.Mark.{Mark}
+use Rattle.mark_graph.specs.Moves.{has_after}
+use Rattle.mark_rules.specs.Marks.{has_mark, mark_cmp}
+use Rattle.row_table.specs.IndexRows.{HaveSame}
+use Rattle.row_table.specs.declared.row_rule.MarksAfter.{MarksAfter}
+use Rattle.row_table.specs.declared.row_rule.MarksAfter.TheVariants.{Same, Moved, Other}
+
+-- it is right of the marks before and after
+abbrev pub MarksFollow : MarksAfter → List Mark → List Mark → Type 0
+MarksFollow Same old new = HaveSame new old
+MarksFollow (Moved moves) old new = (mark : Mark) → has_mark new mark ≡ has_after mark_cmp moves (has_mark old) mark
+MarksFollow Other old new = Unit {0}
