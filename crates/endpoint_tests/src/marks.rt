@@ -1,4 +1,5 @@
 use crate::names::{key, slice, split};
+use mark_graph::moves::MarkMoves;
 use mesh_base::key::Kind;
 use mesh_base::list::List;
 use mesh_base::memory::Memory;
@@ -8,11 +9,13 @@ use std::test::Fail;
 use view_types::mark::Mark;
 
 // A slice, the Pods that it is put with, none if it is taken, and then the slices at each of three
-// Pods.
-const ROWS: &str = "b x x => x:b y: z:
+// Pods. A Pod that the slice named or names now has a - if no slice names it then, and else a +.
+const ROWS: &str = "b x x => x:b+ y: z:
+a y x => x:ab+ y:a+ z:
 a y x => x:ab y:a z:
-a z => x:b y: z:a
-b => x: y: z:a";
+a z => x:b+ y:- z:a+
+b => x:- y: z:a
+c => x: y: z:a";
 
 fn pod(alloc: Global, name: &str) -> Result<Mark, Memory> {
     Ok(Mark::Obj(key(alloc, Kind::Pod, name)?))
@@ -26,14 +29,22 @@ fn pods(alloc: Global, names: &str) -> Result<List<Mark>, Memory> {
     Ok(marks)
 }
 
-fn step(alloc: Global, read: &mut SliceMarks, step: &str) -> Result<(), Memory> {
-    match step.split_once(' ') {
-        Some((name, names)) => read.put(slice(alloc, name)?, pods(alloc, names)?),
-        None => {
-            read.take(&slice(alloc, step)?);
-            Ok(())
-        }
+fn step(alloc: Global, read: &mut SliceMarks, step: &str) -> Result<MarkMoves<Mark>, Memory> {
+    let moved = match step.split_once(' ') {
+        Some((name, names)) => read.put(slice(alloc, name)?, pods(alloc, names)?)?,
+        None => read.take(&slice(alloc, step)?),
+    };
+    read.moves(alloc, moved)
+}
+
+fn sign(mark: &Mark, moves: &MarkMoves<Mark>) -> &'static str {
+    if moves.come.as_slice().contains(mark) {
+        return "+";
     }
+    if moves.gone.as_slice().contains(mark) {
+        return "-";
+    }
+    ""
 }
 
 fn push_slices(all: &mut String, read: &SliceMarks, mark: &Mark) -> Result<(), AllocError> {
@@ -43,11 +54,13 @@ fn push_slices(all: &mut String, read: &SliceMarks, mark: &Mark) -> Result<(), A
     Ok(())
 }
 
-fn found(alloc: Global, read: &SliceMarks) -> Result<String, Fail> {
+fn found(alloc: Global, read: &SliceMarks, moves: &MarkMoves<Mark>) -> Result<String, Fail> {
     let mut all = String::new(alloc);
     for (before, name) in [("x:", "x"), (" y:", "y"), (" z:", "z")] {
         all.push_str(before)?;
-        push_slices(&mut all, read, &pod(alloc, name)?)?;
+        let mark = pod(alloc, name)?;
+        push_slices(&mut all, read, &mark)?;
+        all.push_str(sign(&mark, moves))?;
     }
     Ok(all)
 }
@@ -58,8 +71,8 @@ fn slices_are_found_by_their_pods(rt: HostRuntime) -> Result<(), Fail> {
     let mut read = SliceMarks::new(alloc);
     for row in ROWS.lines() {
         let (words, expected) = split(row)?;
-        step(alloc, &mut read, words)?;
-        assert_eq!(rt; found(alloc, &read)?.as_str(), expected, "at {row}");
+        let moves = step(alloc, &mut read, words)?;
+        assert_eq!(rt; found(alloc, &read, &moves)?.as_str(), expected, "at {row}");
     }
     Ok(())
 }

@@ -2,7 +2,7 @@
 use Rattle.std.proofs.Common.{◌≡◌, Bool, true, false, cond, not, ◌&&◌, ◌||◌, List, [], refl, sym, ap, ◌∙◌}
 use Rattle.std.specs.Map.{lookup}
 use Rattle.std.specs.Ordering.{is_eq}
-use Rattle.endpoint_rows.proofs.KeysAt.{put_keys, taken_keys}
+use Rattle.endpoint_rows.proofs.KeysAt.{one_key, put_keys, taken_keys}
 use Rattle.key_lists.specs.Keys.{has_key, is_key, key_at, listed}
 use Rattle.mark_rules.specs.Marks.{has_mark, mark_cmp}
 use Rattle.mesh_base.specs.KeyOrder.{key_cmp}
@@ -15,6 +15,14 @@ use Rattle.slice_marks.specs.declared.slices.SliceMarks.{SliceMarks}
 pub put_twice : (b : Bool) (marks old : List Mark) → cond b marks (cond b [] old) ≡ cond b marks old
 put_twice true marks old = refl
 put_twice false marks old = refl
+
+-- what is put is what there was
+pub put_same : {A : Type 0} (old : ObjKey → A) (key k : ObjKey) (given : A) → given ≡ old key → old k ≡ cond (is_key k key) given (old k)
+put_same old key k given same =
+    elim (is_key k key) as (λ b. is_key k key ≡ b → old k ≡ cond b given (old k)) [
+      | true ↦ λ t. ap old (one_key k key t) ∙ sym same
+      | false ↦ λ t. refl
+    ] refl
 
 pub none_agree : (s : SliceMarks) → s.by_slice.entries ≡ [] → s.by_mark.entries ≡ [] → Agree s
 none_agree s no_slice no_mark = record {

@@ -1,8 +1,8 @@
 -- Slices by the marks that their rows read.
-use Rattle.std.specs.Prelude.{◌≡◌, List, [], Option, Some, None}
+use Rattle.std.specs.Prelude.{◌≡◌, Bool, true, false, List, [], ◌∷◌, Option, Some, None, filter}
 use Rattle.std.specs.BTreeMap as tree
 use Rattle.std.specs.BTreeMap.{BTreeMap}
-use Rattle.key_lists.specs.Keys.{key_at}
+use Rattle.key_lists.specs.Keys.{key_at, keys_at}
 use Rattle.mark_rules.specs.Marks.{has_mark, mark_cmp}
 use Rattle.mesh_base.specs.KeyOrder.{key_cmp}
 use Rattle.mesh_base.specs.declared.key.ObjKey.{ObjKey}
@@ -26,3 +26,21 @@ marks_at by key = marks_given (tree.get key_cmp by key)
 -- at each mark stand the keys of the slices that read it
 pub record Agree (s : SliceMarks) : Type 0 where
   pub keys : (mark : Mark) (key : ObjKey) → key_at mark_cmp s.by_mark mark key ≡ has_mark (marks_at s.by_slice key) mark
+
+-- ---- which marks are read
+
+abbrev pub has_any : List ObjKey → Bool
+has_any [] = false
+has_any (k ∷ keys) = true
+
+-- a slice reads the mark
+abbrev pub is_read : KeysByMark → Mark → Bool
+is_read by mark = has_any (keys_at mark_cmp by mark)
+
+-- the marks that slices read
+abbrev pub marks_read : KeysByMark → List Mark
+marks_read by = filter (is_read by) (tree.keys by)
+
+-- each mark but these is read where it was
+abbrev pub OthersStay : List Mark → KeysByMark → KeysByMark → Type 0
+OthersStay marks old new = (mark : Mark) → has_mark marks mark ≡ false → is_read new mark ≡ is_read old mark

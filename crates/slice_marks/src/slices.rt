@@ -1,16 +1,20 @@
 //! The marks of slices by their keys, and the slices by those marks.
-ghost use Rattle.std.specs.Prelude.{◌≡◌, [], OnOk, if◌then◌else◌};
+ghost use Rattle.std.specs.Prelude.{◌≡◌, ◌++◌, [], IfOk, OnOk, true, not, filter, if◌then◌else◌};
+ghost use Rattle.std.specs.BTreeMap.{btree_map_len};
 ghost use Rattle.mesh_base.specs.declared.key.ObjKey.{ObjKey};
 ghost use Rattle.key_lists.specs.Keys.{Rises, is_key, keys_at};
 ghost use Rattle.mark_rules.specs.Marks.{mark_cmp};
-ghost use Rattle.slice_marks.specs.Marked.{Agree, marks_at};
+ghost use Rattle.slice_marks.specs.Marked.{Agree, OthersStay, is_read, marks_at, marks_read};
 
 use crate::keys::{keys_at, put_keys, take_keys};
 use key_lists::key_list::KeyList;
+use mark_graph::moves::MarkMoves;
+use mesh_base::copied::Copied;
 use mesh_base::key::ObjKey;
 use mesh_base::list::List;
 use mesh_base::memory::Memory;
 use std::alloc::Global;
+use std::cmp::Ordering;
 use std::collections::BTreeMap;
 use view_types::mark::Mark;
 
@@ -53,15 +57,63 @@ impl SliceMarks {
         }
     }
 
-    /// Lets the slice read these marks, and no others.
-    pub fn put(&mut self, key: ObjKey, marks: List<Mark>) -> Result<(), Memory>
+    /// Whether a slice reads the mark.
+    pub fn is_read(&self, mark: &Mark) -> bool
+        ensures { result ≡ is_read self.now.by_mark mark.now }
+    {
+        match self.at(mark).first() {
+            Some(_) => true,
+            None => false,
+        }
+    }
+
+    /// How many marks slices read.
+    pub fn count(&self) -> usize
+        ensures { result ≡ btree_map_len self.now.by_mark }
+    {
+        self.by_mark.len()
+    }
+
+    /// The marks that slices read, in order.
+    pub fn all(&self, alloc: Global) -> Result<List<Mark>, Memory>
+        ensures { IfOk result (λ marks. marks ≡ marks_read self.now.by_mark) }
+    {
+        let mut marks = List::new(alloc);
+        for mark in self.by_mark.keys() {
+            if self.is_read(mark) {
+                marks.add(mark.copy(alloc)?)?;
+            }
+        }
+        Ok(marks)
+    }
+
+    /// Lets the slice read these marks, and no others. Gives the marks that it read or reads now, or none if these are the same.
+    pub fn put(&mut self, key: ObjKey, marks: List<Mark>) -> Result<List<Mark>, Memory>
         ensures agree { Agree self.old → OnOk result (Agree self.new) }
         ensures put { OnOk result ((k : ObjKey)
             → marks_at self.new.by_slice k
             ≡ (if is_key k key then marks else marks_at self.old.by_slice k)) }
+        ensures moved { IfOk result (λ moved.
+            OthersStay moved self.old.by_mark self.new.by_mark) }
     {
-        self.take(&key);
-        self.put_new(key, marks)
+        if are_same(marks.as_slice(), self.of(&key)) {
+            return Ok(List::new(self.alloc));
+        }
+        self.replace(key, marks)
+    }
+
+    fn replace(&mut self, key: ObjKey, marks: List<Mark>) -> Result<List<Mark>, Memory>
+        ensures agree { Agree self.old → OnOk result (Agree self.new) }
+        ensures put { OnOk result ((k : ObjKey)
+            → marks_at self.new.by_slice k
+            ≡ (if is_key k key then marks else marks_at self.old.by_slice k)) }
+        ensures moved { IfOk result (λ moved.
+            OthersStay moved self.old.by_mark self.new.by_mark) }
+    {
+        let mut moved = self.take(&key);
+        add_copies(self.alloc, &mut moved, marks.as_slice())?;
+        self.put_new(key, marks)?;
+        Ok(moved)
     }
 
     fn put_new(&mut self, key: ObjKey, marks: List<Mark>) -> Result<(), Memory>
@@ -70,21 +122,63 @@ impl SliceMarks {
         ensures put { OnOk result ((k : ObjKey)
             → marks_at self.new.by_slice k
             ≡ (if is_key k key then marks else marks_at self.old.by_slice k)) }
+        ensures others { OnOk result (OthersStay marks self.old.by_mark self.new.by_mark) }
     {
         put_keys(self.alloc, &mut self.by_mark, marks.as_slice(), &key)?;
         put_marks(&mut self.by_slice, key, marks)
     }
 
-    /// Lets the slice read nothing.
-    pub fn take(&mut self, key: &ObjKey)
+    /// Lets the slice read nothing, and gives the marks that it read.
+    pub fn take(&mut self, key: &ObjKey) -> List<Mark>
         ensures agree { Agree self.old → Agree self.new }
         ensures taken { (k : ObjKey)
             → marks_at self.new.by_slice k
             ≡ (if is_key k key.now then [] else marks_at self.old.by_slice k) }
+        ensures moved { OthersStay result self.old.by_mark self.new.by_mark }
     {
         let marks = take_marks(self.alloc, &mut self.by_slice, key);
         take_keys(&mut self.by_mark, marks.as_slice(), key);
+        marks
     }
+
+    /// Tells of each of these marks whether a slice reads it now. One that a slice reads no more may be read by another.
+    pub fn moves(&self, alloc: Global, marks: List<Mark>) -> Result<MarkMoves<Mark>, Memory>
+        ensures gone { IfOk result (λ moves. moves.gone
+            ≡ filter (λ mark. not (is_read self.now.by_mark mark)) marks) }
+        ensures come { IfOk result (λ moves. moves.come
+            ≡ filter (is_read self.now.by_mark) marks) }
+    {
+        let mut gone = List::new(alloc);
+        let mut come = List::new(alloc);
+        for mark in marks.into_vec() {
+            if self.is_read(&mark) {
+                come.add(mark)?;
+            } else {
+                gone.add(mark)?;
+            }
+        }
+        Ok(MarkMoves { gone, come })
+    }
+}
+
+/// Whether the marks are those that there were.
+fn are_same(marks: &[Mark], before: &[Mark]) -> bool
+    ensures { result ≡ true → marks.now ≡ before.now }
+{
+    match marks.cmp(before) {
+        Ordering::Equal => true,
+        _ => false,
+    }
+}
+
+/// Adds copies of marks to a list.
+pub fn add_copies(alloc: Global, marks: &mut List<Mark>, others: &[Mark]) -> Result<(), Memory>
+    ensures { OnOk result (marks.new ≡ marks.old ++ others.now) }
+{
+    for mark in others {
+        marks.add(mark.copy(alloc)?)?;
+    }
+    Ok(())
 }
 
 fn put_marks(

@@ -1,0 +1,118 @@
+-- Which marks slices read.
+use Rattle.std.proofs.Common.{◌≡◌, Bool, true, false, cond, not, ◌&&◌, ◌||◌, List, [], ◌∷◌, ◌++◌, map, Option, Some, None, refl, sym, ap, ◌∙◌}
+use Rattle.std.proofs.lemmas.List.Folds.{list_any-append}
+use Rattle.std.specs.BTreeMap as tree
+use Rattle.std.specs.Cmp.{Equal-is}
+use Rattle.std.specs.List.{filter, slice_get}
+use Rattle.std.specs.Map.{keys_of, lookup}
+use Rattle.std.specs.Option.{is_some}
+use Rattle.std.specs.Ordering.{is_eq}
+use Rattle.key_lists.specs.Keys.{has_key, is_key, key_at, keys_at, listed}
+use Rattle.mark_graph.specs.Moves.{has_after}
+use Rattle.mark_graph.specs.declared.moves.MarkMoves.{MarkMoves}
+use Rattle.mark_rules.proofs.MarkOrder.{marks_exact}
+use Rattle.mark_rules.proofs.MarkTests.{neither_first, neither_second}
+use Rattle.mark_rules.specs.Marks.{has_mark, mark_cmp, same_mark}
+use Rattle.mesh_base.specs.declared.key.ObjKey.{ObjKey}
+use Rattle.view_types.specs.declared.mark.Mark.{Mark}
+use Rattle.endpoint_rows.proofs.KeysAt.{own_key}
+use Rattle.slice_marks.specs.Marked.{KeysByMark, OthersStay, has_any, is_read, marks_read}
+
+pub one_mark : (m x : Mark) → same_mark m x ≡ true → m ≡ x
+one_mark m x e = marks_exact m x ((Equal-is (mark_cmp m x)).0 e)
+
+any_or : (b c : Bool) → b ≡ true → (b || c) ≡ true
+any_or true c e = refl
+any_or false c e = absurd (cc e)
+
+-- ---- lists that have the same keys
+
+same_any : (keys others : List ObjKey) → ((k : ObjKey) → has_key k keys ≡ has_key k others) → has_any keys ≡ has_any others
+same_any [] [] same = refl
+same_any [] (k ∷ ks) same = absurd (let no : false ≡ true = same k ∙ any_or (is_key k k) (has_key k ks) (own_key k) in cc no)
+same_any (k ∷ ks) [] same = absurd (let no : true ≡ false = sym (any_or (is_key k k) (has_key k ks) (own_key k)) ∙ same k in cc no)
+same_any (k ∷ ks) (o ∷ os) same = refl
+
+-- the first of the keys, if there is one
+pub first_any : (keys : List ObjKey) (first : Option ObjKey) → first ≡ slice_get keys 0 → is_some first ≡ has_any keys
+first_any [] first e = ap is_some e
+first_any (k ∷ ks) first e = ap is_some e
+
+module _ (old new : KeysByMark) (key : ObjKey) (marks : List Mark) where
+  left_alone : (a c d : Bool) → a ≡ false → (not (a && c) && d) ≡ d
+  left_alone true c d e = absurd (cc e)
+  left_alone false c d e = refl
+
+  none_put : (a c d : Bool) → a ≡ false → ((a && c) || d) ≡ d
+  none_put true c d e = absurd (cc e)
+  none_put false c d e = refl
+
+  pub others_taken : ((m : Mark) (k : ObjKey) → key_at mark_cmp new m k ≡ (not (has_mark marks m && is_key k key) && key_at mark_cmp old m k)) → OthersStay marks old new
+  others_taken taken m lacks = same_any (keys_at mark_cmp new m) (keys_at mark_cmp old m) (λ k. taken m k ∙ left_alone (has_mark marks m) (is_key k key) (key_at mark_cmp old m k) lacks)
+
+  pub others_put : ((m : Mark) (k : ObjKey) → key_at mark_cmp new m k ≡ ((has_mark marks m && is_key k key) || key_at mark_cmp old m k)) → OthersStay marks old new
+  others_put put m lacks = same_any (keys_at mark_cmp new m) (keys_at mark_cmp old m) (λ k. put m k ∙ none_put (has_mark marks m) (is_key k key) (key_at mark_cmp old m k) lacks)
+
+-- first some move, then others
+pub others_then : (marks more : List Mark) (old middle new : KeysByMark) → OthersStay marks old middle → OthersStay more middle new → OthersStay (marks ++ more) old new
+others_then marks more old middle new first second m lacks =
+    let neither = sym (list_any-append (same_mark m) marks more) ∙ lacks in
+    second m (neither_second _ _ neither) ∙ first m (neither_first _ _ neither)
+
+-- ---- marks that pass
+
+module _ (p : Mark → Bool) where
+  passing : (m x : Mark) (rest : List Mark) → has_mark rest m ≡ has_mark rest m → (a b : Bool) → same_mark m x ≡ a → p x ≡ b → (kept all : Bool) → kept ≡ (all && p m)
+      → cond b (a || kept) kept ≡ ((a || all) && p m)
+  passing m x rest _ true true same passes kept all is = sym (ap p (one_mark m x same) ∙ passes)
+  passing m x rest _ true false same passes kept all is = is ∙ (λ i. all && no i) ∙ none all ∙ sym no
+    where
+      no : p m ≡ false
+      no = ap p (one_mark m x same) ∙ passes
+
+      none : (b : Bool) → (b && false) ≡ false
+      none true = refl
+      none false = refl
+  passing m x rest _ false true same passes kept all is = is
+  passing m x rest _ false false same passes kept all is = is
+
+  has_cond : (b : Bool) (m x : Mark) (xs : List Mark) → has_mark (cond b (x ∷ xs) xs) m ≡ cond b (same_mark m x || has_mark xs m) (has_mark xs m)
+  has_cond true m x xs = refl
+  has_cond false m x xs = refl
+
+  pub has_passing : (xs : List Mark) (m : Mark) → has_mark (filter p xs) m ≡ (has_mark xs m && p m)
+  has_passing [] m = refl
+  has_passing (x ∷ xs) m = has_cond (p x) m x (filter p xs) ∙ passing m x xs refl (same_mark m x) (p x) refl refl (has_mark (filter p xs) m) (has_mark xs m) (has_passing xs m)
+
+-- ---- the marks that are read
+
+key_found : (es : List (Mark × List ObjKey)) (m : Mark) → has_any (listed (lookup (λ j. is_eq (mark_cmp m j)) es)) ≡ true → has_mark (keys_of es) m ≡ true
+key_found [] m e = e
+key_found (x ∷ es) m e =
+    elim (same_mark m x.0) as (λ b. has_any (listed (cond b (Some x.1) (lookup (λ j. is_eq (mark_cmp m j)) es))) ≡ true → (b || has_mark (keys_of es) m) ≡ true) [
+      | true ↦ λ e. refl
+      | false ↦ λ e. key_found es m e
+    ] e
+
+pub has_read : (by : KeysByMark) (m : Mark) → has_mark (marks_read by) m ≡ is_read by m
+has_read by m = has_passing (is_read by) (tree.keys by) m ∙ elim (is_read by m) as (λ b. is_read by m ≡ b → (has_mark (tree.keys by) m && b) ≡ b) [
+  | true ↦ λ e. ap (λ b. b && true) (key_found by.entries m e)
+  | false ↦ λ e. none (has_mark (tree.keys by) m)
+] refl
+  where
+    none : (b : Bool) → (b && false) ≡ false
+    none true = refl
+    none false = refl
+
+-- ---- marks that moved, each as it is read now
+
+module _ (old new : KeysByMark) (marks : List Mark) (moves : MarkMoves Mark) (stay : OthersStay marks old new) (gone : moves.gone ≡ filter (λ mark. not (is_read new mark)) marks) (come : moves.come ≡ filter (is_read new) marks) where
+  as_now : (moved before now : Bool) → (moved ≡ false → now ≡ before) → now ≡ ((moved && now) || (not (moved && not now) && before))
+  as_now true before true stay = refl
+  as_now true before false stay = refl
+  as_now false before now stay = stay refl
+
+  pub moves_lead : (m : Mark) → is_read new m ≡ has_after mark_cmp moves (is_read old) m
+  moves_lead m =
+      as_now (has_mark marks m) (is_read old m) (is_read new m) (stay m)
+      ∙ (λ i. sym (ap (λ xs. has_mark xs m) come ∙ has_passing (is_read new) marks m) i || (not (sym (ap (λ xs. has_mark xs m) gone ∙ has_passing (λ mark. not (is_read new mark)) marks m) i) && is_read old m))
