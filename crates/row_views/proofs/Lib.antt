@@ -1,0 +1,3 @@
+mod Ids
+pub mod Standing
+pub mod Truncated

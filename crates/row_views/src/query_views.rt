@@ -1,0 +1,74 @@
+// The views of queries, kept for the ids of subscriptions.
+ghost use Rattle.std.specs.Prelude.{◌≡◌, ℕ, Option, None, IfOk, OnErr, OnOk};
+ghost use Rattle.view_types.specs.Objects.{ObjectMap};
+ghost use Rattle.view_types.specs.declared.config.Config.{Config};
+ghost use Rattle.view_types.specs.declared.query.Query.{Query as TheQuery};
+ghost use Rattle.view_rules.specs.Fold.{IsOrderlyIfShown};
+ghost use Rattle.mark_graph.specs.RowMarks.{has_row};
+ghost use Rattle.mark_rules.specs.Changes.{Leads};
+ghost use Rattle.row_views.specs.Ids.{Keeps, SetsAt};
+ghost use Rattle.row_views.specs.Queries.{reads_one, row_query, view_at};
+
+use mesh_base::list::List;
+use mesh_base::memory::Memory;
+use mesh_base::steps::Steps;
+use object_store::change::Change;
+use object_store::store::Store;
+use view_types::query::Query;
+use view_types::view::View;
+
+/// The views of queries, each for the id of a subscription. After Memory nothing is known of the views, but the queries of the ids
+/// stay.
+pub trait QueryViews: Drop {
+    /// The query that an id is open with, as far as its view depends on it.
+    ghost query_of: { Self → ℕ → Option TheQuery };
+
+    /// The views are those over these objects.
+    ghost stands: { Self → Config → ObjectMap → Type 0 };
+
+    /// Opens an id, which was open with no query, if the view of the query is kept at all.
+    fn open<L>(
+        &mut self,
+        store: &Store,
+        id: u64,
+        query: &Query,
+        steps: &mut Steps<L>,
+    ) -> Result<(), Memory>
+        requires free { query_of self.old id ≡ None }
+        ensures queries { OnOk result
+            (SetsAt id (row_query query.now) (query_of self.old) (query_of self.new)) }
+        ensures stands { OnOk result ((config : Config) → stands self.old config store.now.objects
+            → stands self.new config store.now.objects) }
+        ensures kept { OnErr result (Keeps (query_of self.old) (query_of self.new)) };
+
+    /// Closes an id, if it is open. It allocates nothing.
+    fn close(&mut self, id: u64)
+        ensures queries { SetsAt id None (query_of self.old) (query_of self.new) }
+        ensures stands { (config : Config) (held : ObjectMap)
+            → stands self.old config held → stands self.new config held };
+
+    /// Brings the views up to a change of the store. Gives the ids of those whose queries read a mark of it.
+    fn follow<L>(
+        &mut self,
+        store: &Store,
+        change: &Change,
+        steps: &mut Steps<L>,
+    ) -> Result<List<u64>, Memory>
+        ensures touched { IfOk result (λ ids. (config : Config) (held : ObjectMap)
+            → stands self.old config held → (id : ℕ)
+            → has_row id ids ≡ reads_one config held change.now.marks (query_of self.old id)) }
+        ensures stands { OnOk result ((config : Config) (held : ObjectMap)
+            → stands self.old config held → Leads change.now.marks held store.now.objects
+            → stands self.new config store.now.objects) }
+        ensures queries { Keeps (query_of self.old) (query_of self.new) };
+
+    /// The view of the query that an id is open with.
+    fn view(&self, id: u64) -> Result<Option<View>, Memory>
+        ensures value { IfOk result (λ view. (config : Config) (held : ObjectMap)
+            → stands self.now config held → view ≡ view_at config held (query_of self.now id)) }
+        ensures orderly { IfOk result IsOrderlyIfShown };
+
+    /// The views stand in one way only, so that a field of a struct may say that they do.
+    ghost unique: { (views : Self) (config : Config) (held : ObjectMap)
+        → IsProp (stands views config held) };
+}

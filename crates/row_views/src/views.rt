@@ -1,0 +1,172 @@
+// The rows of the keys that ids are open with.
+ghost use Rattle.std.specs.Prelude.{◌≡◌, ◌≤◌, ◌+◌, ℕ, None, Some, IfOk, OnErr, OnOk, if◌then◌else◌, nat_lt, option_map};
+ghost use Rattle.std.specs.List.{list_any};
+ghost use Rattle.std.specs.Option.{option_copied};
+ghost use Rattle.view_types.specs.Objects.{ObjectMap};
+ghost use Rattle.mark_graph.specs.RowMarks.{has_row, row_at};
+ghost use Rattle.mark_rules.specs.Changes.{Leads};
+ghost use Rattle.mark_rules.specs.Reads.{cost};
+ghost use Rattle.row_views.specs.Ids.{Keeps, OneMoreUnless, SetsAt, has_ids, key_at};
+ghost use Rattle.row_views.specs.Standing.{FollowCost, Standing, is_met};
+
+use mark_graph::by_mark::{gather_all, list_of, put_one, take_one};
+use mesh_base::copied::Copied;
+use mesh_base::list::List;
+use mesh_base::memory::Memory;
+use mesh_base::steps::Steps;
+use object_store::change::Change;
+use object_store::store::Store;
+use row_table::row_index::RowIndex;
+use std::alloc::Global;
+use std::collections::{BTreeMap, BTreeSet};
+
+/// The rows of an index that ids are open with, each kept once for all ids of its key. After Memory nothing is known of the rows,
+/// but the keys of the ids stay.
+#[derive(Drop)]
+pub struct RowViews<I: RowIndex + Drop>
+where
+    I::Key: Copied,
+{
+    /// Each key that has ids is one user of its row.
+    index: I,
+    /// The ids of each key.
+    by_key: BTreeMap<I::Key, BTreeSet<u64>>,
+    /// The key of each id.
+    by_id: BTreeMap<u64, I::Key>,
+    alloc: Global,
+}
+
+impl<I: RowIndex + Drop> RowViews<I>
+where
+    I::Key: Copied,
+{
+    /// No id is open. The index has no users.
+    pub fn new(alloc: Global, index: I) -> RowViews<I>
+        requires { (key : I.Key) → I.users index key ≡ 0 }
+        ensures index { result.index ≡ index }
+        ensures keys { (id : ℕ) → key_at result.by_id id ≡ None }
+        ensures stands { (held : ObjectMap) → I.stands index held
+            → Standing I.Key.Ord.cmp I.users I.stands held index result.by_key result.by_id }
+    {
+        RowViews {
+            index,
+            by_key: BTreeMap::new(alloc),
+            by_id: BTreeMap::new(alloc),
+            alloc,
+        }
+    }
+
+    /// Opens an id with a key, which was open with none.
+    pub fn open<L>(
+        &mut self,
+        store: &Store,
+        id: u64,
+        key: I::Key,
+        steps: &mut Steps<L>,
+    ) -> Result<(), Memory>
+        requires free { key_at self.old.by_id id ≡ None }
+        ensures keys { OnOk result
+            (SetsAt id (Some key) (key_at self.old.by_id) (key_at self.new.by_id)) }
+        ensures stands { OnOk result (Standing I.Key.Ord.cmp I.users I.stands store.now.objects
+            self.old.index self.old.by_key self.old.by_id → Standing I.Key.Ord.cmp I.users
+            I.stands store.now.objects self.new.index self.new.by_key self.new.by_id) }
+        ensures steps { Standing I.Key.Ord.cmp I.users I.stands store.now.objects self.old.index
+            self.old.by_key self.old.by_id → steps.new ≤ steps.old
+            + (if nat_lt 0 (I.users self.old.index key) then 0 else cost store.now.objects
+            ((I.filter self.old.index).reads store.now.objects key)) }
+        ensures filter { I.filter self.new.index ≡ I.filter self.old.index }
+        ensures kept { OnErr result (Keeps (key_at self.old.by_id) (key_at self.new.by_id)) }
+    {
+        self.enter(store, &key, steps)?;
+        put_one(self.alloc, &mut self.by_key, &key, id)?;
+        self.by_id.insert(id, key)?;
+        Ok(())
+    }
+
+    // Lets the key be a user of its row, if it has no ids yet.
+    fn enter<L>(&mut self, store: &Store, key: &I::Key, steps: &mut Steps<L>) -> Result<(), Memory>
+        ensures users { OnOk result (OneMoreUnless I.Key.Ord.cmp
+            (has_ids I.Key.Ord.cmp self.old.by_key key.now) key.now (I.users self.old.index)
+            (I.users self.new.index)) }
+        ensures stands { OnOk result (I.stands self.old.index store.now.objects
+            → I.stands self.new.index store.now.objects) }
+        ensures steps { steps.new ≤ steps.old
+            + (if has_ids I.Key.Ord.cmp self.old.by_key key.now then 0 else cost store.now.objects
+            ((I.filter self.old.index).reads store.now.objects key.now)) }
+        ensures filter { I.filter self.new.index ≡ I.filter self.old.index }
+        ensures by_key { self.new.by_key ≡ self.old.by_key }
+        ensures by_id { self.new.by_id ≡ self.old.by_id }
+    {
+        if self.by_key.contains_key(key) {
+            return Ok(());
+        }
+        self.index.enter(store, key.copy(self.alloc)?, steps)
+    }
+
+    /// Closes an id, if it is open. It allocates nothing.
+    pub fn close(&mut self, id: u64)
+        ensures keys { SetsAt id None (key_at self.old.by_id) (key_at self.new.by_id) }
+        ensures stands { (held : ObjectMap) → Standing I.Key.Ord.cmp I.users I.stands held
+            self.old.index self.old.by_key self.old.by_id → Standing I.Key.Ord.cmp I.users
+            I.stands held self.new.index self.new.by_key self.new.by_id }
+        ensures filter { I.filter self.new.index ≡ I.filter self.old.index }
+    {
+        let Some(key) = self.by_id.remove(&id) else {
+            return;
+        };
+        take_one(&mut self.by_key, &key, id);
+        if !self.by_key.contains_key(&key) {
+            self.index.leave(&key);
+        }
+    }
+
+    /// Brings the rows up to a change of the store. Gives the ids, ascending, of those keys whose rows read a mark of it.
+    pub fn follow<L>(
+        &mut self,
+        store: &Store,
+        change: &Change,
+        steps: &mut Steps<L>,
+    ) -> Result<List<u64>, Memory>
+        ensures touched { IfOk result (λ ids. (held : ObjectMap) → Standing I.Key.Ord.cmp I.users
+            I.stands held self.old.index self.old.by_key self.old.by_id → (id : ℕ)
+            → has_row id ids ≡ is_met (I.filter self.old.index) held change.now.marks
+            (key_at self.old.by_id id)) }
+        ensures stands { OnOk result ((held : ObjectMap) → Standing I.Key.Ord.cmp I.users I.stands
+            held self.old.index self.old.by_key self.old.by_id
+            → Leads change.now.marks held store.now.objects → Standing I.Key.Ord.cmp I.users
+            I.stands store.now.objects self.new.index self.new.by_key self.new.by_id) }
+        ensures steps { OnOk result (FollowCost (I.filter self.old.index) I.Key.Ord.cmp
+            change.now.marks (I.marks_at self.old.index) store.now.objects steps.old steps.new) }
+        ensures filter { I.filter self.new.index ≡ I.filter self.old.index }
+        ensures keys { self.new.by_id ≡ self.old.by_id }
+    {
+        let keys = self.index.on_change(store, change, steps)?;
+        ids_at(self.alloc, &self.by_key, keys.as_slice())
+    }
+
+    /// The row of the key that an id is open with.
+    pub fn row(&self, id: u64) -> Option<&I::Row>
+        ensures { (held : ObjectMap) → Standing I.Key.Ord.cmp I.users I.stands held self.now.index
+            self.now.by_key self.now.by_id → option_copied result
+            ≡ option_map ((I.filter self.now.index).row_of held) (key_at self.now.by_id id) }
+    {
+        match self.by_id.get(&id) {
+            Some(key) => self.index.row(key),
+            None => None,
+        }
+    }
+}
+
+// The ids of these keys, ascending.
+fn ids_at<K: Ord + Copied>(
+    alloc: Global,
+    by_key: &BTreeMap<K, BTreeSet<u64>>,
+    keys: &[K],
+) -> Result<List<u64>, Memory>
+    ensures { IfOk result (λ ids. (id : ℕ)
+        → has_row id ids ≡ list_any (λ key. row_at K.cmp by_key.now key id) keys.now) }
+{
+    let mut ids = BTreeSet::new(alloc);
+    gather_all(by_key, keys, &mut ids)?;
+    list_of(alloc, ids)
+}
