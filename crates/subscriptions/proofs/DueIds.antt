@@ -1,10 +1,12 @@
 -- Ids in lists that rise.
-use Rattle.std.proofs.Common.{◌≡◌, ℕ, Bool, true, false, not, ◌&&◌, ◌||◌, nat_eq, List, [], ◌∷◌, refl, sym, ap, ◌∙◌}
+use Rattle.std.proofs.Common.{◌≡◌, ◌<◌, ℕ, Bool, true, false, not, ◌&&◌, ◌||◌, nat_eq, List, [], ◌∷◌, get_or, length, refl, sym, ap, ◌∙◌}
 use Rattle.std.proofs.lemmas.Cmp.{nat_cmp_total, on_total}
-use Rattle.std.specs.Cmp.{IsTotalOrder, unsigned_tied}
+use Rattle.std.proofs.lemmas.List.{get_or_default}
+use Rattle.std.specs.Cmp.{IsTotalOrder, nat_cmp_is, unsigned_tied}
 use Rattle.std.specs.FinMap.{IsAntisymmetric, nat_cmp-IsAntisymmetric}
 use Rattle.std.specs.List.{insert, list_any, remove}
 use Rattle.std.specs.Ordering.{eq_by_cmp, nat_cmp}
+use Rattle.std.specs.declared.cmp.Ordering.TheVariants.{Equal}
 use Rattle.mesh_base.specs.Places.{IsHit, IsGap}
 use Rattle.mesh_base.specs.declared.sub_id.SubId.{SubId}
 use Rattle.key_lists.proofs.SortedLists as sorted
@@ -45,3 +47,12 @@ module _ (ids : List SubId) (h : Rises ids) (id : SubId) (i : ℕ) where
 
   pub gap_is : IsGap (λ k. id_cmp k id) ids i → is_among id.0 ids ≡ false
   gap_is gap = among_is id.0 ids ∙ sorted.lacks ids_total ids_exact ids h id i gap
+
+-- without one of its ids a list rises still
+pub fewer_rise : (ids : List SubId) → Rises ids → (i : ℕ) → i < length ids → Rises (remove ids i)
+fewer_rise ids h i lt =
+    let id = get_or ids i (of_id 0) in
+    sorted.take_rises ids_total ids_exact ids h id i (record {
+      within = lt;
+      level = λ d. sym (nat_cmp_is (get_or ids i d).0 id.0 Equal (ap (λ (one : SubId). one.0) (get_or_default ids i d (of_id 0) lt)));
+    })

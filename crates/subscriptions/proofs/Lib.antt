@@ -3,6 +3,7 @@ pub mod AllStanding
 mod ByCmp
 mod ById
 mod DueIds
+mod Front
 pub mod Mapped
 mod Refreshed
 mod Shown

@@ -5,9 +5,9 @@ use Rattle.subscriptions.proofs.due_list.DueList.has.Goals as goal
 pub returns-in-Ok : goal.returns-in-Ok
 returns-in-Ok c =
     let hit = rw c.as_slice.ensures.value at c.in-Ok.ensures.hit in
-    rw (← c.self.view_is) (sym (hit_is _ c.self.invariant c.args.id c.in-Ok.field-0 hit))
+    sym (hit_is _ c.as_slice.ensures.rise c.args.id c.in-Ok.field-0 hit)
 
 pub returns-in-Err : goal.returns-in-Err
 returns-in-Err c =
     let gap = rw c.as_slice.ensures.value at c.in-Err.ensures.gap in
-    rw (← c.self.view_is) (sym (gap_is _ c.self.invariant c.args.id c.in-Err.field-0 gap))
+    sym (gap_is _ c.as_slice.ensures.rise c.args.id c.in-Err.field-0 gap)
