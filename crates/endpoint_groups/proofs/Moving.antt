@@ -11,7 +11,7 @@ use Rattle.pending_rows.specs.declared.rows.PendingRows.{PendingRows}
 use Rattle.pending_rows.specs.Pending.{last_view}
 use Rattle.endpoint_groups.specs.declared.group.Group.{Group}
 use Rattle.endpoint_groups.specs.Encoded.{AreEncoded}
-use Rattle.endpoint_groups.specs.Members.{Enters, EntersIf, Moves, SetsAt, current_group, encoding_at, group_at, has_told_all, is_current, last_view_of, members_at, one_if, one_less, one_more, shown_at, vacant}
+use Rattle.endpoint_groups.specs.Members.{Enters, EntersIf, Moves, SetsAt, current_group, encoding_at, group_at, has_told_all, is_current, is_untold, last_view_of, members_at, no_members, one_if, one_less, one_more, shown_at, vacant}
 use Rattle.endpoint_groups.proofs.Entering.{itself, set_apart, set_there}
 
 -- ---- two tests at once
@@ -47,26 +47,38 @@ same_number a b h = grind (arith, nat_tests, h)
 module _ {F : Type 0} where
   -- ---- one group
 
+  none_left : (g : Group F) → (no_members g).members ≡ 0
+  none_left g = elim (is_untold g) as (λ b. (cond b (record g { members = 0 }) vacant).members ≡ 0) [
+    | true ↦ refl
+    | false ↦ refl
+  ]
+
   pub fewer : (g : Group F) → 0 < g.members → (one_less g).members + 1 ≡ g.members
   fewer g some = elim (cases_Bool (nat_lt 1 g.members)) [
-    | inl t ↦ ap (λ b. (cond b (record g { members = g.members - 1 }) vacant).members + 1) t ∙ omega (arith, some)
-    | inr f ↦ ap (λ b. (cond b (record g { members = g.members - 1 }) vacant).members + 1) f ∙ grind (arith, nat_tests, some, f)
+    | inl t ↦ ap (λ b. (cond b (record g { members = g.members - 1 }) (no_members g)).members + 1) t ∙ omega (arith, some)
+    | inr f ↦ ap (λ b. (cond b (record g { members = g.members - 1 }) (no_members g)).members + 1) f ∙ ap (λ (k : ℕ). k + 1) (none_left g) ∙ grind (arith, nat_tests, some, f)
   ]
 
   pub still : (g : Group F) → 0 < (one_less g).members → ((one_less g).pending ≡ g.pending) × ((one_less g).encoding ≡ g.encoding)
-  still g some = elim (nat_lt 1 g.members) as (λ b. 0 < (cond b (record g { members = g.members - 1 }) vacant).members → ((cond b (record g { members = g.members - 1 }) vacant).pending ≡ g.pending) × ((cond b (record g { members = g.members - 1 }) vacant).encoding ≡ g.encoding)) [
+  still g some = elim (nat_lt 1 g.members) as (λ b. 0 < (cond b (record g { members = g.members - 1 }) (no_members g)).members → ((cond b (record g { members = g.members - 1 }) (no_members g)).pending ≡ g.pending) × ((cond b (record g { members = g.members - 1 }) (no_members g)).encoding ≡ g.encoding)) [
     | true ↦ λ _. (refl, refl)
-    | false ↦ λ none. absurd (omega (arith, none))
+    | false ↦ λ none. absurd (omega (arith, none, none_left g))
   ] some
 
   -- nothing is kept that was made, or it is and so is what was told
   abbrev Keeps : Group F → Group F → Type 0
   Keeps old new = (new.encoding ≡ None) ⊎ ((new.pending ≡ old.pending) × (new.encoding ≡ old.encoding))
 
-  less_keeps : (g : Group F) → Keeps g (one_less g)
-  less_keeps g = elim (nat_lt 1 g.members) as (λ b. Keeps g (cond b (record g { members = g.members - 1 }) vacant)) [
+  none_keeps : (g : Group F) → Keeps g (no_members g)
+  none_keeps g = elim (is_untold g) as (λ b. Keeps g (cond b (record g { members = 0 }) vacant)) [
     | true ↦ inr (refl, refl)
     | false ↦ inl refl
+  ]
+
+  less_keeps : (g : Group F) → Keeps g (one_less g)
+  less_keeps g = elim (nat_lt 1 g.members) as (λ b. Keeps g (cond b (record g { members = g.members - 1 }) (no_members g))) [
+    | true ↦ inr (refl, refl)
+    | false ↦ none_keeps g
   ]
 
   if_keeps : (becomes : Group F → Group F) → ((g : Group F) → Keeps g (becomes g)) → (b : Bool) (g : Group F) → Keeps g (cond b (becomes g) g)

@@ -44,9 +44,12 @@ module _ {F : Type 0} where
   abbrev pub one_more : Group F → Group F
   one_more group = record group { members = group.members + 1 }
 
-  -- with its last member a group goes
+  -- With its last member a group goes. What was made for those who were told nothing stays, for those who come later.
+  abbrev pub no_members : Group F → Group F
+  no_members group = if is_untold group then record group { members = 0 } else vacant
+
   abbrev pub one_less : Group F → Group F
-  one_less group = if nat_lt 1 group.members then record group { members = group.members - 1 } else vacant
+  one_less group = if nat_lt 1 group.members then record group { members = group.members - 1 } else no_members group
 
   -- only a group with members keeps what was made
   abbrev pub with_encoding : F → Group F → Group F

@@ -74,12 +74,15 @@ impl<F: Drop> Group<F> {
         }
     }
 
-    /// One member less. With the last one the group goes.
+    /// One member less. With the last one the group goes. What was made for those who were told nothing
+    /// stays, for those who come later.
     pub(crate) fn leave(&mut self)
         ensures { self.new ≡ one_less self.old }
     {
         if self.members > 1 {
             self.members -= 1;
+        } else if self.pending.is_none() {
+            self.members = 0;
         } else {
             *self = Group::vacant();
         }

@@ -72,7 +72,8 @@ impl<F: Drop> EndpointGroups<F> {
         Ok(0)
     }
 
-    /// One member of the group less. With its last member a group goes. It allocates nothing.
+    /// One member of the group less. With its last member a group goes; what was made for those who were
+    /// told nothing stays until the next change. It allocates nothing.
     pub fn leave(&mut self, number: u64)
         ensures left { SetsAt number one_less self.old.groups.items self.new.groups.items }
         ensures encoded { (encode : Option TheView → Option F) (now : TheView)

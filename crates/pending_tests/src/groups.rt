@@ -58,6 +58,25 @@ fn all_drained_are_one_group(rt: HostRuntime) -> Result<(), Memory> {
     Ok(())
 }
 
+// What was made for the first of those who come one after another serves the others too, until a change.
+#[test]
+fn one_after_another(rt: HostRuntime) -> Result<(), Memory> {
+    let mut groups = EndpointGroups::new(rt.alloc())?;
+    let first = groups.join()?;
+    groups.keep(first, 5);
+    let now = groups.catch_up(first, true)?;
+    let second = groups.join()?;
+    assert_eq!(rt; groups.encoding(second), Some(&5));
+    groups.leave(second);
+    let third = groups.join()?;
+    assert_eq!(rt; groups.encoding(third), Some(&5));
+    assert_eq!(rt; groups.catch_up(third, true)?, now);
+    change(rt.alloc(), &mut groups, 1, Some(10))?;
+    let last = groups.join()?;
+    assert_eq!(rt; groups.encoding(last), None);
+    Ok(())
+}
+
 // The address 1 changes before the first is drained, and the address 2 after it. Then both are drained.
 #[test]
 fn drained_at_different_times(rt: HostRuntime) -> Result<(), Memory> {
