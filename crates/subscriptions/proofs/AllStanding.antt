@@ -1,6 +1,6 @@
 -- What stands of the live subscriptions and their streams after each call.
-use Rattle.std.proofs.Common.{◌≡◌, ◌&&◌, ◌||◌, not, ℕ, Bool, true, false, cond, eqb, nat_eq, List, [], Option, Some, None, refl, sym, ap, ◌∙◌, inl, inr}
-use Rattle.std.specs.Prelude.{option_and_then, option_map}
+use Rattle.std.proofs.Common.{◌≡◌, ◌&&◌, ◌||◌, not, ℕ, Bool, true, false, cond, nat_eq, [], Option, Some, None, refl, sym, ap, ◌∙◌, inl, inr}
+use Rattle.std.specs.Prelude.{option_map}
 use Rattle.std.specs.Option.{is_some}
 use Rattle.std.proofs.lemmas.Bool.Decides.{eqb_tells}
 use Rattle.mesh_base.specs.declared.limits.Limits.{Limits}
@@ -24,6 +24,7 @@ use Rattle.subscriptions.specs.DueIds.{is_among}
 use Rattle.subscriptions.specs.Live.{IdsRise, LiveSubscription, PutsAt, endpoint_key, id_of, key_at, showing, shown_by, shown_in_place, sub_at, subs_of, with_endpoints}
 use Rattle.subscriptions.specs.Standing.{AreStreamed, OpensAt, Stands, new_sub}
 use Rattle.subscriptions.specs.declared.watchers.Watchers.{Watchers}
+use Rattle.subscriptions.proofs.Asked.{asked_in, asked_put, asked_still}
 use Rattle.subscriptions.proofs.Streamed.{drained_shown, elsewhere, key_found, opened_elsewhere, seen_at, there}
 
 abbrev Keys : Type 0
@@ -31,17 +32,6 @@ Keys = ℕ → Option EndpointKey
 
 abbrev Shown : Type 0
 Shown = ℕ → Option EndpointView
-
--- the key of the query of a subscription, if there is one
-abbrev key_in : Option LiveSubscription → Option EndpointKey
-key_in found = option_and_then endpoint_key (option_map (λ (s : LiveSubscription). s.query) found)
-
-key_put : (id : ℕ) (value : Option LiveSubscription) (old new : List LiveSubscription) → PutsAt id value old new → (n : ℕ) → key_at n new ≡ cond (nat_eq n id) (key_in value) (key_at n old)
-key_put id value old new at n = ap key_in (at n) ∙ elim (nat_eq n id) as (λ b. key_in (cond b value (sub_at n old)) ≡ cond b (key_in value) (key_at n old)) [ true ↦ refl | false ↦ refl ]
-
-same_key : (view : View) (found : Option LiveSubscription) → key_in (option_map (showing view) found) ≡ key_in found
-same_key view None = refl
-same_key view (Some sub) = refl
 
 module _ (config : Config) (held : ObjectMap) where
   pub new_streamed : (keys : Keys) (shown : Shown) (all : Watchers) → all.subs ≡ [] → ((id : ℕ) → keys id ≡ None) → AreStreamed config held keys shown all
@@ -59,7 +49,7 @@ module _ (config : Config) (held : ObjectMap) where
     module _ (id : SubId) (query : Query) (at : PutsAt id.0 (Some (new_sub id query)) old.subs new.subs) (due : (n : ℕ) → is_among n new.due ≡ (nat_eq n id.0 || is_among n old.due))
         (sets : SetsAt id.0 (endpoint_key query) keys after) (opens : OpensAt id.0 (endpoint_key query) shown then) where
       key_is : (n : ℕ) → key_at n new.subs ≡ cond (nat_eq n id.0) (endpoint_key query) (key_at n old.subs)
-      key_is n = key_put id.0 (Some (new_sub id query)) old.subs new.subs at n
+      key_is n = asked_put endpoint_key id.0 (Some (new_sub id query)) old.subs new.subs at n
 
       pub added_streamed : AreStreamed config held after then new
       added_streamed = record {
@@ -76,12 +66,12 @@ module _ (config : Config) (held : ObjectMap) where
     module _ (id : ℕ) (at : PutsAt id None old.subs new.subs) (due : (n : ℕ) → is_among n new.due ≡ (not (nat_eq n id) && is_among n old.due)) (sets : SetsAt id None keys after) (gone : SetsAt id None shown then) where
       pub ended_streamed : AreStreamed config held after then new
       ended_streamed = record {
-        opened = λ n. sets n ∙ ap (λ (k : Option EndpointKey). cond (nat_eq n id) None k) (st.opened n) ∙ sym (key_put id None old.subs new.subs at n);
+        opened = λ n. sets n ∙ ap (λ (k : Option EndpointKey). cond (nat_eq n id) None k) (st.opened n) ∙ sym (asked_put endpoint_key id None old.subs new.subs at n);
         current = λ n key is undue.
             elim (nat_eq n id) as (λ b. nat_eq n id ≡ b → cond b None (key_at n old.subs) ≡ Some key → (not b && is_among n old.due) ≡ false → IsNow n key) [
               | true ↦ λ tied asked calm. absurd (cc asked)
               | false ↦ λ apart asked calm. elsewhere id None shown then gone n apart ∙ st.current n key asked calm
-            ] refl (sym (key_put id None old.subs new.subs at n) ∙ is) (sym (due n) ∙ undue);
+            ] refl (sym (asked_put endpoint_key id None old.subs new.subs at n) ∙ is) (sym (due n) ∙ undue);
       }
 
     -- ---- one that was shown its endpoints
@@ -113,10 +103,7 @@ module _ (config : Config) (held : ObjectMap) where
   module _ (keys : Keys) (shown : Shown) (old new : Watchers) (st : AreStreamed config held keys shown old) (id : ℕ) (view : View) (other : key_at id old.subs ≡ None)
       (at : PutsAt id (option_map (showing view) (sub_at id old.subs)) old.subs new.subs) (due : (n : ℕ) → is_among n new.due ≡ (not (nat_eq n id) && is_among n old.due)) where
     keys_same : (n : ℕ) → key_at n new.subs ≡ key_at n old.subs
-    keys_same n = key_put id (option_map (showing view) (sub_at id old.subs)) old.subs new.subs at n ∙ elim (eqb_tells n id) [
-      | inl same ↦ ap (λ (b : Bool). cond b (key_in (option_map (showing view) (sub_at id old.subs))) (key_at n old.subs)) same.0 ∙ same_key view (sub_at id old.subs) ∙ ap (λ (k : ℕ). key_at k old.subs) (sym same.1)
-      | inr apart ↦ ap (λ (b : Bool). cond b (key_in (option_map (showing view) (sub_at id old.subs))) (key_at n old.subs)) apart.0
-    ]
+    keys_same = asked_still endpoint_key id view old.subs new.subs at
 
     viewed_now : (n : ℕ) (key : EndpointKey) → key_at n old.subs ≡ Some key → (not (nat_eq n id) && is_among n old.due) ≡ false → shown n ≡ Some (endpoint_row config held key)
     viewed_now n key asked undue = elim (eqb_tells n id) [
@@ -157,7 +144,7 @@ module _ (config : Config) (held : ObjectMap) where
       some : is_some (endpoint_key kept.query) ≡ true
 
     by_found : (one : Option LiveSubscription) → sub_at id all.subs ≡ one → IsKept
-    by_found None is = absurd (cc (sym (ap (λ (o : Option LiveSubscription). is_some (key_in o)) is) ∙ asks))
+    by_found None is = absurd (cc (sym (ap (λ (o : Option LiveSubscription). is_some (asked_in endpoint_key o)) is) ∙ asks))
     by_found (Some one) is = record {
       kept = one;
       here = is;

@@ -1,5 +1,7 @@
 mod AllFollowed
+mod AllKept
 pub mod AllStanding
+mod Asked
 mod ByCmp
 mod ById
 mod DueIds

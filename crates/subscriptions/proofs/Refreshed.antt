@@ -18,6 +18,7 @@ use Rattle.mark_rules.specs.declared.keys.EndpointKey.{EndpointKey}
 use Rattle.mark_graph.specs.RowMarks.{Rewatches}
 use Rattle.row_reads.specs.References.{HaveSame}
 use Rattle.mark_rules.proofs.MarkOrder.{marks_total}
+use Rattle.row_views.specs.Queries.{row_query}
 use Rattle.watch_events.specs.Lawful.{IsLawfulEvent}
 use Rattle.watch_events.specs.declared.event.Event.{Event}
 use Rattle.event_laws.specs.Laws.{UntouchedQueriesStay}
@@ -26,8 +27,8 @@ use Rattle.feed_history.specs.Events.{objects_after}
 use Rattle.subscriptions.specs.DueIds.{is_among}
 use Rattle.feed_history.proofs.Placed.{found_has_id}
 use Rattle.subscriptions.specs.Live.{LiveSubscription, endpoint_key, id_of, query_at, sub_at}
-use Rattle.subscriptions.specs.Standing.{IsFollowed, IsRefreshed, MakesDue, Stands, is_one}
-use Rattle.subscriptions.specs.Watched.{is_reached, read_by, unless_streamed, watched, watched_reads, watches_one}
+use Rattle.subscriptions.specs.Standing.{AreDueIfKept, IsFollowed, IsRefreshed, MakesDue, Stands, is_one}
+use Rattle.subscriptions.specs.Watched.{is_reached, read_by, unless_kept, unless_streamed, watched, watched_reads, watches_one}
 use Rattle.subscriptions.specs.declared.watchers.Watchers.{Watchers}
 
 -- ---- one id after another
@@ -197,16 +198,17 @@ module _ (untouched : UntouchedQueriesStay) (config : Config) (before : ObjectMa
   met_is n = ap (λ b. is_some (sub_at n old.subs) && b) (same_any (watched old.watching n) (read_by config before (query_at n old.subs)) (st.watch n) marks) ∙ by_query n (sub_at n old.subs) refl
 
   -- what isn't reached reads the same
-  same_unless : (query : Query) (mark : Mark) (key : Option EndpointKey) → meets (unless_streamed key (query_reads config before query)) marks ≡ false
-      → has_mark (unless_streamed key (query_reads config before query)) mark ≡ has_mark (unless_streamed key (query_reads config after query)) mark
-  same_unless query mark None misses = ap (λ reads. has_mark reads mark) (sym (untouched config before at_keys lawful event right query misses).reads)
-  same_unless query mark (Some key) misses = refl
+  same_unless : (query : Query) (mark : Mark) (key : Option EndpointKey) (row : Option Query) → meets (unless_streamed key (unless_kept row (query_reads config before query))) marks ≡ false
+      → has_mark (unless_streamed key (unless_kept row (query_reads config before query))) mark ≡ has_mark (unless_streamed key (unless_kept row (query_reads config after query))) mark
+  same_unless query mark None None misses = ap (λ reads. has_mark reads mark) (sym (untouched config before at_keys lawful event right query misses).reads)
+  same_unless query mark None (Some row) misses = refl
+  same_unless query mark (Some key) row misses = refl
 
   reads_same : (n : ℕ) (mark : Mark) (query : Option Query) → is_reached config before event query ≡ false → read_by config before query mark ≡ read_by config after query mark
   reads_same n mark None misses = refl
-  reads_same n mark (Some query) misses = same_unless query mark (endpoint_key query) misses
+  reads_same n mark (Some query) misses = same_unless query mark (endpoint_key query) (row_query query) misses
 
-  module _ (done : IsRefreshed config after met old new) where
+  module _ (already : AreDueIfKept config before event old) (done : IsRefreshed config after met old new) where
     due_is : (n : ℕ) → is_among n new.due ≡ (is_reached config before event (query_at n old.subs) || is_among n old.due)
     due_is n = done.due.each n ∙ ap (λ b. b || is_among n old.due) (met_is n)
 
@@ -219,15 +221,20 @@ module _ (untouched : UntouchedQueriesStay) (config : Config) (before : ObjectMa
     live_is n None is due = ap is_some (sym is) ∙ st.live n due
     live_is n (Some sub) is due = refl
 
-    -- one that asks for no endpoints is reached where an event touches it
-    misses_all : (query : Query) → endpoint_key query ≡ None → is_reached config before event (Some query) ≡ false → is_touched config before event (Some query) ≡ false
-    misses_all query other misses = sym (ap (λ key. meets (unless_streamed key (query_reads config before query)) marks) other) ∙ misses
+    -- one that asks for no endpoints is reached where an event touches it, unless its view is kept
+    misses_all : (query : Query) → endpoint_key query ≡ None → (is_some (row_query query) ≡ true → is_touched config before event (Some query) ≡ false) → is_reached config before event (Some query) ≡ false
+        → is_touched config before event (Some query) ≡ false
+    misses_all query other kept misses = by (row_query query) refl
+      where
+        by : (row : Option Query) → row_query query ≡ row → is_touched config before event (Some query) ≡ false
+        by None is = sym (λ i. meets (unless_streamed (other i) (unless_kept (is i) (query_reads config before query))) marks) ∙ misses
+        by (Some row) is = kept (ap is_some is)
 
     current_is : (n : ℕ) (sub : LiveSubscription) → sub_at n old.subs ≡ Some sub → endpoint_key sub.query ≡ None → (reached : Bool) → is_reached config before event (Some sub.query) ≡ reached
         → (reached || is_among n old.due) ≡ false → sub.shown ≡ Some (view_of config after sub.query)
     current_is n sub there other true is undue = absurd (cc undue)
     current_is n sub there other false is undue =
-        st.current n sub there other undue ∙ ap Some (sym (untouched config before at_keys lawful event right sub.query (misses_all sub.query other is)).view)
+        st.current n sub there other undue ∙ ap Some (sym (untouched config before at_keys lawful event right sub.query (misses_all sub.query other (λ some. already n sub there some undue) is)).view)
 
     pub followed : IsFollowed config before event old new
     followed = record {

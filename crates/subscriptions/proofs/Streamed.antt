@@ -1,5 +1,5 @@
 -- The live subscriptions with what their streams of endpoints have shown, after each call.
-use Rattle.std.proofs.Common.{◌≡◌, ◌<◌, ℕ, Bool, true, false, cond, eqb, nat_eq, List, [], ◌∷◌, ◌++◌, map, Option, Some, None, refl, sym, ap, ◌∙◌, arith, inl, inr, eq-eqb, eqb-true}
+use Rattle.std.proofs.Common.{◌≡◌, ◌<◌, ℕ, Bool, true, false, cond, eqb, List, [], ◌∷◌, ◌++◌, map, Option, Some, None, refl, sym, ap, ◌∙◌, arith, inl, inr, eq-eqb, eqb-true}
 use Rattle.std.specs.Prelude.{option_and_then, option_map}
 use Rattle.std.proofs.lemmas.Bool.Decides.{eqb_tells}
 use Rattle.std.proofs.lemmas.List.{map-append}
@@ -14,9 +14,10 @@ use Rattle.view_types.specs.declared.query.Query.{Query}
 use Rattle.view_types.specs.declared.view.View.{View}
 use Rattle.view_types.specs.declared.view.View.TheVariants.{Endpoints}
 use Rattle.mark_rules.specs.declared.keys.EndpointKey.{EndpointKey}
-use Rattle.endpoint_streams.specs.Streams.{Keeps, SetsAt}
+use Rattle.endpoint_streams.specs.Streams.{SetsAt}
 use Rattle.feed_history.specs.Ids.{ended, in_place}
-use Rattle.subscriptions.specs.Live.{AreBelow, IdsRise, LiveSubscription, endpoint_key, id_of, key_at, showing, shown_by, shown_in_place, sub_at, subs_of, with_endpoints}
+use Rattle.row_views.specs.Queries.{row_query}
+use Rattle.subscriptions.specs.Live.{AreBelow, IdsRise, LiveSubscription, endpoint_key, id_of, key_at, row_query_at, showing, shown_by, shown_in_place, sub_at, subs_of, with_endpoints}
 use Rattle.subscriptions.specs.Standing.{OpensAt, new_sub}
 use Rattle.subscriptions.proofs.ById.{eqb_back}
 use Rattle.subscriptions.proofs.Mapped.{found_mapped, mapped_in_place}
@@ -63,6 +64,9 @@ none_below id (s ∷ ss) below = ap (λ (b : Bool). cond b (Some s) (sub_at id s
 
 pub no_key_below : (id : ℕ) (subs : List LiveSubscription) → AreBelow id subs → key_at id subs ≡ None
 no_key_below id subs below = ap (λ (one : Option LiveSubscription). option_and_then endpoint_key (option_map (λ (s : LiveSubscription). s.query) one)) (none_below id subs below)
+
+pub no_row_below : (id : ℕ) (subs : List LiveSubscription) → AreBelow id subs → row_query_at id subs ≡ None
+no_row_below id subs below = ap (λ (one : Option LiveSubscription). option_and_then row_query (option_map (λ (s : LiveSubscription). s.query) one)) (none_below id subs below)
 
 -- one that asks for no endpoints is as it is kept
 pub plain_same : (f : Shown) (s : LiveSubscription) → endpoint_key s.query ≡ None → with_endpoints f s ≡ s

@@ -10,6 +10,7 @@ use Rattle.view_types.specs.declared.query.Query.TheVariants.{Get}
 use Rattle.view_types.specs.declared.view.View.{View}
 use Rattle.view_types.specs.declared.view.View.TheVariants.{Endpoints}
 use Rattle.mark_rules.specs.declared.keys.EndpointKey.{EndpointKey}
+use Rattle.row_views.specs.Queries.{row_query}
 use Rattle.feed_history.specs.Ids.{at_id}
 
 -- its id, its query, and the view that its subscriber was last shown, if it was drained
@@ -71,3 +72,9 @@ with_endpoints endpoints sub = record { id = sub.id; query = sub.query; shown = 
 -- the subscriptions with what the streams of endpoints under their ids have shown
 abbrev pub subs_of : (ℕ → Option EndpointView) → List LiveSubscription → List LiveSubscription
 subs_of endpoints subs = map (with_endpoints endpoints) subs
+
+-- ---- subscriptions whose views are kept
+
+-- the query under an id as far as its view depends on it, if its view is kept
+abbrev pub row_query_at : ℕ → List LiveSubscription → Option Query
+row_query_at id subs = option_and_then row_query (query_at id subs)

@@ -16,12 +16,13 @@ use Rattle.mark_rules.specs.declared.keys.EndpointKey.{EndpointKey}
 use Rattle.watch_events.specs.Lawful.{IsLawfulEvent}
 use Rattle.watch_events.specs.declared.event.Event.{Event}
 use Rattle.endpoint_streams.specs.Streams.{Keeps, SetsAt}
+use Rattle.row_views.specs.Queries.{row_query}
 use Rattle.feed_history.specs.Due.{is_touched, marks_of_event}
 use Rattle.feed_history.specs.Events.{objects_after}
 use Rattle.subscriptions.specs.declared.subscribers.Subscribers.{Subscribers}
 use Rattle.subscriptions.specs.declared.watchers.Watchers.{Watchers}
 use Rattle.subscriptions.specs.DueIds.{is_among}
-use Rattle.subscriptions.specs.Live.{LiveSubscription, endpoint_key, key_at, query_at, sub_at, subs_of}
+use Rattle.subscriptions.specs.Live.{LiveSubscription, endpoint_key, key_at, query_at, row_query_at, sub_at, subs_of}
 use Rattle.subscriptions.specs.Watched.{is_reached, read_by, watched}
 
 -- the subscription of an id that was not drained yet
@@ -30,8 +31,9 @@ new_sub id query = record { id = id; query = query; shown = None }
 
 -- ---- what holds over the objects held
 
--- Each live subscription watches what its query reads over the objects held, unless it asks for endpoints, and no other id watches
--- anything. Ids that are due are live. A live one that isn't due, and asks for no endpoints, was shown its view over the objects held.
+-- Each live subscription watches what its query reads over the objects held, unless it asks for endpoints or its view is kept, and no
+-- other id watches anything. Ids that are due are live. A live one that isn't due, and asks for no endpoints, was shown its view over
+-- the objects held.
 pub record Stands (config : Config) (held : ObjectMap) (all : Watchers) : Type 0 where
   pub going : all.watching.graph.spent ≡ false
   pub watch : (id : ℕ) (mark : Mark) → watched all.watching id mark ≡ read_by config held (query_at id all.subs) mark
@@ -81,8 +83,12 @@ pub record IsAfter (before held : ObjectMap) (marks : List Mark) (event : Event)
   pub is_marked : marks ≡ marks_of_event before event
   pub leads : Leads marks before held
 
+-- Those whose views are kept are due already where their queries read a mark of the event.
+abbrev pub AreDueIfKept : Config → ObjectMap → Event → Watchers → Type 0
+AreDueIfKept config before event all = (id : ℕ) (sub : LiveSubscription) → sub_at id all.subs ≡ Some sub → is_some (row_query sub.query) ≡ true → is_among id all.due ≡ false → is_touched config before event (Some sub.query) ≡ false
+
 abbrev pub Follows : Config → ObjectMap → List Mark → Watchers → Watchers → Type 0
-Follows config held marks old new = (before : ObjectMap) (event : Event) → IsAfter before held marks event → Stands config before old → IsFollowed config before event old new
+Follows config held marks old new = (before : ObjectMap) (event : Event) → IsAfter before held marks event → Stands config before old → AreDueIfKept config before event old → IsFollowed config before event old new
 
 -- ---- the live subscriptions with their streams
 
@@ -91,14 +97,20 @@ abbrev pub OpensAt : ℕ → Option EndpointKey → (ℕ → Option EndpointView
 OpensAt id None old new = Keeps old new
 OpensAt id (Some key) old new = SetsAt id None old new
 
-module _ {E : Type 0} (key_of : E → ℕ → Option EndpointKey) (shown_to : E → ℕ → Option EndpointView) (stand : E → Config → Limits → ObjectMap → Type 0) where
-  pub record AllStand (config : Config) (limits : Limits) (held : ObjectMap) (all : Subscribers E) : Type 0 where
+-- The views that are kept are those of the live subscriptions with such queries.
+abbrev pub AreKept : (ℕ → Option Query) → Watchers → Type 0
+AreKept queries all = (id : ℕ) → queries id ≡ row_query_at id all.subs
+
+module _ {E V : Type 0} (key_of : E → ℕ → Option EndpointKey) (shown_to : E → ℕ → Option EndpointView) (stand : E → Config → Limits → ObjectMap → Type 0) (query_of : V → ℕ → Option Query) (viewed : V → Config → ObjectMap → Type 0) where
+  pub record AllStand (config : Config) (limits : Limits) (held : ObjectMap) (all : Subscribers E V) : Type 0 where
     pub live : Stands config held all.live
     pub streamed : AreStreamed config held (key_of all.endpoints) (shown_to all.endpoints) all.live
     pub endpoints : stand all.endpoints config limits held
+    pub kept : AreKept (query_of all.views) all.live
+    pub views : viewed all.views config held
 
   -- Over the objects after an event, those become due whose queries read a mark of it before it, and nobody was shown anything.
-  pub record AllFollow (config : Config) (limits : Limits) (before : ObjectMap) (event : Event) (old new : Subscribers E) : Type 0 where
+  pub record AllFollow (config : Config) (limits : Limits) (before : ObjectMap) (event : Event) (old new : Subscribers E V) : Type 0 where
     pub due : (id : ℕ) → is_among id new.live.due ≡ (is_touched config before event (query_at id old.live.subs) || is_among id old.live.due)
     pub shown : subs_of (shown_to new.endpoints) new.live.subs ≡ subs_of (shown_to old.endpoints) old.live.subs
     pub stands : AllStand config limits (objects_after before event) new

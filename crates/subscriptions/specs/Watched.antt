@@ -10,6 +10,7 @@ use Rattle.mark_rules.specs.Marks.{has_mark, mark_cmp, meets}
 use Rattle.mark_rules.specs.Reads.{query_reads}
 use Rattle.mark_rules.specs.declared.keys.EndpointKey.{EndpointKey}
 use Rattle.watch_events.specs.declared.event.Event.{Event}
+use Rattle.row_views.specs.Queries.{row_query}
 use Rattle.feed_history.specs.Due.{marks_of_event}
 use Rattle.subscriptions.specs.Live.{endpoint_key}
 use Rattle.subscriptions.specs.declared.watching.Watching.{Watching}
@@ -29,9 +30,14 @@ abbrev pub unless_streamed : Option EndpointKey → List Mark → List Mark
 unless_streamed None marks = marks
 unless_streamed (Some key) marks = []
 
+-- the marks, unless the view is kept: its row follows these itself
+abbrev pub unless_kept : Option Query → List Mark → List Mark
+unless_kept None marks = marks
+unless_kept (Some query) marks = []
+
 -- the marks that a subscription of the query watches
 abbrev pub watched_reads : Config → ObjectMap → Query → List Mark
-watched_reads config held query = unless_streamed (endpoint_key query) (query_reads config held query)
+watched_reads config held query = unless_streamed (endpoint_key query) (unless_kept (row_query query) (query_reads config held query))
 
 -- a subscription of the query, if there is one, watches the mark
 abbrev pub read_by : Config → ObjectMap → Option Query → Mark → Bool

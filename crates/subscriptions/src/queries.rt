@@ -37,7 +37,8 @@ pub fn asks_for_endpoints(query: &Query) -> bool
     }
 }
 
-/// The marks that a subscription of a query watches. One of endpoints watches none, since their stream does.
+/// The marks that a subscription of a query watches. One of endpoints watches none, since their stream does, nor does one whose view
+/// is kept.
 pub fn watched_reads<L>(
     reader: &Reader,
     query: &Query,
@@ -48,7 +49,7 @@ pub fn watched_reads<L>(
         (watched_reads reader.now.config.now reader.now.store.now.objects query.now)) }
 {
     match query {
-        Query::Get { .. } => Ok(List::new(reader.alloc)),
+        Query::Get { .. } | Query::Profile { .. } => Ok(List::new(reader.alloc)),
         _ => reader.query_reads(query, steps),
     }
 }

@@ -1,5 +1,5 @@
-// The live subscriptions, with the streams of those that ask for endpoints.
-ghost use Rattle.std.specs.Prelude.{◌≡◌, ◌&&◌, ◌||◌, ◌++◌, ◌∷◌, [], ℕ, nat_eq, not, false, true, None, OnErr, OnOk, is_some, length, Some};
+// The live subscriptions, with the streams of those that ask for endpoints, and the views of others that are kept.
+ghost use Rattle.std.specs.Prelude.{◌≡◌, ◌&&◌, ◌||◌, ◌++◌, ◌∷◌, [], ℕ, nat_eq, not, false, true, None, IfOk, OnErr, OnOk, is_some, length, Some};
 ghost use Rattle.std.specs.Option.{option_copied};
 ghost use Rattle.mesh_base.specs.declared.limits.Limits.{Limits};
 ghost use Rattle.view_types.specs.Objects.{ObjectMap};
@@ -12,8 +12,9 @@ ghost use Rattle.feed_history.specs.Drains.{IsOrMemory, frames_within};
 ghost use Rattle.feed_history.specs.Ids.{ended, in_place};
 ghost use Rattle.watch_events.specs.declared.event.Event.{Event};
 ghost use Rattle.endpoint_streams.specs.Streams.{SetsAt};
+ghost use Rattle.row_views.specs.Queries.{view_at};
 ghost use Rattle.subscriptions.specs.DueIds.{Rises, is_among};
-ghost use Rattle.subscriptions.specs.Live.{AreBelow, LiveSubscription, endpoint_key, id_of, key_at, shown_in_place, sub_at, subs_of};
+ghost use Rattle.subscriptions.specs.Live.{AreBelow, LiveSubscription, endpoint_key, id_of, key_at, row_query_at, shown_in_place, sub_at, subs_of};
 ghost use Rattle.subscriptions.specs.Standing.{AllFollow, AllStand, IsAfter, IsShownNow, OpensAt, new_sub};
 
 use crate::live::Subscription;
@@ -29,31 +30,35 @@ use mesh_base::steps::Steps;
 use mesh_base::sub_id::SubId;
 use object_store::change::Change;
 use row_reads::at_mark::Reader;
+use row_views::query_views::QueryViews;
 use std::alloc::Global;
 use view_types::query::Query;
 use view_types::view::View;
 
-/// The live subscriptions, some of which are due. Those that ask for endpoints have a stream each, and the others watch the marks
-/// that their queries read.
+/// The live subscriptions, some of which are due. Those that ask for endpoints have a stream each, those whose views are kept share
+/// these, and the others watch the marks that their queries read.
 #[derive(Drop)]
-pub struct Subscribers<E: EndpointStreams> {
+pub struct Subscribers<E: EndpointStreams, V: QueryViews> {
     live: Watchers,
     endpoints: E,
+    views: V,
 }
 
-impl<E: EndpointStreams> Subscribers<E> {
-    /// None. No stream is open yet.
-    pub fn new(alloc: Global, endpoints: E) -> Subscribers<E>
-        requires { (id : ℕ) → E.key_of endpoints id ≡ None }
+impl<E: EndpointStreams, V: QueryViews> Subscribers<E, V> {
+    /// None. No stream is open yet, and no view is kept.
+    pub fn new(alloc: Global, endpoints: E, views: V) -> Subscribers<E, V>
+        requires closed { (id : ℕ) → E.key_of endpoints id ≡ None }
+        requires unkept { (id : ℕ) → V.query_of views id ≡ None }
         ensures subs { result.live.subs ≡ [] }
         ensures due { result.live.due ≡ [] }
         ensures stands { (config : Config) (limits : Limits) (held : ObjectMap)
-            → E.stands endpoints config limits held
-            → AllStand E.key_of E.shown_to E.stands config limits held result }
+            → E.stands endpoints config limits held → V.stands views config held
+            → AllStand E.key_of E.shown_to E.stands V.query_of V.stands config limits held result }
     {
         Subscribers {
             live: Watchers::new(alloc),
             endpoints,
+            views,
         }
     }
 
@@ -96,6 +101,7 @@ impl<E: EndpointStreams> Subscribers<E> {
     ) -> Result<(), Memory>
         requires below { AreBelow id.0 self.old.live.subs }
         requires free { E.key_of self.old.endpoints id.0 ≡ None }
+        requires unkept { V.query_of self.old.views id.0 ≡ None }
         ensures subs { OnOk result
             (self.new.live.subs ≡ self.old.live.subs ++ new_sub id query ∷ []) }
         ensures due { OnOk result ((n : ℕ)
@@ -106,14 +112,15 @@ impl<E: EndpointStreams> Subscribers<E> {
             ≡ subs_of (E.shown_to self.old.endpoints) self.old.live.subs ++ new_sub id query ∷ []) }
         ensures stands { reader.now.store.now.spent ≡ false → OnOk result ((limits : Limits)
             → AreLawful reader.now.store.now.objects
-            → AllStand E.key_of E.shown_to E.stands reader.now.config.now limits
+            → AllStand E.key_of E.shown_to E.stands V.query_of V.stands reader.now.config.now limits
             reader.now.store.now.objects self.old
-            → AllStand E.key_of E.shown_to E.stands reader.now.config.now limits
+            → AllStand E.key_of E.shown_to E.stands V.query_of V.stands reader.now.config.now limits
             reader.now.store.now.objects self.new) }
         ensures err { OnErr result (self.new.live.subs ≡ self.old.live.subs) }
     {
         let marks = watched_reads(reader, &query, steps)?;
         open_stream(&mut self.endpoints, reader, id, &query, steps)?;
+        self.views.open(reader.store, id.0 as u64, &query, steps)?;
         self.live.add(id, query, marks)?;
         Ok(())
     }
@@ -129,11 +136,24 @@ impl<E: EndpointStreams> Subscribers<E> {
             → subs_of (E.shown_to self.new.endpoints) self.new.live.subs
             ≡ in_place id_of id.0 ended (subs_of (E.shown_to self.old.endpoints) self.old.live.subs) }
         ensures stands { (config : Config) (limits : Limits) (held : ObjectMap)
-            → AllStand E.key_of E.shown_to E.stands config limits held self.old
-            → AllStand E.key_of E.shown_to E.stands config limits held self.new }
+            → AllStand E.key_of E.shown_to E.stands V.query_of V.stands config limits held self.old
+            → AllStand E.key_of E.shown_to E.stands
+            V.query_of V.stands config limits held self.new }
     {
         self.endpoints.close(id.0 as u64);
+        self.views.close(id.0 as u64);
         self.live.end(id)
+    }
+
+    /// The view of the query under the id, if it is kept. It is a copy.
+    pub fn view(&self, id: SubId) -> Result<Option<View>, Memory>
+        ensures value { IfOk result (λ view. (config : Config) (limits : Limits)
+            (held : ObjectMap)
+            → AllStand E.key_of E.shown_to E.stands V.query_of V.stands config limits held self.now
+            → view ≡ view_at config held (row_query_at id.0 self.now.live.subs)) }
+        ensures orderly { IfOk result IsOrderlyIfShown }
+    {
+        self.views.view(id.0 as u64)
     }
 
     /// Notes the view that the subscriber of the id was shown, which asks for no endpoints. It is due no more.
@@ -149,8 +169,9 @@ impl<E: EndpointStreams> Subscribers<E> {
             (subs_of (E.shown_to self.old.endpoints) self.old.live.subs) }
         ensures stands { (config : Config) (limits : Limits) (held : ObjectMap)
             → IsShownNow config held view (sub_at id.0 self.old.live.subs)
-            → AllStand E.key_of E.shown_to E.stands config limits held self.old
-            → AllStand E.key_of E.shown_to E.stands config limits held self.new }
+            → AllStand E.key_of E.shown_to E.stands V.query_of V.stands config limits held self.old
+            → AllStand E.key_of E.shown_to E.stands
+            V.query_of V.stands config limits held self.new }
     {
         self.live.show(id, view);
     }
@@ -162,7 +183,7 @@ impl<E: EndpointStreams> Subscribers<E> {
             × E.stands self.old.endpoints config limits held }
         requires streamed { is_some (key_at id.0 self.old.live.subs) ≡ true }
         ensures frames { (config : Config) (limits : Limits) (held : ObjectMap)
-            → AllStand E.key_of E.shown_to E.stands config limits held self.old
+            → AllStand E.key_of E.shown_to E.stands V.query_of V.stands config limits held self.old
             → (sub : LiveSubscription)
             → sub_at id.0 (subs_of (E.shown_to self.old.endpoints) self.old.live.subs) ≡ Some sub
             → IsOrMemory (frames_within limits.message
@@ -170,7 +191,7 @@ impl<E: EndpointStreams> Subscribers<E> {
         ensures due { OnOk result ((n : ℕ)
             → is_among n self.new.live.due ≡ (not (nat_eq n id.0) && is_among n self.old.live.due)) }
         ensures shown { OnOk result ((config : Config) (limits : Limits) (held : ObjectMap)
-            → AllStand E.key_of E.shown_to E.stands config limits held self.old
+            → AllStand E.key_of E.shown_to E.stands V.query_of V.stands config limits held self.old
             → (sub : LiveSubscription)
             → sub_at id.0 (subs_of (E.shown_to self.old.endpoints) self.old.live.subs) ≡ Some sub
             → subs_of (E.shown_to self.new.endpoints) self.new.live.subs
@@ -178,8 +199,9 @@ impl<E: EndpointStreams> Subscribers<E> {
             (subs_of (E.shown_to self.old.endpoints) self.old.live.subs)) }
         ensures subs { self.new.live.subs ≡ self.old.live.subs }
         ensures stands { (config : Config) (limits : Limits) (held : ObjectMap)
-            → AllStand E.key_of E.shown_to E.stands config limits held self.old
-            → AllStand E.key_of E.shown_to E.stands config limits held self.new }
+            → AllStand E.key_of E.shown_to E.stands V.query_of V.stands config limits held self.old
+            → AllStand E.key_of E.shown_to E.stands
+            V.query_of V.stands config limits held self.new }
         ensures undue { OnErr result (self.new.live.due ≡ self.old.live.due) }
         ensures kept { OnErr result (subs_of (E.shown_to self.new.endpoints) self.new.live.subs
             ≡ subs_of (E.shown_to self.old.endpoints) self.old.live.subs) }
@@ -205,12 +227,16 @@ impl<E: EndpointStreams> Subscribers<E> {
         ensures follows { reader.now.store.now.spent ≡ false → OnOk result
             ((limits : Limits) (before : ObjectMap) (event : Event)
             → IsAfter before reader.now.store.now.objects change.now.marks event
-            → AllStand E.key_of E.shown_to E.stands reader.now.config.now limits before self.old
-            → AllFollow E.key_of E.shown_to E.stands reader.now.config.now limits before event
+            → AllStand E.key_of E.shown_to E.stands
+            V.query_of V.stands reader.now.config.now limits before self.old
+            → AllFollow E.key_of E.shown_to E.stands
+            V.query_of V.stands reader.now.config.now limits before event
             self.old self.new) }
     {
         endpoints_stay();
+        let viewed = self.views.follow(reader.store, change, steps)?;
         let streamed = self.endpoints.follow(reader.store, change, steps)?;
+        self.live.make_due(viewed.as_slice())?;
         self.live.follow(reader, change.marks.as_slice(), steps)?;
         self.live.make_due(streamed.as_slice())?;
         Ok(())

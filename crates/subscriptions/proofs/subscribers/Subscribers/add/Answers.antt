@@ -1,5 +1,6 @@
 use Rattle.std.proofs.Common.{ap, ◌∙◌}
 use Rattle.subscriptions.specs.Live.{subs_of}
+use Rattle.subscriptions.proofs.AllKept.{added_kept}
 use Rattle.subscriptions.proofs.AllStanding.{added_streamed}
 use Rattle.subscriptions.proofs.Streamed.{added_shown, none_below}
 use Rattle.subscriptions.proofs.subscribers.Subscribers.add.Goals as goal
@@ -20,4 +21,6 @@ returns-clause-stands g c = λ going limits lawful all.
           (g.E.EndpointStreams.key_of c.open_stream.new.endpoints) (g.E.EndpointStreams.shown_to c.open_stream.new.endpoints) c.add.new.self
           c.args.id c.args.query c.in_ok-add.ensures.at c.in_ok-add.ensures.due c.in_ok-open_stream.ensures.keys (c.in_ok-open_stream.ensures.shown config limits all.endpoints);
       endpoints = c.in_ok-open_stream.ensures.stands config limits all.endpoints;
+      kept = added_kept (g.V.QueryViews.query_of c.args.self.now.views) (g.V.QueryViews.query_of c.open.new.self) c.args.self.now.live c.add.new.self all.kept c.args.id c.args.query c.in_ok-add.ensures.at c.in_ok-open.ensures.queries;
+      views = c.in_ok-open.ensures.stands config all.views;
     }

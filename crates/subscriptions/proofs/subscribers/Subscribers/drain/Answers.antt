@@ -1,6 +1,7 @@
 use Rattle.std.proofs.Common.{ap, refl, subst, ◌∙◌, Err, Ok}
 use Rattle.feed_history.specs.Drains.{IsOrMemory}
 use Rattle.subscriptions.specs.Live.{subs_of}
+use Rattle.subscriptions.proofs.AllKept.{still_kept}
 use Rattle.subscriptions.proofs.AllStanding.{drained_streamed, drained_view, frames_are, kept_streamed}
 use Rattle.subscriptions.proofs.subscribers.Subscribers.drain.Goals as goal
 
@@ -29,6 +30,8 @@ returns-in-Ok-clause-stands g c = λ config limits held all. record {
       (g.E.EndpointStreams.key_of c.drain.new.self) (g.E.EndpointStreams.shown_to c.drain.new.self) c.show_endpoints.new.self c.args.id.0 c.show_endpoints.ensures.subs c.show_endpoints.ensures.due
       c.in-Ok.ensures.keys (c.in-Ok.ensures.shown config limits held all.endpoints);
   endpoints = c.in-Ok.ensures.stands config limits held all.endpoints;
+  kept = still_kept (g.V.QueryViews.query_of c.args.self.now.views) (g.V.QueryViews.query_of c.args.self.now.views) c.args.self.now.live c.show_endpoints.new.self all.kept c.show_endpoints.ensures.subs (λ id. refl);
+  views = all.views;
 }
 
 pub returns-in-Err-clause-stands : goal.returns-in-Err-clause-stands
@@ -37,6 +40,8 @@ returns-in-Err-clause-stands g c = λ config limits held all. record {
   streamed = kept_streamed config held (g.E.EndpointStreams.key_of c.args.self.now.endpoints) (g.E.EndpointStreams.shown_to c.args.self.now.endpoints) c.args.self.now.live all.streamed
       (g.E.EndpointStreams.key_of c.drain.new.self) (g.E.EndpointStreams.shown_to c.drain.new.self) c.args.self.now.live c.in-Err.ensures.keys c.in-Err.ensures.kept refl;
   endpoints = c.in-Err.ensures.stands config limits held all.endpoints;
+  kept = all.kept;
+  views = all.views;
 }
 
 pub returns-in-Err-clause-kept : goal.returns-in-Err-clause-kept
