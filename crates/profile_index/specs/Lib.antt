@@ -1,1 +1,2 @@
 pub mod ProfileKeys
+pub mod ProfileQueries

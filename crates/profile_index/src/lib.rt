@@ -9,3 +9,4 @@
 pub mod finder;
 pub mod index;
 mod lookup;
+pub mod views;
