@@ -73,14 +73,6 @@ module _ {A : Type 0} (given old : ObjKey → A) where
         | false ↦ λ t. rest k t
       ] refl
 
--- what is put is what there was
-pub put_same : {A : Type 0} (old : ObjKey → A) (key k : ObjKey) (given : A) → given ≡ old key → cond (is_key k key) given (old k) ≡ old k
-put_same old key k given same =
-    elim (is_key k key) as (λ b. is_key k key ≡ b → cond b given (old k) ≡ old k) [
-      | true ↦ λ t. same ∙ ap old (sym (one_key k key t))
-      | false ↦ λ t. refl
-    ] refl
-
 -- ---- no slice of the Service is at another key
 
 none_named : (config : Config) (held : ObjectMap) (name : Option (List ℕ)) → rows_named (row_for config held) name None ≡ []

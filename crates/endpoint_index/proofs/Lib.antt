@@ -1,4 +1,3 @@
-pub mod Alike
 pub mod Filling
 pub mod SliceSums
 pub mod Standing

@@ -1,34 +1,46 @@
--- What is kept of endpoints stands after a change.
-use Rattle.std.proofs.Common.{◌≡◌, ℕ, Bool, List, Option, refl, sym, ap, subst, ◌∙◌}
-use Rattle.mesh_base.specs.declared.key.ObjKey.{ObjKey}
+-- What is kept of endpoints stands after a change, and what is told of their marks.
+use Rattle.std.proofs.Common.{◌≡◌, ℕ, Bool, true, false, ◌&&◌, ◌||◌, not, List, [], ◌∷◌, ◌++◌, Option, length, refl, sym, ap, subst, ◌∙◌, arith}
+use Rattle.std.proofs.lemmas.List.Folds.{list_any-append}
 use Rattle.view_types.specs.Objects.{ObjectMap}
 use Rattle.view_types.specs.declared.config.Config.{Config}
 use Rattle.view_types.specs.declared.mark.Mark.{Mark}
-use Rattle.mark_rules.specs.Marks.{has_mark}
-use Rattle.mark_rules.specs.Reads.{endpoint_reads}
+use Rattle.mark_graph.specs.Moves.{has_after}
+use Rattle.mark_graph.specs.declared.moves.MarkMoves.{MarkMoves}
+use Rattle.mark_rules.specs.Marks.{has_mark, mark_cmp, same_mark}
 use Rattle.mark_rules.specs.declared.keys.EndpointKey.{EndpointKey}
 use Rattle.row_table.specs.IndexRows.{HaveSame}
-use Rattle.row_table.specs.declared.row_rule.MarksAfter.{MarksAfter}
-use Rattle.row_table.specs.declared.row_rule.MarksAfter.TheVariants.{Other, Same}
-use Rattle.slice_marks.specs.Marked.{marks_at}
-use Rattle.endpoint_index.specs.Given.{pods_at}
+use Rattle.slice_marks.proofs.Reading.{has_read}
+use Rattle.slice_marks.specs.Marked.{KeysByMark, is_read, marks_read}
 use Rattle.endpoint_index.specs.Slices.{SlicesStand}
-use Rattle.endpoint_index.specs.Standing.{Stands}
-use Rattle.endpoint_index.specs.declared.kept.KeptEndpoints.{KeptEndpoints}
 use Rattle.endpoint_index.specs.declared.slices.KeptSlices.{KeptSlices}
-use Rattle.endpoint_index.proofs.Alike.{reads_alike}
 
 pub slices_as : (config : Config) (held : ObjectMap) (key : EndpointKey) (s : KeptSlices) (exists exists' : Bool) (name name' : Option (List ℕ)) → exists ≡ exists' → name ≡ name'
     → SlicesStand config held key exists name s → SlicesStand config held key exists' name' s
 slices_as config held key s exists exists' name name' there named well =
     subst (λ (b : Bool). SlicesStand config held key b name' s) there (subst (λ (n : Option (List ℕ)). SlicesStand config held key exists n s) named well)
 
-module _ (config : Config) (before after : ObjectMap) (key : EndpointKey) (old : KeptEndpoints) (s : KeptSlices) (well : Stands config before key old)
-    (pods : (k : ObjKey) → marks_at s.read.by_slice k ≡ pods_at after key k) where
-  -- the marks are those that are read after the change: as before where the slices name the same Pods, and else made anew
-  pub marks_follow : (m : MarksAfter) (marks : List Mark) → (m ≡ Same → (k : ObjKey) → marks_at s.read.by_slice k ≡ marks_at old.slices.read.by_slice k) → (m ≡ Same → marks ≡ old.marks)
-      → (m ≡ Other → marks ≡ endpoint_reads after key) → HaveSame marks (endpoint_reads after key)
-  marks_follow Same marks alike kept anew mark =
-      ap (λ ms. has_mark ms mark) (kept refl) ∙ well.marks mark
-      ∙ ap (λ ms. has_mark ms mark) (reads_alike key before after (λ k. sym (well.slices.each k).pods ∙ sym (alike refl k) ∙ pods k))
-  marks_follow Other marks alike kept anew mark = ap (λ ms. has_mark ms mark) (anew refl)
+pub none_in : (marks : List Mark) (m : Mark) → length marks ≡ 0 → has_mark marks m ≡ false
+none_in [] m e = refl
+none_in (x ∷ xs) m e = absurd (omega (arith, e))
+
+module _ (own : List Mark) (old new : KeysByMark) where
+  -- the own marks, and those that slices read
+  in_both : (by : KeysByMark) (m : Mark) → has_mark (own ++ marks_read by) m ≡ (has_mark own m || is_read by m)
+  in_both by m = list_any-append (same_mark m) own (marks_read by) ∙ ap (λ b. has_mark own m || b) (has_read by m)
+
+  pub none_moved : ((m : Mark) → is_read new m ≡ is_read old m) → HaveSame (own ++ marks_read new) (own ++ marks_read old)
+  none_moved same m = in_both new m ∙ ap (λ b. has_mark own m || b) (same m) ∙ sym (in_both old m)
+
+  by_cases : (own come gone before : Bool) → (own || (come || (not gone && before))) ≡ ((come || own) || (not gone && (own || before)))
+  by_cases true true gone before = refl
+  by_cases true false gone before = refl
+  by_cases false true gone before = refl
+  by_cases false false gone before = refl
+
+  -- the own marks are among those that come
+  pub some_moved : (gone come all : List Mark) → all ≡ come ++ own → ((m : Mark) → is_read new m ≡ has_after mark_cmp (record { gone = gone; come = come }) (is_read old) m)
+      → (m : Mark) → has_mark (own ++ marks_read new) m ≡ has_after mark_cmp (record { gone = gone; come = all }) (has_mark (own ++ marks_read old)) m
+  some_moved gone come all is lead m =
+      in_both new m ∙ ap (λ b. has_mark own m || b) (lead m)
+      ∙ by_cases (has_mark own m) (has_mark come m) (has_mark gone m) (is_read old m)
+      ∙ (λ i. sym (ap (λ ms. has_mark ms m) is ∙ list_any-append (same_mark m) come own) i || (not (has_mark gone m) && sym (in_both old m) i))

@@ -1,5 +1,5 @@
 -- What the slices of a Service give to one of its ports.
-use Rattle.std.specs.Prelude.{◌≡◌, ◌+◌, if◌then◌else◌, is_some, ℕ, Bool, false, not, ◌||◌, List, [], Option, Some, None, flat_map, option_and_then}
+use Rattle.std.specs.Prelude.{◌≡◌, ◌+◌, if◌then◌else◌, is_some, ℕ, Bool, false, not, ◌||◌, List, [], ◌∷◌, Option, Some, None, flat_map, option_and_then}
 use Rattle.std.specs.FinMap.{get}
 use Rattle.std.specs.Option.{option_to_list}
 use Rattle.mesh_base.specs.declared.key.ObjKey.{ObjKey}
@@ -10,7 +10,7 @@ use Rattle.view_types.specs.declared.mark.Mark.{Mark}
 use Rattle.view_types.specs.declared.mark.Mark.TheVariants.{Obj, SlicesOf}
 use Rattle.view_types.specs.declared.service.Service.{Service}
 use Rattle.view_types.specs.declared.slice.Slice.{Slice}
-use Rattle.view_rules.specs.Endpoints.{RowFor, service_held, slice_in, slice_rows}
+use Rattle.view_rules.specs.Endpoints.{RowFor, service_held, service_key, slice_in, slice_rows}
 use Rattle.view_rules.specs.Laws.{name_of_port}
 use Rattle.view_rules.specs.PodRows.{row_for}
 use Rattle.mark_rules.specs.Marks.{mark_cmp, same_mark}
@@ -30,6 +30,10 @@ has_endpoints (Some s) = not s.external
 pub record IsPort (held : ObjectMap) (key : EndpointKey) (exists : Bool) (name : Option (List ℕ)) : Type 0 where
   pub exists_is : exists ≡ has_endpoints (service_held held key.ns key.name)
   pub name_is : name ≡ name_of_port key.port (service_held held key.ns key.name)
+
+-- the marks of a Service and of its slices
+abbrev pub own_reads : EndpointKey → List Mark
+own_reads key = Obj (service_key key.ns key.name) ∷ SlicesOf key.ns key.name ∷ []
 
 -- the object at a key, where it is a slice of the Service
 abbrev pub slice_at : ObjectMap → EndpointKey → ObjKey → Option Slice

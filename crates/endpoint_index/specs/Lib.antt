@@ -1,5 +1,6 @@
 pub mod EndpointKeys
 pub mod Given
+pub mod Naming
 pub mod Slices
 pub mod Standing
 pub mod Still

@@ -30,7 +30,8 @@ use Rattle.mark_rules.specs.declared.keys.EndpointKey.{EndpointKey}
 use Rattle.endpoint_rows.specs.Laws.{rows_in}
 use Rattle.row_table.specs.IndexRows.{KeptShows, KeptStays}
 use Rattle.endpoint_index.specs.Given.{given_at, has_endpoints, pods_at, slice_at}
-use Rattle.endpoint_index.specs.Standing.{Stands}
+use Rattle.endpoint_index.specs.Naming.{all_read}
+use Rattle.endpoint_index.specs.Standing.{Stands, marks_in}
 use Rattle.endpoint_index.specs.declared.kept.KeptEndpoints.{KeptEndpoints}
 
 any_first : (b : Bool) → (b || false) ≡ b
@@ -123,15 +124,12 @@ stands_still config key kept changed before after leads misses well =
         };
       };
       name = named;
-      marks = λ mark. well.marks mark ∙ ap (λ marks. has_mark marks mark) (sym stays.1);
+      own = well.own;
     }
 
 abbrev pub view_in : KeptEndpoints → EndpointView
 view_in kept = kept.slices.rows.view
 
-abbrev pub marks_in : KeptEndpoints → List Mark
-marks_in kept = kept.marks
-
 -- what is kept gives the view and its marks
 pub stands_show : (config : Config) → KeptShows (record { row_of = endpoint_row config; reads = endpoint_reads }) (Stands config) view_in marks_in
-stands_show config held key kept well = record { is_filter = well.slices.view ∙ row_named config held key kept.name well.name; are_read = well.marks }
+stands_show config held key kept well = record { is_filter = well.slices.view ∙ row_named config held key kept.name well.name; are_read = all_read held key kept well.own well.slices.agree (λ k. (well.slices.each k).pods) }

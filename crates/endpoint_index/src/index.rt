@@ -13,8 +13,8 @@ ghost use Rattle.row_table.specs.IndexRows.{AreMet};
 ghost use Rattle.row_table.specs.RowLaws.{current_row};
 ghost use Rattle.row_table.specs.TableRows.{row_at};
 ghost use Rattle.endpoint_index.specs.EndpointKeys.{endpoint_keys_exact};
-ghost use Rattle.endpoint_index.specs.Standing.{Stands};
-ghost use Rattle.endpoint_index.specs.Still.{marks_in, stands_show, view_in};
+ghost use Rattle.endpoint_index.specs.Standing.{Stands, marks_in};
+ghost use Rattle.endpoint_index.specs.Still.{stands_show, view_in};
 ghost use Rattle.endpoint_index.specs.Told.{notes_at, notes_in, rows_shown};
 
 use crate::kept::KeptEndpoints;
@@ -179,7 +179,7 @@ impl RowIndex for EndpointIndex {
         self.rows.row(key)
     }
 
-    fn marks(&self, key: &EndpointKey) -> &[Mark] {
+    fn marks(&self, key: &EndpointKey) -> Result<List<Mark>, Memory> {
         self.rows.marks(key)
     }
 

@@ -1,27 +1,27 @@
 // What is kept of the endpoints of a port.
-ghost use Rattle.std.specs.Prelude.{◌≡◌, ◌≤◌, ◌+◌, ◌++◌, [], ◌∷◌, true, false, IfOk, OnOk};
+ghost use Rattle.std.specs.Prelude.{◌≡◌, ◌≤◌, ◌+◌, ◌++◌, ◌∷◌, true, false, IfOk, OnOk};
 ghost use Rattle.std.specs.List.{flat_map};
 ghost use Rattle.std.specs.Option.{option_copied};
-ghost use Rattle.mesh_base.specs.declared.key.ObjKey.{ObjKey as TheKey};
 ghost use Rattle.view_types.specs.Objects.{ObjectMap};
-ghost use Rattle.view_types.specs.declared.mark.Mark.TheVariants.{Obj, SlicesOf};
-ghost use Rattle.view_rules.specs.Endpoints.{service_key, slices_held};
+ghost use Rattle.view_types.specs.declared.mark.Mark.TheVariants.{SlicesOf};
+ghost use Rattle.view_rules.specs.Endpoints.{slices_held};
 ghost use Rattle.mark_rules.specs.Changes.{Leads};
 ghost use Rattle.mark_rules.specs.Reads.{cost, endpoint_reads, pods_of};
 ghost use Rattle.endpoint_rows.specs.Kept.{Keeps};
-ghost use Rattle.row_table.specs.declared.row_rule.MarksAfter.TheVariants.{Same, Other};
-ghost use Rattle.slice_marks.specs.Marked.{marks_at};
-ghost use Rattle.endpoint_index.specs.Given.{IsPort, pods_at};
+ghost use Rattle.row_table.specs.MarksAfter.{MarksFollow};
+ghost use Rattle.slice_marks.specs.Marked.{KeysByMark, OthersStay, marks_read};
+ghost use Rattle.endpoint_index.specs.Given.{IsPort, own_reads};
 ghost use Rattle.endpoint_index.specs.Slices.{AreEmpty};
-ghost use Rattle.endpoint_index.specs.Standing.{Stands, Tells};
+ghost use Rattle.endpoint_index.specs.Standing.{Stands, Tells, marks_in};
 
 use crate::service_port::{PortSource, ServicePort, port_of};
-use crate::slices::{KeptSlices, bring_up};
+use crate::slices::{KeptSlices, append, bring_up};
 use crate::touched::touched_slices;
+use mark_graph::moves::MarkMoves;
 use mark_rules::keys::EndpointKey;
 use mark_rules::laws::{keys_by_mark, rows_by_marks};
 use mesh_base::copied::Copied;
-use mesh_base::key::{Kind, ObjKey};
+use mesh_base::key::Kind;
 use mesh_base::list::List;
 use mesh_base::memory::Memory;
 use mesh_base::same::Same;
@@ -30,7 +30,7 @@ use mesh_base::text::Text;
 use policy_rows::snapshot::Snapshot;
 use row_reads::references::add_key;
 use row_table::row_rule::MarksAfter;
-use slice_marks::slices::SliceMarks;
+use slice_marks::slices::add_copies;
 use std::alloc::Global;
 use view_types::mark::Mark;
 
@@ -40,7 +40,25 @@ pub struct KeptEndpoints {
     pub(crate) slices: KeptSlices,
     /// The name of the port, where the Service has it.
     pub(crate) name: Option<Text>,
-    pub(crate) marks: List<Mark>,
+    /// The marks of the Service and of its slices.
+    pub(crate) own: List<Mark>,
+}
+
+impl KeptEndpoints {
+    /// A list of the marks that the endpoints read.
+    pub(crate) fn marks(&self, alloc: Global) -> Result<List<Mark>, Memory>
+        ensures { IfOk result (λ marks. marks ≡ marks_in self.now) }
+    {
+        let mut marks = self.own.copy(alloc)?;
+        let pods = self.slices.read.all(alloc)?;
+        append(&mut marks, pods)?;
+        Ok(marks)
+    }
+
+    /// How many marks the endpoints read, about.
+    fn count(&self) -> usize {
+        self.slices.read.count().saturating_add(2)
+    }
 }
 
 /// Finds the endpoints of a port, and what they read.
@@ -59,7 +77,7 @@ pub(crate) fn find<L>(
     let mut kept = KeptEndpoints {
         slices: KeptSlices::new(from.alloc, port.exists),
         name: None,
-        marks: List::new(from.alloc),
+        own: List::new(from.alloc),
     };
     fill(&PortSource { from, key, port }, &mut kept, steps)?;
     Ok(kept)
@@ -81,13 +99,14 @@ pub(crate) fn follow<L>(
         → Leads changed.now held from.now.store.now.objects
         → Stands from.now.config.now from.now.store.now.objects key.now kept.new) }
     ensures tells { Keeps kept.old.slices.rows → OnOk result (Tells kept.old kept.new) }
-    ensures marks { IfOk result (λ marks. marks ≡ Same → kept.new.marks ≡ kept.old.marks) }
+    ensures marks { IfOk result (λ marks.
+        MarksFollow marks (marks_in kept.old) (marks_in kept.new)) }
     ensures steps { steps.new ≤ steps.old + cost from.now.store.now.objects
         (endpoint_reads from.now.store.now.objects key.now) }
 {
     let port = port_of(from.store, key, steps);
     let source = PortSource { from, key, port };
-    if changed.len() <= kept.marks.len() && has_port(kept, &port) {
+    if changed.len() <= kept.count() && has_port(kept, &port) {
         return follow_in_place(&source, changed, kept, steps);
     }
     find_again(&source, kept, steps)?;
@@ -130,7 +149,8 @@ fn follow_in_place<L>(
         → Stands source.now.from.now.config.now source.now.from.now.store.now.objects
         source.now.key.now kept.new) }
     ensures tells { Keeps kept.old.slices.rows → OnOk result (Tells kept.old kept.new) }
-    ensures marks { IfOk result (λ marks. marks ≡ Same → kept.new.marks ≡ kept.old.marks) }
+    ensures marks { IfOk result (λ marks.
+        MarksFollow marks (marks_in kept.old) (marks_in kept.new)) }
     ensures steps { steps.new ≤ steps.old + cost source.now.from.now.store.now.objects
         (SlicesOf source.now.key.now.ns source.now.key.now.name
         ∷ flat_map pods_of (slices_held source.now.from.now.store.now.objects
@@ -140,29 +160,23 @@ fn follow_in_place<L>(
     rows_by_marks();
     source.from.store.stand_at_keys();
     let touched = touched_slices(source.from.alloc, &kept.slices.read, changed)?;
-    let marks = bring_up(source, touched.as_slice(), &mut kept.slices, steps)?;
-    renew(source, marks, kept)?;
-    Ok(marks)
+    let moved = bring_up(source, touched.as_slice(), &mut kept.slices, steps)?;
+    marks_after(source.from.alloc, moved, kept)
 }
 
-/// Makes the marks anew, where the slices name other Pods than before.
-fn renew(source: &PortSource, after: MarksAfter, kept: &mut KeptEndpoints) -> Result<(), Memory>
-    requires { source.now.from.now.store.now.spent ≡ false }
-    ensures slices { kept.new.slices ≡ kept.old.slices }
-    ensures name { kept.new.name ≡ kept.old.name }
-    ensures same { after ≡ Same → kept.new.marks ≡ kept.old.marks }
-    ensures other { after ≡ Other → ((k : TheKey) → marks_at kept.old.slices.read.by_slice k
-        ≡ pods_at source.now.from.now.store.now.objects source.now.key.now k)
-        → OnOk result (kept.new.marks
-        ≡ endpoint_reads source.now.from.now.store.now.objects source.now.key.now) }
+/// Tells of the marks, of which all but these are read as before. The Service's own are read in any
+/// case.
+fn marks_after(alloc: Global, moved: List<Mark>, kept: &KeptEndpoints) -> Result<MarksAfter, Memory>
+    ensures { IfOk result (λ after. (old : KeysByMark)
+        → OthersStay moved old kept.now.slices.read.by_mark
+        → MarksFollow after (kept.now.own ++ marks_read old) (marks_in kept.now)) }
 {
-    match after {
-        MarksAfter::Same => Ok(()),
-        MarksAfter::Other => {
-            kept.marks = reads_of(source, &kept.slices.read)?;
-            Ok(())
-        }
+    if moved.len() == 0 {
+        return Ok(MarksAfter::Same);
     }
+    let MarkMoves { gone, mut come } = kept.slices.read.moves(alloc, moved)?;
+    add_copies(alloc, &mut come, kept.own.as_slice())?;
+    Ok(MarksAfter::Moved(MarkMoves { gone, come }))
 }
 
 /// Finds the endpoints again, and notes what stood where they differ.
@@ -215,7 +229,7 @@ fn fill<L>(
         .slices_of(&source.key.ns, &source.key.name);
     bring_up(source, slices, &mut kept.slices, steps)?;
     kept.name = copied(source.port.name)?;
-    kept.marks = reads_of(source, &kept.slices.read)?;
+    kept.own = own_marks(source.from.alloc, source.key)?;
     Ok(())
 }
 
@@ -228,58 +242,12 @@ fn copied(name: Option<&Text>) -> Result<Option<Text>, Memory>
     }
 }
 
-/// The marks that a port's row reads: those of the Service and of its slices, and of the Pods that the
-/// slices name.
-fn reads_of(source: &PortSource, read: &SliceMarks) -> Result<List<Mark>, Memory>
-    requires { source.now.from.now.store.now.spent ≡ false }
-    ensures { ((k : TheKey) → marks_at read.now.by_slice k
-        ≡ pods_at source.now.from.now.store.now.objects source.now.key.now k)
-        → IfOk result (λ marks. marks
-        ≡ endpoint_reads source.now.from.now.store.now.objects source.now.key.now) }
+/// The mark of the Service, and that of its slices.
+fn own_marks(alloc: Global, key: &EndpointKey) -> Result<List<Mark>, Memory>
+    ensures { IfOk result (λ marks. marks ≡ own_reads key.now) }
 {
-    keys_by_mark();
-    rows_by_marks();
-    source.from.store.stand_at_keys();
-    let mut marks = List::new(source.from.alloc);
-    add_own(&mut marks, source.key)?;
-    let slices = source
-        .from
-        .store
-        .slices_of(&source.key.ns, &source.key.name);
-    add_each(source.from.alloc, &mut marks, read, slices)?;
+    let mut marks = List::new(alloc);
+    add_key(&mut marks, Kind::Service, &key.ns, &key.name)?;
+    marks.add(Mark::SlicesOf(key.ns.copy()?, key.name.copy()?))?;
     Ok(marks)
-}
-
-/// Adds the mark of the Service, and that of its slices.
-fn add_own(marks: &mut List<Mark>, key: &EndpointKey) -> Result<(), Memory>
-    ensures { OnOk result (marks.new ≡ marks.old ++ Obj (service_key key.now.ns key.now.name)
-        ∷ SlicesOf key.now.ns key.now.name ∷ []) }
-{
-    add_key(marks, Kind::Service, &key.ns, &key.name)?;
-    marks.add(Mark::SlicesOf(key.ns.copy()?, key.name.copy()?))
-}
-
-/// Adds the marks of the Pods of each slice.
-fn add_each(
-    alloc: Global,
-    marks: &mut List<Mark>,
-    read: &SliceMarks,
-    slices: &[ObjKey],
-) -> Result<(), Memory>
-    ensures { OnOk result (marks.new
-        ≡ marks.old ++ flat_map (marks_at read.now.by_slice) slices.now) }
-{
-    for at in slices {
-        add_all(alloc, marks, read.of(at))?;
-    }
-    Ok(())
-}
-
-fn add_all(alloc: Global, marks: &mut List<Mark>, others: &[Mark]) -> Result<(), Memory>
-    ensures { OnOk result (marks.new ≡ marks.old ++ others.now) }
-{
-    for mark in others {
-        marks.add(mark.copy(alloc)?)?;
-    }
-    Ok(())
 }

@@ -4,10 +4,11 @@ ghost use Rattle.mark_rules.specs.Reads.{endpoint_reads};
 ghost use Rattle.mark_rules.specs.Rows.{endpoint_row};
 ghost use Rattle.endpoint_index.specs.EndpointKeys.{endpoint_keys_exact};
 ghost use Rattle.endpoint_index.specs.Still.{stands_show, stands_still};
-ghost use Rattle.endpoint_index.specs.Standing.{Stands, Tells};
+ghost use Rattle.endpoint_index.specs.Standing.{Stands, Tells, marks_in};
 
 use crate::kept::{KeptEndpoints, find, follow};
 use mark_rules::keys::EndpointKey;
+use mesh_base::list::List;
 use mesh_base::memory::Memory;
 use mesh_base::steps::Steps;
 use object_store::store::Store;
@@ -42,7 +43,7 @@ impl RowRule for EndpointRule {
 
     ghost row_in = { λ kept. kept.slices.rows.view };
 
-    ghost marks_in = { λ kept. kept.marks };
+    ghost marks_in = { marks_in };
 
     ghost notes_hold = { λ rule held change notes. Unit {0} };
 
@@ -85,8 +86,8 @@ impl RowRule for EndpointRule {
         kept.slices.rows.view()
     }
 
-    fn marks(kept: &KeptEndpoints) -> &[Mark] {
-        kept.marks.as_slice()
+    fn marks(alloc: Global, kept: &KeptEndpoints) -> Result<List<Mark>, Memory> {
+        kept.marks(alloc)
     }
 
     ghost shows = { λ rule. stands_show rule.config };

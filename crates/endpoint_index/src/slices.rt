@@ -1,5 +1,5 @@
 // The rows and the Pods of the slices of a Service, brought up slice by slice.
-ghost use Rattle.std.specs.Prelude.{◌≡◌, ◌≤◌, ◌+◌, [], true, false, Some, None, IfOk, IfSome, OnOk, if◌then◌else◌, is_some};
+ghost use Rattle.std.specs.Prelude.{◌≡◌, ◌≤◌, ◌+◌, ◌++◌, [], true, false, Some, None, IfOk, IfSome, OnOk, if◌then◌else◌, is_some};
 ghost use Rattle.std.specs.FinMap.{get};
 ghost use Rattle.std.specs.List.{flat_map, sum_by};
 ghost use Rattle.std.specs.Option.{option_copied};
@@ -12,8 +12,7 @@ ghost use Rattle.mark_rules.specs.MarkLookups.{keys_at};
 ghost use Rattle.mark_rules.specs.Reads.{cost, pods_of};
 ghost use Rattle.endpoint_rows.specs.Before.{TellsBefore};
 ghost use Rattle.endpoint_rows.specs.Kept.{Keeps, rows_of};
-ghost use Rattle.row_table.specs.declared.row_rule.MarksAfter.TheVariants.{Same};
-ghost use Rattle.slice_marks.specs.Marked.{Agree, marks_at};
+ghost use Rattle.slice_marks.specs.Marked.{Agree, OthersStay, marks_at};
 ghost use Rattle.endpoint_index.specs.Given.{given_at, pods_at, rows_named, slice_at, steps_of};
 ghost use Rattle.endpoint_index.specs.Slices.{AreEmpty, AreUpBut, SlicesStand};
 
@@ -28,10 +27,8 @@ use mesh_base::list::List;
 use mesh_base::memory::Memory;
 use mesh_base::steps::Steps;
 use row_reads::references::add_pods;
-use row_table::row_rule::MarksAfter;
 use slice_marks::slices::SliceMarks;
 use std::alloc::Global;
-use std::cmp::Ordering;
 use view_scratch::collect::{add_slice, slice_at};
 use view_types::endpoint::EndpointRow;
 use view_types::mark::Mark;
@@ -67,14 +64,14 @@ impl KeptSlices {
     }
 }
 
-/// Brings the slices at these keys up to the objects, and the view up to the slices. Tells whether
-/// the slices name the same Pods as before.
+/// Brings the slices at these keys up to the objects, and the view up to the slices. Gives the marks
+/// of Pods that these slices named or name now. All others are named where they were.
 pub(crate) fn bring_up<L>(
     source: &PortSource,
     touched: &[ObjKey],
     kept: &mut KeptSlices,
     steps: &mut Steps<L>,
-) -> Result<MarksAfter, Memory>
+) -> Result<List<Mark>, Memory>
     requires { source.now.from.now.store.now.spent ≡ false }
     ensures stands { Keeps kept.old.rows → Agree kept.old.read
         → AreUpBut touched.now source.now.from.now.config.now source.now.from.now.store.now.objects
@@ -84,15 +81,15 @@ pub(crate) fn bring_up<L>(
         (option_copied source.now.port.name) kept.new) }
     ensures notes { Keeps kept.old.rows → OnOk result (TellsBefore kept.old.rows.view.rows
         kept.new.rows.view.rows kept.new.rows.notes) }
-    ensures same { IfOk result (λ marks. marks ≡ Same → (k : TheKey)
-        → marks_at kept.new.read.by_slice k ≡ marks_at kept.old.read.by_slice k) }
+    ensures moved { IfOk result (λ moved.
+        OthersStay moved kept.old.read.by_mark kept.new.read.by_mark) }
     ensures steps { steps.new ≤ steps.old + sum_by (steps_of
         source.now.from.now.store.now.objects source.now.key.now) touched.now }
 {
     slices_make_the_service();
-    let marks = follow_slices(source, touched, kept, steps)?;
+    let moved = follow_slices(source, touched, kept, steps)?;
     kept.rows.settle()?;
-    Ok(marks)
+    Ok(moved)
 }
 
 /// Brings the slices at these keys up to the objects.
@@ -101,7 +98,7 @@ fn follow_slices<L>(
     touched: &[ObjKey],
     kept: &mut KeptSlices,
     steps: &mut Steps<L>,
-) -> Result<MarksAfter, Memory>
+) -> Result<List<Mark>, Memory>
     requires { source.now.from.now.store.now.spent ≡ false }
     ensures keeps { Keeps kept.old.rows → OnOk result (Keeps kept.new.rows) }
     ensures rows { OnOk result ((k : TheKey) → rows_of kept.new.rows.slices.by_slice k
@@ -115,8 +112,8 @@ fn follow_slices<L>(
         ≡ (if has_key k touched.now
         then pods_at source.now.from.now.store.now.objects source.now.key.now k
         else marks_at kept.old.read.by_slice k)) }
-    ensures same { IfOk result (λ marks. marks ≡ Same → (k : TheKey)
-        → marks_at kept.new.read.by_slice k ≡ marks_at kept.old.read.by_slice k) }
+    ensures moved { IfOk result (λ moved.
+        OthersStay moved kept.old.read.by_mark kept.new.read.by_mark) }
     ensures steps { steps.new ≤ steps.old + sum_by (steps_of
         source.now.from.now.store.now.objects source.now.key.now) touched.now }
 {
@@ -124,21 +121,21 @@ fn follow_slices<L>(
         .from
         .store
         .slices_of(&source.key.ns, &source.key.name);
-    let mut marks = MarksAfter::Same;
+    let mut moved = List::new(source.from.alloc);
     for at in touched {
-        let after = follow_slice(source, slices, at, kept, steps)?;
-        marks = both(marks, after);
+        let more = follow_slice(source, slices, at, kept, steps)?;
+        append(&mut moved, more)?;
     }
-    Ok(marks)
+    Ok(moved)
 }
 
-fn both(one: MarksAfter, other: MarksAfter) -> MarksAfter
-    ensures { result ≡ Same → (one ≡ Same) × (other ≡ Same) }
+pub(crate) fn append(marks: &mut List<Mark>, more: List<Mark>) -> Result<(), Memory>
+    ensures { OnOk result (marks.new ≡ marks.old ++ more) }
 {
-    match (one, other) {
-        (MarksAfter::Same, MarksAfter::Same) => MarksAfter::Same,
-        _ => MarksAfter::Other,
+    for mark in more.into_vec() {
+        marks.add(mark)?;
     }
+    Ok(())
 }
 
 /// Brings the slice at a key up to the objects. These are the keys of the Service's slices.
@@ -148,7 +145,7 @@ fn follow_slice<L>(
     at: &ObjKey,
     kept: &mut KeptSlices,
     steps: &mut Steps<L>,
-) -> Result<MarksAfter, Memory>
+) -> Result<List<Mark>, Memory>
     requires { slices.now ≡ keys_at source.now.from.now.store.now.objects
         (SlicesOf source.now.key.now.ns source.now.key.now.name) }
     ensures keeps { Keeps kept.old.rows → OnOk result (Keeps kept.new.rows) }
@@ -163,9 +160,8 @@ fn follow_slice<L>(
         ≡ (if is_key k at.now
         then pods_at source.now.from.now.store.now.objects source.now.key.now at.now
         else marks_at kept.old.read.by_slice k)) }
-    ensures same { IfOk result (λ marks. marks ≡ Same
-        → pods_at source.now.from.now.store.now.objects source.now.key.now at.now
-        ≡ marks_at kept.old.read.by_slice at.now) }
+    ensures moved { IfOk result (λ moved.
+        OthersStay moved kept.old.read.by_mark kept.new.read.by_mark) }
     ensures steps { steps.new ≤ steps.old
         + steps_of source.now.from.now.store.now.objects source.now.key.now at.now }
 {
@@ -211,7 +207,7 @@ fn put_slice<L>(
     slice: &Slice,
     kept: &mut KeptSlices,
     steps: &mut Steps<L>,
-) -> Result<MarksAfter, Memory>
+) -> Result<List<Mark>, Memory>
     ensures keeps { Keeps kept.old.rows → OnOk result (Keeps kept.new.rows) }
     ensures rows { OnOk result ((k : TheKey) → rows_of kept.new.rows.slices.by_slice k
         ≡ (if is_key k at.now then first_rows (rows_named (row_for source.now.from.now.config.now
@@ -222,8 +218,8 @@ fn put_slice<L>(
     ensures pods { OnOk result ((k : TheKey) → marks_at kept.new.read.by_slice k
         ≡ (if is_key k at.now then pods_of slice.now
         else marks_at kept.old.read.by_slice k)) }
-    ensures same { IfOk result (λ marks. marks ≡ Same
-        → pods_of slice.now ≡ marks_at kept.old.read.by_slice at.now) }
+    ensures moved { IfOk result (λ moved.
+        OthersStay moved kept.old.read.by_mark kept.new.read.by_mark) }
     ensures steps { steps.new ≤ steps.old
         + cost source.now.from.now.store.now.objects (pods_of slice.now) }
 {
@@ -232,12 +228,11 @@ fn put_slice<L>(
     kept.rows.put_slice(at.copy(alloc)?, rows)?;
     let mut pods = List::new(alloc);
     add_pods(&mut pods, slice)?;
-    let after = compared(pods.as_slice(), kept.read.of(at));
-    kept.read.put(at.copy(alloc)?, pods)?;
-    Ok(after)
+    let moved = kept.read.put(at.copy(alloc)?, pods)?;
+    Ok(moved)
 }
 
-fn take_slice(at: &ObjKey, kept: &mut KeptSlices) -> Result<MarksAfter, Memory>
+fn take_slice(at: &ObjKey, kept: &mut KeptSlices) -> Result<List<Mark>, Memory>
     ensures keeps { Keeps kept.old.rows → OnOk result (Keeps kept.new.rows) }
     ensures rows { OnOk result ((k : TheKey) → rows_of kept.new.rows.slices.by_slice k
         ≡ (if is_key k at.now then [] else rows_of kept.old.rows.slices.by_slice k)) }
@@ -245,23 +240,11 @@ fn take_slice(at: &ObjKey, kept: &mut KeptSlices) -> Result<MarksAfter, Memory>
     ensures agree { Agree kept.old.read → OnOk result (Agree kept.new.read) }
     ensures pods { OnOk result ((k : TheKey) → marks_at kept.new.read.by_slice k
         ≡ (if is_key k at.now then [] else marks_at kept.old.read.by_slice k)) }
-    ensures same { IfOk result (λ marks. marks ≡ Same
-        → [] ≡ marks_at kept.old.read.by_slice at.now) }
+    ensures moved { IfOk result (λ moved.
+        OthersStay moved kept.old.read.by_mark kept.new.read.by_mark) }
 {
-    let after = compared(&[], kept.read.of(at));
     kept.rows.take_slice(at)?;
-    kept.read.take(at);
-    Ok(after)
-}
-
-/// Whether the marks are those that there were.
-fn compared(marks: &[Mark], before: &[Mark]) -> MarksAfter
-    ensures { result ≡ Same → marks.now ≡ before.now }
-{
-    match marks.cmp(before) {
-        Ordering::Equal => MarksAfter::Same,
-        _ => MarksAfter::Other,
-    }
+    Ok(kept.read.take(at))
 }
 
 /// The rows that a slice gives at ports of the name.

@@ -49,7 +49,15 @@ external http => no , 3 was 3q+ reads q
 service http => yes 3q+, 3 was none reads q
 leave => none
 delete slice b => none
-enter => yes , reads";
+enter => yes , reads
+slice a http 1>q => yes 1q+, 1 was none reads q
+slice b http 2>q => yes 1q+ 2q+, 2 was none reads q
+slice a http 1 => yes 1 2q+, 1 was 1q+ reads q
+bare q => yes 1 2q, 2 was 2q+ reads q
+slice b http 2 => yes 1 2, 2 was 2q reads
+meshed q => yes 1 2, reads
+slice a http 1>q => yes 1q+ 2, 1 was 1 reads q
+bare q => yes 1q 2, 1 was 1q+ reads q";
 
 fn web(alloc: Global) -> Result<EndpointKey, Fail> {
     Ok(EndpointKey {
@@ -155,7 +163,7 @@ fn shown(alloc: Global, index: &EndpointIndex) -> Result<String, Fail> {
     for note in index.before(&key) {
         push_note(alloc, &mut all, note)?;
     }
-    push_pods(&mut all, index.marks(&key))?;
+    push_pods(&mut all, index.marks(&key)?.as_slice())?;
     Ok(all)
 }
 

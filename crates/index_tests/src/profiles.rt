@@ -184,7 +184,7 @@ impl Kept {
             if let Some(row) = self.index.row(&key) {
                 all.push_str(format!(in self.alloc; " {letter}:{}", name_of(row))?.as_str())?;
                 push_profile(all, row)?;
-                let count = self.index.marks(&key).len();
+                let count = self.index.marks(&key)?.len();
                 all.push_str(format!(in self.alloc; "/{count}")?.as_str())?;
             }
         }

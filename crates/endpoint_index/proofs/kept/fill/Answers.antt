@@ -1,6 +1,5 @@
 use Rattle.std.proofs.Common.{sym, ap, subst, ◌∙◌}
 use Rattle.std.specs.Option.{option_copied}
-use Rattle.mark_rules.specs.Marks.{has_mark}
 use Rattle.endpoint_index.specs.Slices.{AreUpBut}
 use Rattle.endpoint_index.proofs.Filling.{empty_up}
 use Rattle.endpoint_index.proofs.SliceSums.{slices_rise, steps_within}
@@ -19,7 +18,7 @@ returns-clause-stands g c = λ empty there.
     record {
       slices = slices_as config held key c.bring_up.new.kept _ _ _ _ (there ∙ c.requires.port.exists_is) (sym c.in_ok-kept.ensures) stand;
       name = c.in_ok-kept.ensures ∙ c.requires.port.name_is;
-      marks = λ mark. ap (λ marks. has_mark marks mark) (c.in_ok-kept-2.ensures (λ k. (stand.each k).pods));
+      own = c.in_ok-kept-2.ensures;
     }
 
 pub returns-clause-steps : goal.returns-clause-steps

@@ -4,8 +4,7 @@ use Rattle.std.specs.Option.{option_copied}
 use Rattle.mesh_base.specs.declared.key.ObjKey.{ObjKey}
 use Rattle.view_rules.specs.Endpoints.{first_rows}
 use Rattle.endpoint_rows.specs.Kept.{Keeps, rows_of}
-use Rattle.row_table.specs.declared.row_rule.MarksAfter.TheVariants.{Same}
-use Rattle.slice_marks.specs.Marked.{Agree, marks_at}
+use Rattle.slice_marks.specs.Marked.{Agree, OthersStay, marks_at}
 use Rattle.endpoint_index.specs.Given.{given_at, pods_at, steps_of}
 use Rattle.endpoint_index.proofs.Filling.{ArePut}
 use Rattle.endpoint_index.proofs.slices.follow_slices.Given as goal
@@ -19,6 +18,6 @@ invariant-loop-at g l = record {
   view : l.kept.rows.view ≡ l.initial.kept.rows.view;
   agree : Agree l.initial.kept.read → Agree l.kept.read;
   pods : ArePut (pods_at l.source.from.now.store.now.objects l.source.key.now) (marks_at l.initial.kept.read.by_slice) (take l.at-index l.touched) (marks_at l.kept.read.by_slice);
-  same : l.marks ≡ Same → (k : ObjKey) → marks_at l.kept.read.by_slice k ≡ marks_at l.initial.kept.read.by_slice k;
+  moved : OthersStay l.moved l.initial.kept.read.by_mark l.kept.read.by_mark;
   steps : l.steps ≤ l.initial.steps + sum_by (steps_of l.source.from.now.store.now.objects l.source.key.now) (take l.at-index l.touched);
 }

@@ -6,8 +6,8 @@ use Rattle.row_table.proofs.Followed.{all_stand, users_stay}
 use Rattle.row_table.specs.IndexRows.{has_key}
 use Rattle.row_table.specs.TableRows.{AllStand}
 use Rattle.endpoint_index.specs.EndpointKeys.{endpoint_keys_exact}
-use Rattle.endpoint_index.specs.Standing.{Stands, Tells}
-use Rattle.endpoint_index.specs.Still.{marks_in, stands_show, stands_still, view_in}
+use Rattle.endpoint_index.specs.Standing.{Stands, Tells, marks_in}
+use Rattle.endpoint_index.specs.Still.{stands_show, stands_still, view_in}
 use Rattle.endpoint_index.proofs.Told.{endpoint_keys_total, told_if}
 use Rattle.endpoint_index.proofs.index.EndpointIndex.follow_change.Goals as goal
 
