@@ -9,7 +9,6 @@ use Rattle.std.specs.Ordering.{nat_cmp}
 use Rattle.std.specs.declared.cmp.Ordering.{Ordering}
 use Rattle.std.proofs.lemmas.Bool.Decides.{eqb_tells}
 use Rattle.view_types.specs.declared.mark.Mark.{Mark}
-use Rattle.mark_graph.specs.Moves.{has_after}
 use Rattle.mark_graph.specs.RowMarks.{Rewatches, watches}
 use Rattle.mark_rules.specs.Marks.{has_mark, mark_cmp}
 use Rattle.row_table.specs.IndexRows.{HaveSame}
