@@ -3,11 +3,18 @@ use Rattle.std.proofs.Common.{◌≡◌, ◌&&◌, ◌||◌, not, ℕ, Bool, tru
 use Rattle.std.specs.Prelude.{option_map}
 use Rattle.std.specs.Option.{is_some, option_copied}
 use Rattle.mesh_base.specs.declared.sub_id.SubId.{SubId}
+use Rattle.view_types.specs.Objects.{ObjectMap}
+use Rattle.view_types.specs.declared.config.Config.{Config}
 use Rattle.view_types.specs.declared.query.Query.{Query}
+use Rattle.view_types.specs.declared.query.Query.TheVariants.{Get, Profile, Port, Traffic}
+use Rattle.view_types.specs.declared.view.View.{View}
+use Rattle.view_rules.specs.Views.{view_of}
 use Rattle.std.proofs.lemmas.Bool.Decides.{eqb_tells}
 use Rattle.std.proofs.lemmas.List.{length-map}
 use Rattle.view_types.specs.declared.endpoint.EndpointView.{EndpointView}
 use Rattle.feed_history.specs.Ids.{ended, in_place}
+use Rattle.profile_index.specs.declared.views.ProfileViews.{ProfileViews}
+use Rattle.row_views.specs.Queries.{row_query, view_at}
 use Rattle.shared_endpoints.specs.contracts.shared.SharedEndpointsEndpointStreams.TheImpl.{ghosts}
 use Rattle.shared_endpoints.specs.declared.shared.SharedEndpoints.{SharedEndpoints}
 use Rattle.subscriptions.specs.Live.{LiveSubscription, endpoint_key, id_of, query_at, sub_at, subs_of, with_endpoints}
@@ -17,7 +24,7 @@ use Rattle.mesh_hub.specs.Hub.{asked_in, cancel_answer}
 use Rattle.mesh_hub.specs.LiveSubs.{live_in}
 
 abbrev Subs : Type 0
-Subs = Subscribers SharedEndpoints
+Subs = Subscribers SharedEndpoints ProfileViews
 
 -- what they are once their streams are asked
 abbrev seen : Subs → List LiveSubscription
@@ -111,6 +118,13 @@ plain_found f id subs kept here other sub found =
     let both : Some (with_endpoints f kept) ≡ Some sub = sym (ap (option_map (with_endpoints f)) here) ∙ sym (seen_at f id subs) ∙ found in
     let same : with_endpoints f kept ≡ sub = cc both in
     sym (plain_same f kept other) ∙ same
+
+-- a view that is kept is that of the query
+pub kept_view : (config : Config) (held : ObjectMap) (query : Query) (view : View) → Some view ≡ view_at config held (row_query query) → view ≡ view_of config held query
+kept_view config held (Get ns name port ctx) view is = absurd (cc is)
+kept_view config held (Profile target ctx) view is = cc is
+kept_view config held (Port ns pod port) view is = absurd (cc is)
+kept_view config held (Traffic target) view is = absurd (cc is)
 
 -- ---- who is due
 

@@ -25,6 +25,7 @@ use mesh_base::steps::Steps;
 use mesh_base::sub_id::SubId;
 use mesh_outside::Patterns;
 use policy_rows::snapshot::Snapshot;
+use profile_index::views::ProfileViews;
 use request_sim::decide::decide;
 use request_sim::fault::SimFault;
 use row_reads::at_mark::Reader;
@@ -51,7 +52,7 @@ pub struct Hub {
     config: Config,
     limits: Limits,
     store: LawfulStore,
-    subscribers: Subscribers<SharedEndpoints>,
+    subscribers: Subscribers<SharedEndpoints, ProfileViews>,
     /// The greatest id that was accepted.
     last: Option<u32>,
     /// Memory ran out once.
@@ -92,12 +93,13 @@ impl Hub {
         ensures due { IfOk result (λ hub. (id : ℕ) → is_due hub id ≡ false) }
     {
         let endpoints = SharedEndpoints::new(alloc, &config, &limits)?;
+        let profiles = ProfileViews::new(alloc, &config)?;
         Ok(Hub {
             alloc,
             config,
             limits,
             store: LawfulStore::new(alloc, limits.objects),
-            subscribers: Subscribers::new(alloc, endpoints),
+            subscribers: Subscribers::new(alloc, endpoints, profiles),
             last: None,
             spent: false,
         })
@@ -339,7 +341,7 @@ impl Hub {
         if asks_for_endpoints(&sub.query) {
             return self.subscribers.drain(id);
         }
-        match self.next_batch(sub) {
+        match self.next_batch(id, sub) {
             Ok((view, frames)) => {
                 self.subscribers.show(id, view);
                 Ok(frames)
@@ -349,10 +351,12 @@ impl Hub {
     }
 
     // The view that a subscriber is to see, and the frames that bring it there.
-    fn next_batch(&self, sub: &Subscription) -> Result<(View, List<Bytes>), HubFault>
+    fn next_batch(&self, id: SubId, sub: &Subscription) -> Result<(View, List<Bytes>), HubFault>
+        requires going { self.now.spent ≡ false }
+        requires live { sub_at id.0 self.now.subscribers.live.subs ≡ Some sub.now }
         ensures { IsDueOrTooLong (state_of self.now) sub.now result }
     {
-        let view = self.view_of(&sub.query)?;
+        let view = self.view_of(id, &sub.query)?;
         let messages = self.messages_to(sub, &view)?;
         let frames = frames_within(self.alloc, self.limits.message, messages.as_slice())?;
         Ok((view, frames))
@@ -367,8 +371,22 @@ impl Hub {
         batch(self.alloc, sub.shown.as_ref(), view, &self.limits)
     }
 
+    // The view of the query under an id: a copy of its row where its view is kept, and else found anew.
+    fn view_of(&self, id: SubId, query: &Query) -> Result<View, Memory>
+        requires going { self.now.spent ≡ false }
+        requires live { query_at id.0 self.now.subscribers.live.subs ≡ Some query.now }
+        ensures value { IfOk result (λ view.
+            view ≡ view_of self.now.config self.now.store.objects query.now) }
+        ensures orderly { IfOk result (λ view. IsOrderlyIfShown (Some view)) }
+    {
+        match self.subscribers.view(id)? {
+            Some(view) => Ok(view),
+            None => self.view_anew(query),
+        }
+    }
+
     // The view of a query. A drain is lent no counter, so it makes its own.
-    fn view_of(&self, query: &Query) -> Result<View, Memory>
+    fn view_anew(&self, query: &Query) -> Result<View, Memory>
         ensures value { IfOk result (λ view.
             view ≡ view_of self.now.config self.now.store.objects query.now) }
         ensures orderly { IfOk result (λ view. IsOrderlyIfShown (Some view)) }

@@ -1,14 +1,13 @@
-use Rattle.std.proofs.Common.{◌≡◌, ◌||◌, ◌∷◌, true, false, None, refl, subst, sym, ap, ◌∙◌}
+use Rattle.std.proofs.Common.{◌≡◌, ◌||◌, true, refl, subst, sym, ap, ◌∙◌}
 use Rattle.view_types.specs.Objects.{ObjectMap}
 use Rattle.object_store.specs.Held.{Held}
 use Rattle.feed_history.specs.Due.{is_touched}
 use Rattle.feed_history.specs.Events.{event_refusal}
-use Rattle.shared_endpoints.specs.contracts.shared.SharedEndpointsEndpointStreams.TheImpl.{ghosts}
 use Rattle.subscriptions.specs.DueIds.{is_among}
 use Rattle.subscriptions.specs.Live.{query_at}
-use Rattle.subscriptions.specs.Standing.{AllFollow, IsAfter}
+use Rattle.subscriptions.specs.Standing.{IsAfter}
 use Rattle.mesh_hub.specs.Greatest.{AreUpTo}
-use Rattle.mesh_hub.specs.Hub.{apply_refusal, state_of}
+use Rattle.mesh_hub.specs.Hub.{state_of}
 use Rattle.mesh_hub.specs.LiveSubs.{Stand, live_in}
 use Rattle.mesh_hub.proofs.Accepted.{event_accepted, event_stopped}
 use Rattle.mesh_hub.proofs.Changed.{is_after}

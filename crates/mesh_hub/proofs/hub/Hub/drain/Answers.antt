@@ -1,4 +1,4 @@
-use Rattle.std.proofs.Common.{◌≡◌, ◌&&◌, not, true, false, Some, Err, refl, subst, sym, ap, ◌∙◌}
+use Rattle.std.proofs.Common.{◌≡◌, ◌&&◌, not, true, Some, Err, refl, subst, sym, ap, ◌∙◌}
 use Rattle.feed_history.specs.declared.refusal.HubFault.{HubFault}
 use Rattle.shared_endpoints.specs.contracts.shared.SharedEndpointsEndpointStreams.TheImpl.{ghosts}
 use Rattle.subscriptions.specs.DueIds.{is_among}

@@ -2,7 +2,7 @@ use Rattle.std.proofs.Common.{◌≡◌, ◌++◌, ◌∷◌, [], true, false, l
 use Rattle.object_store.specs.Held.{Held}
 use Rattle.view_rules.specs.PolicyLaws.{AreLawful}
 use Rattle.subscriptions.specs.Standing.{new_sub}
-use Rattle.subscriptions.proofs.Streamed.{no_key_below}
+use Rattle.subscriptions.proofs.Streamed.{no_key_below, no_row_below}
 use Rattle.mesh_hub.specs.Greatest.{AreUpTo}
 use Rattle.mesh_hub.specs.Hub.{state_of}
 use Rattle.mesh_hub.specs.LiveSubs.{Stand, live_in}
@@ -18,6 +18,10 @@ add-requires-clause-below g c =
 pub add-requires-clause-free : goal.add-requires-clause-free
 add-requires-clause-free g c =
     (c.args.self.now.stands c.requires.going).streamed.opened c.args.id.0 ∙ no_key_below c.args.id.0 c.args.self.now.subscribers.live.subs (add-requires-clause-below g c)
+
+pub add-requires-clause-unkept : goal.add-requires-clause-unkept
+add-requires-clause-unkept g c =
+    (c.args.self.now.stands c.requires.going).kept c.args.id.0 ∙ no_row_below c.args.id.0 c.args.self.now.subscribers.live.subs (add-requires-clause-below g c)
 
 pub invariant_of-self : goal.invariant_of-self
 invariant_of-self g c =
