@@ -3,6 +3,7 @@ ghost use Rattle.std.specs.Prelude.{◌≤◌};
 
 use crate::lines::LINES;
 use crate::rows::{CONCERNED, DRAINED_ALL, FEEDS, LIMITED};
+use feed_step::frames::FrameWriter;
 use feed_step::take::take_row;
 use mesh_base::limits::Limits;
 use mesh_base::list::List;
@@ -47,11 +48,12 @@ fn due_text(alloc: Global, hub: &Hub) -> Result<String, Fail> {
 
 // Who is due after a line, and before that whether it was refused.
 fn due_after(alloc: Global, config: &Config, hub: &mut Hub, line: &str) -> Result<String, Fail> {
+    let mut writer = FrameWriter::new(alloc);
     let mut out = Vec::new(alloc);
     let mut live = List::new(alloc);
     let mut steps = Steps::<Hub>::new();
     let refusal = take_row(
-        alloc,
+        &mut writer,
         config,
         hub,
         &mut SurePatterns,

@@ -3,8 +3,9 @@ ghost use Rattle.feed_history.specs.Optional.{Becomes, Extends};
 ghost use Rattle.feed_step.specs.Transcript.{reply_text};
 ghost use Rattle.feed_step.specs.LineStep.{Drains, IsUndrained, Replied, drain_refusal};
 
+use crate::frames::{FrameWriter, push_frames};
 use feed_history::refusal::HubFault;
-use feed_history::text::{push_frames, push_oversize};
+use feed_history::text::push_oversize;
 use mesh_base::memory::Memory;
 use mesh_base::sub_id::SubId;
 use mesh_hub::machine::Machine;
@@ -43,7 +44,7 @@ fn undrained(
 /// Drains an id, and writes its frames, or how long a message is that is too long.
 #[tactic(auto, using(feed_history::proofs::Optional::grows_extends))]
 pub fn drain<H: Machine>(
-    alloc: Global,
+    writer: &mut FrameWriter,
     hub: &mut H,
     id: SubId,
     out: &mut Vec<u8>,
@@ -58,9 +59,9 @@ pub fn drain<H: Machine>(
 {
     match hub.drain(id) {
         Ok(frames) => {
-            push_frames(alloc, out, "frame", id.0, &frames)?;
+            push_frames(writer, out, id.0, &frames)?;
             Ok(Drained::Sent)
         }
-        Err(fault) => undrained(alloc, id, fault, out),
+        Err(fault) => undrained(writer.alloc, id, fault, out),
     }
 }

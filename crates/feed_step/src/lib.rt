@@ -6,5 +6,6 @@
 #![tactic(auto)]
 
 pub mod drain;
+pub mod frames;
 mod lives;
 pub mod take;

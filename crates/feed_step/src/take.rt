@@ -14,6 +14,7 @@ ghost use Rattle.feed_history.specs.KnownPatterns.{GoOver, known_over};
 ghost use Rattle.feed_step.specs.LineStep.{IsRefusalBy, IsRefusalFor, IsSimulated, IsUnread, Makes, Replied, TakesByReplies, TakesFrom, Unreplied, drain_refusal, live_drained, live_unless};
 
 use crate::drain::{Drained, drain};
+use crate::frames::FrameWriter;
 use crate::lives::take_out;
 use feed_history::refusal::{HubFault, Refusal};
 use feed_history::text::push_verdict;
@@ -166,7 +167,7 @@ fn simulate<H: Machine, P: Patterns, L>(
 
 #[tactic(auto, using(feed_history::proofs::Optional::extends_same, crate::proofs::Calls::unreplied_extends))]
 fn take_line<H: Machine, P: Patterns, L>(
-    alloc: Global,
+    writer: &mut FrameWriter,
     hub: &mut H,
     patterns: &mut P,
     live: &mut List<u32>,
@@ -191,12 +192,20 @@ fn take_line<H: Machine, P: Patterns, L>(
         Line::Blank => Ok(None),
         Line::Event(event) => apply(hub, event, steps),
         Line::Subscribe { id, query } => subscribe(hub, live, id, query, steps),
-        Line::Cancel { id } => Ok(cancel(alloc, hub, live, id)),
+        Line::Cancel { id } => Ok(cancel(writer.alloc, hub, live, id)),
         Line::Drain { id } => {
-            let outcome = drain(alloc, hub, id, out)?;
-            Ok(settle(alloc, live, id, outcome))
+            let outcome = drain(writer, hub, id, out)?;
+            Ok(settle(writer.alloc, live, id, outcome))
         }
-        Line::Simulate(request) => simulate(alloc, hub, patterns, number, &request, out, steps),
+        Line::Simulate(request) => simulate(
+            writer.alloc,
+            hub,
+            patterns,
+            number,
+            &request,
+            out,
+            steps,
+        ),
         Line::Stop => Ok(Some(Refusal::NotHere)),
     }
 }
@@ -214,7 +223,7 @@ fn unread(fault: LineFault) -> Result<Option<Refusal>, Memory>
 /// Does what the row of this number says, and answers why it is refused, if it is.
 #[tactic(auto, using(feed_history::proofs::Optional::extends_same))]
 pub fn take_row<H: Machine, P: Patterns, L>(
-    alloc: Global,
+    writer: &mut FrameWriter,
     config: &Config,
     hub: &mut H,
     patterns: &mut P,
@@ -235,8 +244,8 @@ pub fn take_row<H: Machine, P: Patterns, L>(
     ensures grows { Becomes (H.replies hub.old) (H.replies hub.new) Extends }
     ensures goes_on { GoOver P.Patterns patterns.old patterns.new }
 {
-    match read_row(alloc, row, config) {
-        Ok(line) => take_line(alloc, hub, patterns, live, number, line, out, steps),
+    match read_row(writer.alloc, row, config) {
+        Ok(line) => take_line(writer, hub, patterns, live, number, line, out, steps),
         Err(fault) => unread(fault),
     }
 }

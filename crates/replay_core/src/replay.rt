@@ -5,6 +5,7 @@ ghost use Rattle.replay_core.specs.Headline.{RefusesSome, StandsAtEnd, WritesFro
 ghost use Rattle.feed_history.specs.KnownPatterns.{known_over};
 
 use crate::replaying::Replaying;
+use feed_step::frames::FrameWriter;
 use line_run::{Status, run_lines};
 use mesh_base::copied::Copied;
 use mesh_base::limits::Limits;
@@ -88,12 +89,13 @@ pub fn replay<H: Machine, S: Source, K: Sink, P: Patterns>(
     let Ok(()) = hub.begin(copy, *limits) else {
         return Status::Memory;
     };
+    let mut writer = FrameWriter::new(alloc);
     let mut live = List::new(alloc);
     let mut steps = Steps::<()>::new();
     let mut machine = Replaying {
-        alloc,
         config,
         limits: *limits,
+        writer: &mut writer,
         hub,
         patterns,
         live: &mut live,

@@ -3,6 +3,7 @@ ghost use Rattle.std.proofs.Common.{refl, ◌∙◌};
 
 use feed_history::text::push_refused;
 use feed_step::drain::drain;
+use feed_step::frames::FrameWriter;
 use feed_step::take::take_row;
 use line_run::LineMachine;
 use mesh_base::limits::Limits;
@@ -11,15 +12,16 @@ use mesh_base::steps::Steps;
 use mesh_base::sub_id::SubId;
 use mesh_hub::machine::Machine;
 use mesh_outside::Patterns;
-use std::alloc::{AllocError, Global};
+use std::alloc::AllocError;
 use view_types::config::Config;
 
 /// A replay that is under way. What owns memory is lent to it.
 #[derive(Drop)]
-pub(crate) struct Replaying<'a, 'h, 'p, 'l, 's, H: Machine, P: Patterns, L> {
-    pub(crate) alloc: Global,
+pub(crate) struct Replaying<'a, 'w, 'h, 'p, 'l, 's, H: Machine, P: Patterns, L> {
     pub(crate) config: &'a Config,
     pub(crate) limits: Limits,
+    /// What the frames are written with.
+    pub(crate) writer: &'w mut FrameWriter,
     pub(crate) hub: &'h mut H,
     /// What tells which patterns match, for simulated requests.
     pub(crate) patterns: &'p mut P,
@@ -31,7 +33,7 @@ pub(crate) struct Replaying<'a, 'h, 'p, 'l, 's, H: Machine, P: Patterns, L> {
     pub(crate) steps: &'s mut Steps<L>,
 }
 
-impl<H: Machine, P: Patterns, L> LineMachine for Replaying<'_, '_, '_, '_, '_, H, P, L> {
+impl<H: Machine, P: Patterns, L> LineMachine for Replaying<'_, '_, '_, '_, '_, '_, H, P, L> {
     ghost use Rattle.feed_history.specs.Optional.{Becomes, Extends};
     ghost use Rattle.feed_history.proofs.Optional.{extends_same, extends_then};
     ghost use Rattle.replay_core.specs.Stand.{Ended, Ending, IsOfRun, Stands, ending_none};
@@ -101,7 +103,7 @@ impl<H: Machine, P: Patterns, L> LineMachine for Replaying<'_, '_, '_, '_, '_, H
         out: &mut Vec<u8>,
     ) -> Result<bool, AllocError> {
         let Ok(refusal) = take_row(
-            self.alloc,
+            self.writer,
             self.config,
             self.hub,
             self.patterns,
@@ -116,7 +118,7 @@ impl<H: Machine, P: Patterns, L> LineMachine for Replaying<'_, '_, '_, '_, '_, H
         match refusal {
             None => Ok(false),
             Some(refusal) => {
-                push_refused(self.alloc, out, number, &refusal)?;
+                push_refused(self.writer.alloc, out, number, &refusal)?;
                 Ok(true)
             }
         }
@@ -127,7 +129,7 @@ impl<H: Machine, P: Patterns, L> LineMachine for Replaying<'_, '_, '_, '_, '_, H
         let Some(id) = self.live.as_slice().get(self.sent).copied() else {
             return Ok(false);
         };
-        let Ok(_) = drain(self.alloc, self.hub, SubId(id), out) else {
+        let Ok(_) = drain(self.writer, self.hub, SubId(id), out) else {
             return Err(AllocError);
         };
         self.sent += 1;
