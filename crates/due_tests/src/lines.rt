@@ -107,6 +107,8 @@ profile_at: {"control":"subscribe","id":5,"query":{"method":"GetProfile","path":
 watch_at: {"control":"subscribe","id":6,"query":{"method":"Watch","path":"10.96.0.10:80"}}
 get_api: {"control":"subscribe","id":7,"query":{"method":"Get","path":"api.app.svc.cluster.local:80"}}
 port_of_another: {"control":"subscribe","id":8,"query":{"method":"WatchPort","workload":"app:web-2","port":9090}}
+profile_again: {"control":"subscribe","id":9,"query":{"method":"GetProfile","path":"web.app.svc.cluster.local:80","token":"{\"ns\":\"cli\"}"}}
+profile_anew: {"control":"subscribe","id":10,"query":{"method":"GetProfile","path":"web.app.svc.cluster.local:80","token":"{\"ns\":\"cli\"}"}}
 get_again: {"control":"subscribe","id":9,"query":{"method":"Get","path":"web.app.svc.cluster.local:80"}}
 port_first: {"control":"subscribe","id":1,"query":{"method":"WatchPort","workload":"app:web-1","port":8080}}
 get_unread: {"control":"subscribe","id":9,"query":{"method":"Get","path":"web.app:80"}}
@@ -119,8 +121,11 @@ drain_6: {"control":"drain","id":6}
 drain_7: {"control":"drain","id":7}
 drain_8: {"control":"drain","id":8}
 drain_9: {"control":"drain","id":9}
+drain_10: {"control":"drain","id":10}
 cancel_1: {"control":"cancel","id":1}
+cancel_2: {"control":"cancel","id":2}
 cancel_3: {"control":"cancel","id":3}
+cancel_9: {"control":"cancel","id":9}
 simulate: {"control":"simulate","workload":"app:web-1","port":8080,"client":"10.0.0.5","identity":"c.app.serviceaccount.identity.linkerd.cluster.local"}
 bookmark: {"type":"BOOKMARK","object":{"kind":"Pod","apiVersion":"v1","metadata":{"resourceVersion":"9"}}}
 broken: {
