@@ -1,6 +1,7 @@
 -- What each id was last shown, once one has another group.
 use Rattle.std.proofs.Common.{◌≡◌, inl, inr, ℕ, ◌+◌, ◌<◌, ◌&&◌, ◌||◌, true, false, cond, not, nat_eq, nat_lt, List, Option, Some, None, refl, sym, ap, subst, ◌∙◌, arith}
 use Rattle.std.proofs.lemmas.Bool.{cases_Bool}
+use Rattle.std.proofs.lemmas.Bool.Decides.{nat_tests}
 use Rattle.std.specs.BTreeMap.{BTreeMap}
 use Rattle.std.specs.Option.{is_some}
 use Rattle.view_types.specs.declared.endpoint.EndpointView.{EndpointView}
@@ -8,7 +9,7 @@ use Rattle.endpoint_groups.specs.declared.group.Group.{Group}
 use Rattle.endpoint_groups.specs.Members.{Moves, SetsAt, group_at, last_view_of, members_at, one_if, one_less, one_more, with_encoding}
 use Rattle.endpoint_groups.proofs.Entering.{itself}
 use Rattle.endpoint_groups.proofs.Moving.{fewer, same_number, still}
-use Rattle.key_streams.specs.Members.{AreCounted, SetsMember, count_if, group_of, shown_in}
+use Rattle.key_streams.specs.Members.{AreCounted, SetsMember, count_if, encoding_in, group_of, shown_in}
 use Rattle.key_streams.proofs.Counts.{has_some}
 
 -- ---- which ids have a group
@@ -114,6 +115,16 @@ module _ {F : Type 0} where
 
   pub kept_stay : (number : ℕ) (encoding : F) (old new : List (Group F)) → SetsAt number (with_encoding encoding) old new → Stay old new
   kept_stay number encoding old new sets n was is = sets_stay number (with_encoding encoding) (λ g _. keeps_told encoding g) old new sets n is
+
+  -- what is kept for a group is that of an id that has it
+  pub keeps_for : (id number : ℕ) (encoding : F) (old new : List (Group F)) (members : BTreeMap ℕ ℕ) → AreCounted old members → group_of members id ≡ Some number → SetsAt number (with_encoding encoding) old new → encoding_in new (group_of members id) ≡ Some encoding
+  keeps_for id number encoding old new members counted has sets =
+      let g = group_at old number in
+      let some : 0 < members_at old number = subst (λ (k : ℕ). 0 < k) (sym (counted number)) (has_some members id number has) in
+      let test : nat_lt 0 (members_at old number) ≡ true = grind (arith, nat_tests, some) in
+      ap (encoding_in new) has
+      ∙ ap (λ (g : Group F). g.encoding) (sets number ∙ ap (λ b. cond b (with_encoding encoding g) g) (itself number))
+      ∙ ap (λ b. (cond b (record g { encoding = Some encoding }) g).encoding) test
 
   pub back_stay : (number : ℕ) (old mid new : List (Group F)) → SetsAt number one_more old mid → SetsAt number one_less mid new → Stay old new
   back_stay number old mid new more less n was is =

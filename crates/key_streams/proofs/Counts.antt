@@ -1,12 +1,15 @@
 -- How many ids have each group, once an id has another.
-use Rattle.std.proofs.Common.{◌≡◌, ℕ, ◌+◌, ◌<◌, true, cond, nat_eq, List, Some, None, refl, sym, ap, subst, ◌∙◌, arith, inl, inr, eq-eqb}
+use Rattle.std.proofs.Common.{◌≡◌, ℕ, ◌+◌, ◌<◌, Bool, true, false, cond, nat_eq, List, [], ◌∷◌, length, Some, None, refl, sym, ap, subst, ◌∙◌, arith, inl, inr, eq-eqb}
+use Rattle.std.proofs.lemmas.Bool.{false≢true}
 use Rattle.std.proofs.lemmas.Bool.Decides.{eqb_tells}
+use Rattle.std.proofs.Math.Logic.{◌↔◌}
 use Rattle.std.proofs.lemmas.Map.Entries.{sum_by-insert_entry, sum_by-remove_entry, sum_by-set_value}
 use Rattle.std.specs.BTreeMap as tree
 use Rattle.std.specs.BTreeMap.{BTreeMap, Updates, UpdatesBy, WritesThrough, insert_entry, is_at}
+use Rattle.std.specs.Bool.{IsTrue}
 use Rattle.std.specs.Cmp.{nat_cmp_total, unsigned_tied}
 use Rattle.std.specs.List.{sum_by}
-use Rattle.std.specs.Map.{remove_entry, set_value, values_of}
+use Rattle.std.specs.Map.{lookup, remove_entry, set_value, values_of}
 use Rattle.std.specs.Option.{IsSome, is_some}
 use Rattle.std.specs.Ordering.{is_eq, nat_cmp}
 use Rattle.endpoint_groups.specs.Members.{one_if}
@@ -34,6 +37,18 @@ has_some members id n is =
     let less = sum_by-remove_entry (weight n) (is_at (nat_cmp id)) members.entries in
     let one : count_if n (group_of members id) ≡ 1 = ap (count_if n) is ∙ ap one_if (itself n) in
     omega (arith, less, one)
+
+-- a map that isn't empty has an id
+pub first_of : (members : BTreeMap ℕ ℕ) (empty : Bool) → (IsTrue empty ↔ (tree.btree_map_len members ≡ 0)) → empty ≡ false → (id : ℕ) × (is_some (group_of members id) ≡ true)
+first_of members empty tells some = by members.entries refl
+  where
+    by : (es : List (ℕ × ℕ)) → members.entries ≡ es → (id : ℕ) × (is_some (group_of members id) ≡ true)
+    by [] is = absurd (false≢true (sym some ∙ tells.1 (ap length is)))
+    by (e ∷ es) is = (
+      e.0,
+      ap (λ (es : List (ℕ × ℕ)). is_some (lookup (is_at (nat_cmp e.0)) es)) is
+          ∙ ap (λ b. is_some (cond b (Some e.1) (lookup (is_at (nat_cmp e.0)) es))) (at_id e.0 e.0 ∙ itself e.0),
+    )
 
 pub put_at : (id number : ℕ) (old new : BTreeMap ℕ ℕ) → tree.IsOrdered nat_cmp old → Updates nat_cmp old new id (Some number) → new.entries ≡ insert_entry nat_cmp old.entries id number → SetsMember id (Some number) old new
 put_at id number old new ordered updates entries = record {

@@ -7,7 +7,7 @@ use Rattle.std.specs.Option.{unwrap_or}
 use Rattle.std.specs.Ordering.{nat_cmp}
 use Rattle.view_types.specs.declared.endpoint.EndpointView.{EndpointView}
 use Rattle.endpoint_groups.specs.declared.group.Group.{Group}
-use Rattle.endpoint_groups.specs.Members.{members_at, one_if, shown_at}
+use Rattle.endpoint_groups.specs.Members.{encoding_at, members_at, one_if, shown_at}
 
 -- the group of an id, if it has one
 abbrev pub group_of : BTreeMap ℕ ℕ → ℕ → Option ℕ
@@ -35,3 +35,8 @@ module _ {F : Type 0} where
   abbrev pub shown_in : List (Group F) → EndpointView → Option ℕ → Option EndpointView
   shown_in groups now None = None
   shown_in groups now (Some n) = shown_at groups n now
+
+  -- what was made of the messages of a group, and kept
+  abbrev pub encoding_in : List (Group F) → Option ℕ → Option F
+  encoding_in groups None = None
+  encoding_in groups (Some n) = encoding_at groups n

@@ -3,7 +3,7 @@ use Rattle.std.specs.Prelude.{◌≡◌, ℕ, nat_eq, Bool, Option, is_some, if�
 use Rattle.view_types.specs.declared.endpoint.EndpointView.{EndpointView}
 use Rattle.endpoint_groups.specs.Encoded.{AreEncoded}
 use Rattle.key_streams.specs.declared.streams.KeyStreams.{KeyStreams}
-use Rattle.key_streams.specs.Members.{group_of, shown_in}
+use Rattle.key_streams.specs.Members.{encoding_in, group_of, shown_in}
 
 module _ {F : Type 0} where
   -- the id has a stream
@@ -13,6 +13,10 @@ module _ {F : Type 0} where
   -- what the subscriber of an id was last shown by the endpoints now, if it was shown anything
   abbrev pub shown_for : KeyStreams F → ℕ → EndpointView → Option EndpointView
   shown_for streams id now = shown_in streams.groups.groups.items now (group_of streams.members id)
+
+  -- what is kept as the encoding of the messages of an id, if anything is
+  abbrev pub encoding_for : KeyStreams F → ℕ → Option F
+  encoding_for streams id = encoding_in streams.groups.groups.items (group_of streams.members id)
 
   -- what is kept as the encoding of messages to the endpoints now is that, by what was last shown
   abbrev pub AreRight : (Option EndpointView → Option F) → EndpointView → KeyStreams F → Type 0

@@ -24,11 +24,12 @@ pub struct KeyStreams<F> {
 impl<F: Drop> KeyStreams<F> {
     ghost use Rattle.std.specs.Prelude.{◌≡◌, ◌&&◌, ◌||◌, ◌≤◌, ℕ, IfOk, IfSome, None, OnErr, OnOk, Option, Some, false, nat_eq, not, true};
     ghost use Rattle.std.specs.List.{list_any};
+    ghost use Rattle.std.specs.Option.{option_copied};
     ghost use Rattle.view_diff.specs.Earlier.{IsByAddress, earlier_rows};
     ghost use Rattle.view_rules.specs.Batch.{endpoint_batch};
     ghost use Rattle.view_rules.specs.Fold.{IsOrderly};
     ghost use Rattle.view_types.specs.declared.endpoint.EndpointView.{EndpointView as TheView};
-    ghost use Rattle.key_streams.specs.Streams.{AreRight, HasSame, SetsShown, ShowSame, has_stream, shown_for};
+    ghost use Rattle.key_streams.specs.Streams.{AreRight, HasSame, SetsShown, ShowSame, encoding_for, has_stream, shown_for};
 
     /// No streams.
     pub fn new(alloc: Global) -> Result<KeyStreams<F>, Memory>
@@ -44,7 +45,8 @@ impl<F: Drop> KeyStreams<F> {
 
     /// Whether no id has a stream.
     pub fn is_empty(&self) -> bool
-        ensures { result ≡ true → (id : ℕ) → has_stream self.now id ≡ false }
+        ensures none { result ≡ true → (id : ℕ) → has_stream self.now id ≡ false }
+        ensures some { result ≡ false → (id : ℕ) × (has_stream self.now id ≡ true) }
     {
         self.members.is_empty()
     }
@@ -135,7 +137,9 @@ impl<F: Drop> KeyStreams<F> {
 
     /// What the messages of a stream are encoded to, if that was kept for one that was shown the same.
     pub fn encoding(&self, id: u64) -> Option<&F>
-        ensures { (encode : Option TheView → Option F) (now : TheView) → AreRight encode now self.now
+        ensures kept { option_copied result ≡ encoding_for self.now id }
+        ensures right { (encode : Option TheView → Option F) (now : TheView)
+            → AreRight encode now self.now
             → IfSome result (λ encoding. encode (shown_for self.now id now) ≡ Some encoding.now) }
     {
         match number_of(&self.members, id) {
@@ -147,6 +151,7 @@ impl<F: Drop> KeyStreams<F> {
     /// Keeps what the messages of a stream are encoded to until the rows change, for all that were
     /// shown the same.
     pub fn keep(&mut self, id: u64, encoding: F)
+        ensures kept { has_stream self.old id ≡ true → encoding_for self.new id ≡ Some encoding }
         ensures open { HasSame self.old self.new }
         ensures shown { (now : TheView) → ShowSame now self.old self.new }
         ensures right { (encode : Option TheView → Option F) (now : TheView)

@@ -11,4 +11,4 @@ returns-in-Some-clause-frames c = λ right.
     let now = c.args.now.now in
     let limits = c.args.limits.now in
     ap Ok c.in_ok-copy_frames.ensures
-    ∙ from_ok (frames_within limits.message (endpoint_batch (shown_for c.args.streams.now c.args.id now) now limits)) c.in-Some.frames.now (c.in-Some.ensures (encoding limits now) now right)
+    ∙ from_ok (frames_within limits.message (endpoint_batch (shown_for c.args.streams.now c.args.id now) now limits)) c.in-Some.frames.now (c.in-Some.ensures.right (encoding limits now) now right)
