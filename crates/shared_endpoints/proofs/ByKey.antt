@@ -63,7 +63,7 @@ module _ (key : EndpointKey) (was value : Streams) (old new : BTreeMap EndpointK
   pub puts_one : SetsAt key (Some value) old new
   puts_one = turned_puts key (Some value) old new updates.0
 
-  now_there : streams_at new key ≡ Some value
+  pub now_there : streams_at new key ≡ Some value
   now_there = puts_one key ∙ ap (λ b. cond b (Some value) (streams_at old key)) (is_itself key_cmp key_total key_exact key)
 
   puts : SetsAt key (streams_at new key) old new
@@ -100,7 +100,7 @@ module _ (key : EndpointKey) (old new : BTreeMap EndpointKey Streams) (absent : 
   still : (k : EndpointKey) → streams_at new k ≡ streams_at old k
   still k = ap (λ (m : BTreeMap EndpointKey Streams). streams_at m k) same
 
-  none_now : streams_at new key ≡ None
+  pub none_now : streams_at new key ≡ None
   none_now = still key ∙ absent
 
   puts_same : SetsAt key (streams_at new key) old new

@@ -13,7 +13,7 @@ use Rattle.endpoint_groups.proofs.Moving.{same_number}
 use Rattle.key_streams.specs.declared.streams.KeyStreams.{KeyStreams}
 use Rattle.key_streams.specs.Streams.{AreRight, HasSame, SetsShown, has_stream, shown_for}
 use Rattle.row_table.proofs.Keys.{is_itself, tells}
-use Rattle.shared_endpoints.specs.Sharing.{AreRightAt, AreShared, AreTied, ChangedAt, ChangesAt, LeftAt, PutsStreams, has_at, is_key, shown_at, shown_by}
+use Rattle.shared_endpoints.specs.Sharing.{AreRightAt, AreShared, AreTied, ChangedAt, ChangesAt, HasOneAt, LeftAt, OthersHaveOne, PutsStreams, has_at, is_key, shown_at, shown_by}
 
 module _ {F : Type 0} where
   pub some_at : (o : Option (KeyStreams F)) (id : ℕ) → has_at o id ≡ true → is_some o ≡ true
@@ -27,6 +27,29 @@ module _ {Key F : Type 0} (cmp : Key → Key → Ordering) (total : IsTotalOrder
 
   put_apart : (key : Key) (value : Option (KeyStreams F)) (old new : Key → Option (KeyStreams F)) → PutsStreams cmp key value old new → (k : Key) → eq_by_cmp cmp k key ≡ false → new k ≡ old k
   put_apart key value old new puts k apart = puts k ∙ ap (λ b. cond b value (old k)) apart
+
+  -- ---- each key that has streams at all has one that is open
+
+  pub others_have : (key : Key) (value : Option (KeyStreams F)) (old new : Key → Option (KeyStreams F)) → PutsStreams cmp key value old new → ((k : Key) → HasOneAt (old k)) → OthersHaveOne cmp key new
+  others_have key value old new puts each k apart = subst (λ (o : Option (KeyStreams F)). HasOneAt o) (sym (put_apart key value old new puts k apart)) (each k)
+
+  pub all_have : (key : Key) (value : Option (KeyStreams F)) (old new : Key → Option (KeyStreams F)) → PutsStreams cmp key value old new → HasOneAt value → OthersHaveOne cmp key old → (k : Key) → HasOneAt (new k)
+  all_have key value old new puts here others k = elim (tells cmp total exact k key) [
+    | inl same ↦
+        subst (λ (j : Key). HasOneAt (new j)) (sym same.1)
+        (subst (λ (o : Option (KeyStreams F)). HasOneAt o) (sym (put_there key value old new puts)) here)
+    | inr apart ↦ subst (λ (o : Option (KeyStreams F)). HasOneAt o) (sym (put_apart key value old new puts k apart.0)) (others k apart.0)
+  ]
+
+  pub changed_have : (some : Key → Bool) (notes : Key → List Stood) (old new : Key → Option (KeyStreams F)) → ChangesAt cmp some notes old new → ((k : Key) → HasOneAt (old k)) → (k : Key) → HasOneAt (new k)
+  changed_have some notes old new changes each k = by (some k) (notes k) (old k) (new k) (changes k) (each k)
+    where
+      by : (b : Bool) (before : List Stood) (o p : Option (KeyStreams F)) → ChangedAt b before o p → HasOneAt o → HasOneAt p
+      by false before o p is has = subst (λ (o : Option (KeyStreams F)). HasOneAt o) (sym is) has
+      by true before None None is has = tt
+      by true before None (Some p) is has = absurd is
+      by true before (Some o) None is has = absurd is
+      by true before (Some o) (Some p) is has = (has.0, is.ids has.0 ∙ has.1)
 
   -- ---- who has a stream
 

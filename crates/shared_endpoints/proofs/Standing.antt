@@ -1,5 +1,5 @@
 -- Shared streams that stand for the objects held: what each call leaves so.
-use Rattle.std.proofs.Common.{◌≡◌, inl, inr, ℕ, ◌+◌, ◌-◌, ◌<◌, Bool, true, false, cond, nat_eq, List, [], ◌∷◌, Option, Some, None, Result, refl, sym, ap, subst, ◌∙◌, arith}
+use Rattle.std.proofs.Common.{◌≡◌, inl, inr, ℕ, ◌+◌, ◌-◌, ◌<◌, ◌||◌, Bool, true, false, cond, nat_eq, List, [], ◌∷◌, Option, Some, None, Result, refl, sym, ap, subst, ◌∙◌, arith}
 use Rattle.std.proofs.lemmas.Bool.{cases_Bool, false≢true}
 use Rattle.std.specs.BTreeMap.{BTreeMap, is_at}
 use Rattle.std.specs.List.{list_any}
@@ -32,14 +32,16 @@ use Rattle.endpoint_index.specs.declared.index.EndpointIndex.{EndpointIndex}
 use Rattle.endpoint_streams.specs.Streams.{endpoints_at, frames_to, is_met}
 use Rattle.feed_history.specs.Drains.{IsOrMemory, frames_within}
 use Rattle.feed_history.specs.declared.refusal.HubFault.{HubFault}
+use Rattle.endpoint_groups.proofs.Entering.{itself}
 use Rattle.endpoint_groups.proofs.Moving.{same_number}
 use Rattle.key_streams.specs.Streams.{AreRight, HasSame, SetsShown, ShowSame, has_stream, shown_for}
 use Rattle.shared_endpoints.specs.ByKey.{Joined, JoinedAt, JoinsAt, LeavesAt, SetsAt, Streams, key_at, key_cmp, streams_at}
-use Rattle.shared_endpoints.specs.Sharing.{AreRightAt, ChangesAt, LeftAt, encoding, has_at, is_key, shown_by}
-use Rattle.shared_endpoints.specs.Standing.{IsIndexed, Standing, index_stands, row_at, shown_now, shown_of, users}
+use Rattle.shared_endpoints.specs.Sharing.{AreRightAt, ChangesAt, HasOneAt, LeftAt, OthersHaveOne, encoding, has_at, is_key, shown_by}
+use Rattle.shared_endpoints.specs.Standing.{AllHaveOne, HasOneUser, IsIndexed, Standing, StandsExactly, index_stands, key_of_id, row_at, shown_now, shown_of, users}
+use Rattle.shared_endpoints.specs.declared.shared.SharedEndpoints.{SharedEndpoints}
 use Rattle.shared_endpoints.proofs.ByKey.{key_exact, key_total}
 use Rattle.shared_endpoints.proofs.Earlier.{tells_earlier}
-use Rattle.shared_endpoints.proofs.Sharing.{change_present, change_shared, change_shows, drain_shared, drain_shows, enter_shared, enter_shows, has_none, has_stream_at, has_streams, join_shared, join_shows, leave_shared, leave_shows}
+use Rattle.shared_endpoints.proofs.Sharing.{all_have, change_present, change_shared, change_shows, drain_shared, drain_shows, enter_shared, enter_shows, has_none, has_stream_at, has_streams, join_shared, join_shows, leave_shared, leave_shows, others_have}
 
 abbrev pub KeyMap : Type 0
 KeyMap = BTreeMap EndpointKey Streams
@@ -105,6 +107,50 @@ nothing_stands config limits held index by_key by_id within no_keys no_ids stand
   };
   same_limits = same;
 }
+
+pub nothing_each : (by_key : KeyMap) → by_key.entries ≡ [] → AllHaveOne by_key
+nothing_each by_key none k = subst (λ (o : Option Streams). HasOneAt o) (sym (no_streams by_key none k)) tt
+
+-- ---- each key that has streams at all has one that is open
+
+module _ (key : EndpointKey) (by_key new : KeyMap) where
+  pub join_each : (id : ℕ) → JoinsAt id key by_key new → OthersHaveOne key_cmp key (streams_at by_key) → AllHaveOne new
+  join_each id joins = all_have key_cmp key_total key_exact key (streams_at new key) (streams_at by_key) (streams_at new) joins.put (by (streams_at by_key key) (streams_at new key) joins.there)
+    where
+      by : (o p : Option Streams) → JoinedAt id o p → HasOneAt p
+      by None None there = tt
+      by None (Some p) there = absurd there
+      by (Some o) None there = absurd there
+      by (Some o) (Some p) there = (id, there.ids id ∙ ap (λ b. b || has_stream o id) (itself id))
+
+  pub leave_each : (id : ℕ) → LeavesAt id key by_key new → HasOneAt (streams_at new key) → AllHaveOne by_key → AllHaveOne new
+  leave_each id leaves here each = all_have key_cmp key_total key_exact key (streams_at new key) (streams_at by_key) (streams_at new) leaves.put here (λ k apart. each k)
+
+  -- the key goes with its last stream
+  pub last_each : (id : ℕ) → LeavesAt id key by_key new → (rest : KeyMap) → SetsAt key None new rest → AllHaveOne by_key → AllHaveOne rest
+  last_each id leaves rest gone each =
+      all_have key_cmp key_total key_exact key None (streams_at new) (streams_at rest) gone tt
+      (others_have key_cmp key_total key_exact key (streams_at new key) (streams_at by_key) (streams_at new) leaves.put each)
+
+  pub drain_each : (streams drained : Streams) → streams_at by_key key ≡ Some streams → SetsAt key (Some drained) by_key new → HasSame streams drained → AllHaveOne by_key → AllHaveOne new
+  drain_each streams drained there puts ids each =
+      let one : HasOneAt (Some streams) = subst (λ (o : Option Streams). HasOneAt o) there (each key) in
+      all_have key_cmp key_total key_exact key (Some drained) (streams_at by_key) (streams_at new) puts (one.0, ids one.0 ∙ one.1) (λ k apart. each k)
+
+-- the keys with users are those of open streams
+pub one_user : (config : Config) (limits : Limits) (held : ObjectMap) (s : SharedEndpoints) → StandsExactly config limits held s → (key : EndpointKey) → HasOneUser s key
+one_user config limits held s exactly key = record {
+  one = λ id is. users_are ∙ ap (λ b. cond b 1 0) (has_streams key_cmp key_total key_exact (streams_at s.by_key) (key_at s.by_id) exactly.stands.shared.tied id key is);
+  none = λ free. users_are ∙ by free (streams_at s.by_key key) refl (exactly.each key);
+}
+  where
+    users_are : users s.index key ≡ cond (is_some (streams_at s.by_key key)) 1 0
+    users_are = exactly.stands.indexed.one_user key
+
+    by : ((id : ℕ) → is_key key_cmp key (key_of_id s id) ≡ false) → (o : Option Streams) → streams_at s.by_key key ≡ o → HasOneAt o → ◌≡◌ {A = ℕ} (cond (is_some (streams_at s.by_key key)) 1 0) 0
+    by free None is has = ap (λ o. cond (is_some o) 1 0) is
+    by free (Some streams) is has =
+        absurd (false≢true (sym (free has.0) ∙ sym (exactly.stands.shared.tied key has.0) ∙ ap (λ o. has_at o has.0) is ∙ has.1))
 
 -- ---- other ids
 

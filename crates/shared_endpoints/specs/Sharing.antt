@@ -27,6 +27,11 @@ module _ {F : Type 0} where
   AreRightAt encode now None = Unit {0}
   AreRightAt encode now (Some streams) = AreRight encode now streams
 
+  -- if the key has streams at all, one of them is open
+  abbrev pub HasOneAt : Option (KeyStreams F) → Type 0
+  HasOneAt None = Unit {0}
+  HasOneAt (Some streams) = (id : ℕ) × (has_stream streams id ≡ true)
+
   -- ---- what becomes of the streams of a key
 
   -- The rows at these addresses have changed: each subscriber was last shown what it was, and no encoding is kept.
@@ -63,6 +68,10 @@ module _ {Key : Type 0} (cmp : Key → Key → Ordering) where
     pub record AreShared (encode : EndpointView → Option EndpointView → Option F) (row : Key → EndpointView) (streams : Key → Option (KeyStreams F)) (key_of : ℕ → Option Key) : Type 0 where
       pub tied : AreTied streams key_of
       pub right : (key : Key) → AreRightAt (encode (row key)) (row key) (streams key)
+
+    -- each other key that has streams at all has one that is open
+    abbrev pub OthersHaveOne : Key → (Key → Option (KeyStreams F)) → Type 0
+    OthersHaveOne key streams = (k : Key) → eq_by_cmp cmp k key ≡ false → HasOneAt (streams k)
 
     -- this stands at the key, and at each other key what did
     abbrev pub PutsStreams : Key → Option (KeyStreams F) → (Key → Option (KeyStreams F)) → (Key → Option (KeyStreams F)) → Type 0

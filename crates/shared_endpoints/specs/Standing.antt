@@ -1,5 +1,5 @@
 -- When shared streams stand for the objects held.
-use Rattle.std.specs.Prelude.{◌≡◌, ℕ, Bool, Option, Some, None, if◌then◌else◌, is_some}
+use Rattle.std.specs.Prelude.{◌≡◌, ℕ, Bool, false, Option, Some, None, if◌then◌else◌, is_some}
 use Rattle.std.specs.BTreeMap.{BTreeMap}
 use Rattle.mesh_base.specs.declared.limits.Limits.{Limits}
 use Rattle.view_types.specs.Objects.{ObjectMap}
@@ -11,7 +11,7 @@ use Rattle.mark_rules.specs.declared.keys.EndpointKey.{EndpointKey}
 use Rattle.endpoint_index.specs.contracts.index.EndpointIndexRowIndex.TheImpl.{ghosts as the_index}
 use Rattle.endpoint_index.specs.declared.index.EndpointIndex.{EndpointIndex}
 use Rattle.shared_endpoints.specs.ByKey.{Streams, key_at, key_cmp, streams_at}
-use Rattle.shared_endpoints.specs.Sharing.{AreShared, encoding, shown_at}
+use Rattle.shared_endpoints.specs.Sharing.{AreShared, HasOneAt, encoding, is_key, shown_at}
 use Rattle.shared_endpoints.specs.declared.shared.SharedEndpoints.{SharedEndpoints}
 
 abbrev pub index_stands : EndpointIndex → ObjectMap → Type 0
@@ -38,6 +38,15 @@ pub record Standing (config : Config) (limits : Limits) (held : ObjectMap) (inde
 abbrev pub Stands : Config → Limits → ObjectMap → SharedEndpoints → Type 0
 Stands config limits held s = Standing config limits held s.index s.by_key s.by_id s.limits
 
+-- each key that has streams at all has one that is open
+abbrev pub AllHaveOne : BTreeMap EndpointKey Streams → Type 0
+AllHaveOne by_key = (key : EndpointKey) → HasOneAt (streams_at by_key key)
+
+-- They stand, and no key is there without an open stream.
+pub record StandsExactly (config : Config) (limits : Limits) (held : ObjectMap) (s : SharedEndpoints) : Type 0 where
+  pub stands : Stands config limits held s
+  pub each : AllHaveOne s.by_key
+
 -- the key of the stream of an id
 abbrev pub key_of_id : SharedEndpoints → ℕ → Option EndpointKey
 key_of_id s id = key_at s.by_id id
@@ -53,3 +62,8 @@ shown_of index by_key id (Some key) = shown_now (streams_at by_key key) id (row_
 
 abbrev pub shown_to_id : SharedEndpoints → ℕ → Option EndpointView
 shown_to_id s id = shown_of s.index s.by_key id (key_of_id s id)
+
+-- A key has one user where a stream of it is open, and none elsewhere.
+pub record HasOneUser (s : SharedEndpoints) (key : EndpointKey) : Type 0 where
+  pub one : (id : ℕ) → key_of_id s id ≡ Some key → users s.index key ≡ 1
+  pub none : ((id : ℕ) → is_key key_cmp key (key_of_id s id) ≡ false) → users s.index key ≡ 0

@@ -7,7 +7,7 @@ ghost use Rattle.std.specs.Ordering.{eq_by_cmp};
 ghost use Rattle.row_table.specs.IndexRows.{has_key};
 ghost use Rattle.endpoint_index.specs.Told.{notes_at};
 ghost use Rattle.shared_endpoints.specs.ByKey.{JoinsAt, LeavesAt, key_cmp, streams_at};
-ghost use Rattle.shared_endpoints.specs.Sharing.{Changed, ChangesAt, LeftAt, has_at};
+ghost use Rattle.shared_endpoints.specs.Sharing.{Changed, ChangesAt, HasOneAt, LeftAt, has_at};
 
 use bytes::Bytes;
 use endpoint_index::index::EndpointIndex;
@@ -38,6 +38,7 @@ pub(crate) fn close_at(by_key: &mut StreamsByKey, key: &EndpointKey, id: u64) ->
     ensures left { LeavesAt id key.now by_key.old by_key.new }
     ensures last { result ≡ true
         → (n : ℕ) → has_at (streams_at by_key.new key.now) n ≡ false }
+    ensures more { result ≡ false → HasOneAt (streams_at by_key.new key.now) }
 {
     match by_key.get_mut(key) {
         Some(streams) => leave_streams(streams, id),
@@ -48,6 +49,7 @@ pub(crate) fn close_at(by_key: &mut StreamsByKey, key: &EndpointKey, id: u64) ->
 fn leave_streams(streams: &mut KeyStreams<List<Bytes>>, id: u64) -> bool
     ensures left { LeftAt id (Some streams.old) (Some streams.new) }
     ensures last { result ≡ true → (n : ℕ) → has_stream streams.new n ≡ false }
+    ensures more { result ≡ false → HasOneAt (Some streams.new) }
 {
     streams.leave(id);
     streams.is_empty()

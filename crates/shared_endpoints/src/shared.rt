@@ -43,8 +43,9 @@ impl SharedEndpoints {
     ghost use Rattle.mark_rules.specs.Reads.{cost, endpoint_reads};
     ghost use Rattle.mesh_base.specs.declared.limits.Limits.{Limits as TheLimits};
     ghost use Rattle.endpoint_streams.specs.Streams.{SetsAt};
-    ghost use Rattle.shared_endpoints.specs.ByKey.{streams_at};
-    ghost use Rattle.shared_endpoints.specs.Standing.{Stands, key_of_id, shown_to_id};
+    ghost use Rattle.shared_endpoints.specs.ByKey.{key_cmp, streams_at};
+    ghost use Rattle.shared_endpoints.specs.Sharing.{OthersHaveOne};
+    ghost use Rattle.shared_endpoints.specs.Standing.{AllHaveOne, Stands, key_of_id, shown_to_id};
 
     /// No streams, whose messages are made within these limits.
     pub fn new(alloc: Global, config: &Config, limits: &Limits) -> Result<SharedEndpoints, Memory>
@@ -71,6 +72,8 @@ impl SharedEndpoints {
         steps: &mut Steps<L>,
     ) -> Result<(), Memory>
         ensures there { OnOk result (is_some (streams_at self.new.by_key key.now) ≡ true) }
+        ensures others { AllHaveOne self.old.by_key
+            → OnOk result (OthersHaveOne key_cmp key.now (streams_at self.new.by_key)) }
         ensures keys { self.new.by_id ≡ self.old.by_id }
         ensures stands { OnOk result ((config : TheConfig) (limits : TheLimits)
             → Stands config limits store.now.objects self.old
@@ -98,6 +101,8 @@ impl SharedEndpoints {
         ensures keys { OnOk result (SetsAt id (Some key) (key_of_id self.old) (key_of_id self.new)) }
         ensures stands { OnOk result ((config : TheConfig) (limits : TheLimits) (held : ObjectMap)
             → Stands config limits held self.old → Stands config limits held self.new) }
+        ensures each { OthersHaveOne key_cmp key (streams_at self.old.by_key)
+            → OnOk result (AllHaveOne self.new.by_key) }
         ensures shown { OnOk result ((config : TheConfig) (limits : TheLimits) (held : ObjectMap)
             → Stands config limits held self.old
             → SetsAt id None (shown_to_id self.old) (shown_to_id self.new)) }
@@ -112,13 +117,13 @@ impl SharedEndpoints {
 impl EndpointStreams for SharedEndpoints {
     ghost use Rattle.std.specs.Prelude.{None};
     ghost use Rattle.std.proofs.Math.Logic.{∥∥₁_prop};
-    ghost use Rattle.shared_endpoints.specs.Standing.{Stands, key_of_id, shown_to_id};
+    ghost use Rattle.shared_endpoints.specs.Standing.{StandsExactly, key_of_id, shown_to_id};
 
     ghost key_of = { key_of_id };
 
     ghost shown_to = { shown_to_id };
 
-    ghost stands = { λ s config limits held. ∥ Stands config limits held s ∥₁ };
+    ghost stands = { λ s config limits held. ∥ StandsExactly config limits held s ∥₁ };
 
     ghost unique = { λ s config limits held. ∥∥₁_prop };
 

@@ -3,9 +3,19 @@ use Rattle.mark_rules.specs.declared.keys.EndpointKey.{EndpointKey}
 use Rattle.row_table.specs.IndexRows.{OneMore}
 use Rattle.shared_endpoints.specs.ByKey.{SetsAt, key_cmp, streams_at}
 use Rattle.shared_endpoints.specs.Standing.{users}
-use Rattle.shared_endpoints.proofs.ByKey.{none_where, turned_puts}
+use Rattle.shared_endpoints.proofs.ByKey.{key_exact, key_total, none_where, turned_puts}
+use Rattle.shared_endpoints.proofs.Sharing.{others_have}
 use Rattle.shared_endpoints.proofs.Standing.{enter_keeps, enter_stands}
 use Rattle.shared_endpoints.proofs.shared.SharedEndpoints.enter.Goals as goal
+
+pub returns-clause-others : goal.returns-clause-others
+returns-clause-others g c = λ each.
+    let self = c.args.self.now in
+    let key = c.args.key.now in
+    let fresh = c.in_ok-streams.streams in
+    let new = c.insert.new.self in
+    let puts : SetsAt key (Some fresh) self.by_key new = subst (λ (k : EndpointKey). SetsAt k (Some fresh) self.by_key new) c.in_ok-own.ensures (turned_puts c.in_ok-own.own (Some fresh) self.by_key new c.in_ok-insert.ensures.updates.0) in
+    others_have key_cmp key_total key_exact key (Some fresh) (streams_at self.by_key) (streams_at new) puts each
 
 pub returns-clause-stands : goal.returns-clause-stands
 returns-clause-stands g c = λ config limits standing.
