@@ -9,7 +9,7 @@ use Rattle.mesh_links.specs.declared.call.ReadGot.{ReadGot}
 use Rattle.mesh_links.specs.declared.call.WriteGot.{WriteGot}
 use Rattle.mesh_links.specs.declared.links.Links.{Ghosts}
 use Rattle.serve_rules.specs.Turns.{room}
-use Rattle.serve_core.specs.TurnCalls.{AllGoing, Calls, ClosesNew, Each, Growth, Grows, IsTurn, MayClose, Nothing, One, PassesOver, PollShape, Shape, Then, TurnShape, Visit, Visits, VisitsBelow}
+use Rattle.serve_core.specs.TurnCalls.{AllGoing, Calls, AllCloses, Each, Growth, Grows, IsTurn, MayClose, Nothing, One, PassesOver, PollShape, Shape, Then, TurnShape, Visit, Visits, VisitsBelow}
 use Rattle.serve_core.specs.declared.server.ServeFault.{ServeFault}
 use Rattle.serve_core.specs.declared.server.ServeFault.TheVariants as faults
 use Rattle.serve_core.specs.declared.server.Turn.TheVariants as turns
@@ -51,16 +51,16 @@ close_by : (link : ℕ) (trace : List LinkCall) (is_open : Bool) (now : Option (
 close_by link trace true now e = record { made = calls.Close link ∷ []; grew = e; is = inr refl }
 close_by link trace false now e = record { made = []; grew = call_nil trace now e; is = inl refl }
 
-closes_new : (link : ℕ) (made : List LinkCall) → MayClose link made → ClosesNew made
-closes_new link made (inl none) = subst ClosesNew (sym none) tt
-closes_new link made (inr one) = subst ClosesNew (sym one) ((link, refl), tt)
+closes_new : (link : ℕ) (made : List LinkCall) → MayClose link made → AllCloses made
+closes_new link made (inl none) = subst AllCloses (sym none) tt
+closes_new link made (inr one) = subst AllCloses (sym one) ((link, refl), tt)
 
-closes_both : (before after : List LinkCall) → ClosesNew before → ClosesNew after → ClosesNew (before ++ after)
+closes_both : (before after : List LinkCall) → AllCloses before → AllCloses after → AllCloses (before ++ after)
 closes_both [] after first second = second
 closes_both (call ∷ before) after first second = (first.0, closes_both before after first.1 second)
 
-closes_joined : (made : List LinkCall) → Then ClosesNew ClosesNew made → ClosesNew made
-closes_joined made (before, after, are, first, second) = subst ClosesNew (sym are) (closes_both before after first second)
+closes_joined : (made : List LinkCall) → Then AllCloses AllCloses made → AllCloses made
+closes_joined made (before, after, are, first, second) = subst AllCloses (sym are) (closes_both before after first second)
 
 -- a call whose answer is this fault
 pub at_fault : {F : Type 0} (made : F → Option LinkCall) (old new : Option (List LinkCall)) (fault known : F) → fault ≡ known → Continues old new (λ trace. made fault) → Continues old new (λ trace. made known)
@@ -94,13 +94,13 @@ module _ {S : Type 0} (N : Ghosts S) where
 
   -- ---- new links
 
-  pub no_new : (links : S) → Calls N ClosesNew links links
-  no_new links = made_as links links (λ made none. subst ClosesNew (sym none) tt) (none_made links)
+  pub no_new : (links : S) → Calls N AllCloses links links
+  no_new links = made_as links links (λ made none. subst AllCloses (sym none) tt) (none_made links)
 
-  pub new_close : (old new : S) (link : ℕ) → Calls N (MayClose link) old new → Calls N ClosesNew old new
+  pub new_close : (old new : S) (link : ℕ) → Calls N (MayClose link) old new → Calls N AllCloses old new
   new_close old new link a = made_as old new (closes_new link) a
 
-  pub new_closes : (old mid new : S) → Calls N ClosesNew old mid → Calls N ClosesNew mid new → Calls N ClosesNew old new
+  pub new_closes : (old mid new : S) → Calls N AllCloses old mid → Calls N AllCloses mid new → Calls N AllCloses old new
   new_closes old mid new a b = made_as old new closes_joined (made_then old mid new a b)
 
   -- ---- one link

@@ -1,1 +1,9 @@
 pub mod TurnCalls
+pub mod LinkTurns
+pub mod Linked
+pub mod Served
+pub mod Steps
+pub mod Shown
+pub mod Turned
+pub mod Ends
+pub mod Hearing

@@ -82,9 +82,9 @@ Each visit = VisitsBelow visit (2 ^ 32)
 -- ---- a turn
 
 -- closes of links that were shown as new
-abbrev pub ClosesNew : Shape
-ClosesNew [] = Unit {0}
-ClosesNew (call ∷ more) = ((link : ℕ) × (call ≡ calls.Close link)) × ClosesNew more
+abbrev pub AllCloses : Shape
+AllCloses [] = Unit {0}
+AllCloses (call ∷ more) = ((link : ℕ) × (call ≡ calls.Close link)) × AllCloses more
 
 -- the reads, the drains and the writes
 abbrev pub PassesOver : Shape
@@ -98,7 +98,7 @@ ClosesBy (Err memory) = Nothing
 
 -- closes of new links above the limit, then the reads, drains and writes, then the closes of a `stop`
 abbrev pub AfterPoll : Result Turn Memory → Shape
-AfterPoll ended = Then ClosesNew (Then PassesOver (ClosesBy ended))
+AfterPoll ended = Then AllCloses (Then PassesOver (ClosesBy ended))
 
 abbrev pub Polls : Option (List LinkEvent) → Shape
 Polls shown made = (wait : Bool) × One (calls.Poll wait shown) made

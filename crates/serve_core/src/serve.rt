@@ -1,7 +1,8 @@
 // A server from its first turn to its last.
-ghost use Rattle.std.specs.Prelude.{◌≡◌, ◌≤◌};
+ghost use Rattle.std.specs.Prelude.{◌≡◌, ◌≤◌, [], Some};
 ghost use Rattle.mesh_outside.specs.Causes.{Rose};
-ghost use Rattle.feed_history.specs.KnownPatterns.{GoOver};
+ghost use Rattle.feed_history.specs.KnownPatterns.{GoOver, known_over};
+ghost use Rattle.serve_core.specs.Ends.{Ends};
 ghost use Rattle.serve_core.specs.TurnCalls.{Calls, RunShape};
 
 use crate::server::{ServeFault, Server, Turn};
@@ -34,6 +35,8 @@ pub fn serve_top<R: Wait, N: Links, P: Patterns>(
 ) -> ServeStatus
     requires { 1 ≤ config.now.limits.frame_addrs }
     ensures calls { Calls N.Links (RunShape result) links.old links.new }
+    ensures serves { N.trace links.old ≡ Some [] → Ends config.now
+        (known_over P.Patterns patterns.old patterns.new) result (N.trace links.new) }
     ensures cause { result ≡ ServeStatus.LinksFault
         → Rose (N.counts links.old).polls (N.counts links.new).polls }
     ensures goes_on { GoOver P.Patterns patterns.old patterns.new }

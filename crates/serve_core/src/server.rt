@@ -1,8 +1,12 @@
 // A server over links.
-ghost use Rattle.std.specs.Prelude.{◌≡◌, ◌≤◌, ◌<◌, ◌^◌, ℕ, false, true, None, Ok, Err, IfOk};
+ghost use Rattle.std.specs.Prelude.{◌≡◌, ◌≤◌, ◌<◌, ◌^◌, ℕ, [], false, true, None, Ok, Err, IfOk};
 ghost use Rattle.mesh_outside.specs.Causes.{Rose};
 ghost use Rattle.link_sessions.specs.Entries.{entries_of, link_at};
-ghost use Rattle.feed_history.specs.KnownPatterns.{GoOver};
+ghost use Rattle.route_match.specs.Matching.{Pat};
+ghost use Rattle.feed_history.specs.KnownPatterns.{GoOver, known_over};
+ghost use Rattle.serve_core.specs.Served.{IsAt};
+ghost use Rattle.serve_core.specs.Shown.{PollsBy};
+ghost use Rattle.serve_core.specs.Turned.{GoesOnFrom, ServesLinks, Turns};
 ghost use Rattle.serve_core.specs.TurnCalls.{AfterPoll, Calls, PassesOver, PollShape, TurnShape, is_spent_by, turn_by};
 
 use crate::turning::{Pass, Turning};
@@ -50,6 +54,8 @@ impl Server {
     pub fn new(alloc: Global, config: Config, limits: Limits) -> Result<Server, Memory>
         requires { 1 ≤ limits.frame_addrs }
         ensures going { IfOk result (λ server. server.spent ≡ false) }
+        ensures begins { IfOk result (λ server.
+            (pat : Pat) → IsAt config limits pat [] [] [] server.turning) }
     {
         let hub = FedHub::new(alloc, config.copy(alloc)?, limits)?;
         Ok(Server {
@@ -73,6 +79,9 @@ impl Server {
         patterns: &mut P,
     ) -> Result<Turn, ServeFault>
         ensures calls { Calls N.Links (TurnShape result) links.old links.new }
+        ensures turns { self.old.spent ≡ false
+            → Turns (known_over P.Patterns patterns.old patterns.new) (N.trace links.old)
+            self.old.turning result (N.trace links.new) self.new.turning }
         ensures spent { self.new.spent ≡ is_spent_by result }
         ensures stopped { IfOk result (λ turn. turn ≡ turn_by self.new.turning.hub.stopped) }
         ensures none { result ≡ Ok Turn.Stopped → (n : ℕ) → n < 2 ^ 32
@@ -94,6 +103,7 @@ impl Server {
 
 fn poll_now<N: Links>(links: &mut N, wait: bool) -> Result<List<LinkEvent>, ServeFault>
     ensures calls { Calls N.Links (PollShape result) links.old links.new }
+    ensures polls { PollsBy wait result (N.trace links.old) (N.trace links.new) }
     ensures cause { result ≡ Err ServeFault.Links
         → Rose (N.counts links.old).polls (N.counts links.new).polls }
 {
@@ -112,6 +122,8 @@ impl Turning {
         patterns: &mut P,
     ) -> Result<Turn, ServeFault>
         ensures calls { Calls N.Links (TurnShape result) links.old links.new }
+        ensures turns { Turns (known_over P.Patterns patterns.old patterns.new)
+            (N.trace links.old) self.old result (N.trace links.new) self.new }
         ensures stopped { IfOk result (λ turn. turn ≡ turn_by self.new.hub.stopped) }
         ensures none { result ≡ Ok Turn.Stopped → (n : ℕ) → n < 2 ^ 32
             → link_at n (entries_of self.new.kept) ≡ None }
@@ -134,6 +146,8 @@ impl Turning {
         events: &[LinkEvent],
     ) -> Result<Turn, Memory>
         ensures calls { Calls N.Links (AfterPoll result) links.old links.new }
+        ensures follows { GoesOnFrom (known_over P.Patterns patterns.old patterns.new)
+            events.now (N.trace links.old) self.old result (N.trace links.new) self.new }
         ensures stopped { IfOk result (λ turn. turn ≡ turn_by self.new.hub.stopped) }
         ensures none { result ≡ Ok Turn.Stopped → (n : ℕ) → n < 2 ^ 32
             → link_at n (entries_of self.new.kept) ≡ None }
@@ -156,6 +170,8 @@ impl Turning {
         patterns: &mut P,
     ) -> Result<(), Memory>
         ensures calls { Calls N.Links PassesOver links.old links.new }
+        ensures serves { ServesLinks (known_over P.Patterns patterns.old patterns.new)
+            (N.trace links.old) self.old result (N.trace links.new) self.new }
         ensures goes_on { GoOver P.Patterns patterns.old patterns.new }
     {
         self.each(Pass::Reads, links, patterns)?;

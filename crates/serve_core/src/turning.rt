@@ -1,18 +1,27 @@
 // What a turn does with one link, and with each link in their order.
-ghost use Rattle.std.specs.Prelude.{◌≡◌, ◌≤◌, ◌<◌, ◌^◌, ℕ, None, IfSome, OnOk};
+ghost use Rattle.std.specs.Prelude.{◌≡◌, ◌≤◌, ◌<◌, ◌^◌, ℕ, Bool, List as TheList, Ok, Option as TheOption, None, option_map, IfOk, IfSome, OnOk};
+ghost use Rattle.route_match.specs.Matching.{Pat};
+ghost use Rattle.mesh_links.specs.Calls.{Continues, close_made};
 ghost use Rattle.session_core.specs.Outboxes.{NoneEmpty};
-ghost use Rattle.link_sessions.specs.Entries.{Leaves, entries_of, link_at};
-ghost use Rattle.feed_history.specs.KnownPatterns.{GoOver};
-ghost use Rattle.serve_core.specs.TurnCalls.{Calls, ClosesNew, Each, MayClose, Visit};
+ghost use Rattle.link_sessions.specs.Entries.{Leaves, entries_of, link_at, passes_at, without};
+ghost use Rattle.link_sessions.specs.Sets.{IsAnyOf, IsFirstFrom};
+ghost use Rattle.link_sessions.specs.Settled.{IsSettled, IsSettledBut};
+ghost use Rattle.feed_history.specs.KnownPatterns.{GoOver, known_of, known_over};
+ghost use Rattle.serve_core.specs.Hearing.{Hears, SubscribesBy, TakesAll, TakesAsk};
+ghost use Rattle.serve_core.specs.LinkTurns.{IsFoundAmong, IsPutIn, IsReady, drains_among, drains_due, turn_at};
+ghost use Rattle.serve_core.specs.Shown.{Shows, ShowsAll};
+ghost use Rattle.serve_core.specs.Steps.{ClosesAt, Ends, HasWork, SettlesAt, StaysFed, TakesPass, TakesStep, step_of, stop_step, sub_in};
+ghost use Rattle.serve_core.specs.TurnCalls.{Calls, AllCloses, Each, MayClose, Visit};
 
 use bytes::Bytes;
 use fed_hub::hub::FedHub;
 use link_sessions::link::{Link, Role};
-use link_sessions::number_sets::first_from;
+use link_sessions::number_sets::{first_from, set_member};
 use link_sessions::open_links::OpenLinks;
 use mesh_base::limits::Limits;
 use mesh_base::list::List;
 use mesh_base::memory::Memory;
+use mesh_base::sub_id::SubId;
 use mesh_links::call::LinkEvent;
 use mesh_links::links::{LinkFault, Links};
 use mesh_outside::Patterns;
@@ -47,22 +56,65 @@ pub(crate) struct Turning {
 
 // Ends the subscription of a link that was this.
 fn end_subscription(hub: &mut FedHub, role: Role)
-    ensures { hub.new.stopped ≡ hub.old.stopped }
+    ensures ends { Ends role hub.old hub.new }
+    ensures stopped { hub.new.stopped ≡ hub.old.stopped }
 {
     if let Role::Subscriber(id) = role {
         hub.cancel(id);
     }
 }
 
+// Whether a drain of one of these subscriptions has its turn.
+fn drains_any(kept: &OpenLinks, ids: &[SubId]) -> bool
+    ensures { IsSettled kept.now
+        → IsAnyOf (passes_at (drains_among ids.now) (entries_of kept.now)) result }
+{
+    for id in ids {
+        if kept.to_drain(*id).is_some() {
+            return true;
+        }
+    }
+    false
+}
+
+// Adds the links of these subscriptions of which a drain has its turn.
+fn find_drains(kept: &OpenLinks, ids: &[SubId], numbers: &mut BTreeSet<u32>) -> Result<(), Memory>
+    ensures { OnOk result (IsSettled kept.now
+        → IsFoundAmong kept.now ids.now numbers.old numbers.new) }
+{
+    for id in ids {
+        put_in(numbers, kept.to_drain(*id))?;
+    }
+    Ok(())
+}
+
+// Puts a number that was found into a set.
+fn put_in(numbers: &mut BTreeSet<u32>, found: Option<u32>) -> Result<(), Memory>
+    ensures { OnOk result (IsPutIn found numbers.old numbers.new) }
+{
+    match found {
+        Some(number) => set_member(numbers, number, true),
+        None => Ok(()),
+    }
+}
+
 impl Turning {
-    /// Whether a link has work, so that a poll must not wait.
-    pub(crate) fn has_work(&self) -> bool {
-        self.kept.has_work()
-            || self
-                .hub
-                .due()
-                .iter()
-                .any(|id| self.kept.to_drain(*id).is_some())
+    /// Whether a link may be read, written or drained, so that a poll must not wait.
+    pub(crate) fn has_work(&self) -> bool
+        ensures { HasWork self.now result }
+    {
+        if self.kept.has_work() {
+            return true;
+        }
+        self.has_drain()
+    }
+
+    // Whether a link may be drained.
+    fn has_drain(&self) -> bool
+        ensures { IsSettled self.now.kept → IsAnyOf (passes_at (drains_due self.now.hub)
+            (entries_of self.now.kept)) result }
+    {
+        drains_any(&self.kept, self.hub.due())
     }
 
     // ---- the events of a poll
@@ -74,7 +126,10 @@ impl Turning {
         links: &mut N,
         events: &[LinkEvent],
     ) -> Result<(), Memory>
-        ensures { Calls N.Links ClosesNew links.old links.new }
+        ensures calls { Calls N.Links AllCloses links.old links.new }
+        ensures shows { ShowsAll events.now (N.trace links.old) self.old result
+            (N.trace links.new) self.new }
+        ensures same { OnOk result (self.new ≡ record self.old { kept = self.new.kept }) }
     {
         for event in events {
             self.show(links, *event)?;
@@ -83,7 +138,10 @@ impl Turning {
     }
 
     fn show<N: Links>(&mut self, links: &mut N, event: LinkEvent) -> Result<(), Memory>
-        ensures { Calls N.Links ClosesNew links.old links.new }
+        ensures calls { Calls N.Links AllCloses links.old links.new }
+        ensures shows { Shows event (N.trace links.old) self.old result
+            (N.trace links.new) self.new }
+        ensures same { OnOk result (self.new ≡ record self.old { kept = self.new.kept }) }
     {
         match event {
             LinkEvent::New(number) => self.admit(links, number),
@@ -94,7 +152,10 @@ impl Turning {
 
     // Opens a new link, or closes it if as many are open as may be.
     fn admit<N: Links>(&mut self, links: &mut N, number: u32) -> Result<(), Memory>
-        ensures { Calls N.Links ClosesNew links.old links.new }
+        ensures calls { Calls N.Links AllCloses links.old links.new }
+        ensures shows { Shows (LinkEvent.New number) (N.trace links.old) self.old result
+            (N.trace links.new) self.new }
+        ensures same { OnOk result (self.new ≡ record self.old { kept = self.new.kept }) }
     {
         if self.kept.len() >= self.limits.links as usize {
             links.close(number);
@@ -114,6 +175,9 @@ impl Turning {
         patterns: &mut P,
     ) -> Result<(), Memory>
         ensures calls { Calls N.Links (Each (Visit pass)) links.old links.new }
+        ensures passes { IsReady pass self.old → TakesPass (step_of pass)
+            (known_over P.Patterns patterns.old patterns.new)
+            (N.trace links.old) self.old result (N.trace links.new) self.new }
         ensures goes_on { GoOver P.Patterns patterns.old patterns.new }
     {
         let mut from = 0;
@@ -129,7 +193,9 @@ impl Turning {
 
     // The first link from a number on that has its turn.
     fn next(&self, pass: Pass, from: u32) -> Option<u32>
-        ensures { IfSome result (λ number. from ≤ number) }
+        ensures later { IfSome result (λ number. from ≤ number) }
+        ensures first { IsSettled self.now.kept
+            → IsFirstFrom (turn_at pass self.now) from result }
     {
         match pass {
             Pass::Reads => self.kept.first_to_read(from),
@@ -146,6 +212,9 @@ impl Turning {
         number: u32,
     ) -> Result<(), Memory>
         ensures calls { Calls N.Links (Visit pass number) links.old links.new }
+        ensures steps { TakesStep pass number (known_over P.Patterns patterns.old patterns.new)
+            (N.trace links.old) self.old result (N.trace links.new) self.new }
+        ensures drains { OnOk result (self.new.to_drain ≡ self.old.to_drain) }
         ensures goes_on { GoOver P.Patterns patterns.old patterns.new }
     {
         match pass {
@@ -158,6 +227,9 @@ impl Turning {
     /// Closes each link, in the order of their numbers.
     pub(crate) fn close_all<N: Links>(&mut self, links: &mut N)
         ensures calls { Calls N.Links (Each MayClose) links.old links.new }
+        ensures closes { (tells : TheOption Pat) (refuses : TheOption (TheList ℕ → Bool)) (count : ℕ)
+            → TakesPass stop_step (known_of tells refuses count count)
+            (N.trace links.old) self.old (Ok tt) (N.trace links.new) self.new }
         ensures none { (n : ℕ) → n < 2 ^ 32 → link_at n (entries_of self.new.kept) ≡ None }
         ensures stopped { self.new.hub.stopped ≡ self.old.hub.stopped }
     {
@@ -174,6 +246,10 @@ impl Turning {
     // Closes a link, and ends its subscription.
     fn close<N: Links>(&mut self, links: &mut N, number: u32)
         ensures calls { Calls N.Links (MayClose number) links.old links.new }
+        ensures closes { ClosesAt number (N.trace links.old) self.old
+            (N.trace links.new) self.new }
+        ensures fed { StaysFed self.old self.new }
+        ensures drains { self.new.to_drain ≡ self.old.to_drain }
         ensures leaves { Leaves number (entries_of self.old.kept) (entries_of self.new.kept) }
         ensures stopped { self.new.hub.stopped ≡ self.old.hub.stopped }
     {
@@ -184,9 +260,29 @@ impl Turning {
         links.close(number);
     }
 
+    // Closes a link whose subscription has ended.
+    fn let_go<N: Links>(&mut self, links: &mut N, number: u32)
+        ensures calls { Calls N.Links (MayClose number) links.old links.new }
+        ensures traced { Continues (N.trace links.old) (N.trace links.new) (λ t.
+            close_made t number) }
+        ensures entries { entries_of self.new.kept ≡ without number (entries_of self.old.kept) }
+        ensures settled { IsSettledBut number self.old.kept → IsSettled self.new.kept }
+        ensures hub { self.new.hub ≡ self.old.hub }
+        ensures config { self.new.config ≡ self.old.config }
+        ensures limits { self.new.limits ≡ self.old.limits }
+        ensures drains { self.new.to_drain ≡ self.old.to_drain }
+    {
+        let _ = self.kept.close(number);
+        links.close(number);
+    }
+
     // Closes a link unless it stays open.
     fn close_ended<N: Links>(&mut self, links: &mut N, number: u32)
-        ensures { Calls N.Links (MayClose number) links.old links.new }
+        ensures calls { Calls N.Links (MayClose number) links.old links.new }
+        ensures settles { SettlesAt number (N.trace links.old) self.old
+            (N.trace links.new) self.new }
+        ensures fed { StaysFed self.old self.new }
+        ensures drains { self.new.to_drain ≡ self.old.to_drain }
     {
         if !self.kept.stays_open(number) {
             self.close(links, number);
@@ -202,6 +298,9 @@ impl Turning {
         number: u32,
     ) -> Result<(), Memory>
         ensures calls { Calls N.Links (Visit Pass.Reads number) links.old links.new }
+        ensures steps { TakesStep Pass.Reads number (known_over P.Patterns patterns.old patterns.new)
+            (N.trace links.old) self.old result (N.trace links.new) self.new }
+        ensures drains { OnOk result (self.new.to_drain ≡ self.old.to_drain) }
         ensures goes_on { GoOver P.Patterns patterns.old patterns.new }
     {
         let mut buf = [0; ROOM];
@@ -230,7 +329,10 @@ impl Turning {
         number: u32,
         piece: &[u8],
     ) -> Result<bool, Memory>
-        ensures { GoOver P.Patterns patterns.old patterns.new }
+        ensures hears { Hears number piece.now (known_over P.Patterns patterns.old patterns.new)
+            self.old result self.new }
+        ensures drains { OnOk result (self.new.to_drain ≡ self.old.to_drain) }
+        ensures goes_on { GoOver P.Patterns patterns.old patterns.new }
     {
         match self.kept.feed(number, piece) {
             Ok(asks) => self.take_asks(patterns, number, asks),
@@ -247,7 +349,10 @@ impl Turning {
         number: u32,
         asks: List<Ask>,
     ) -> Result<bool, Memory>
-        ensures { GoOver P.Patterns patterns.old patterns.new }
+        ensures takes { TakesAll number asks (known_over P.Patterns patterns.old patterns.new)
+            self.old result self.new }
+        ensures drains { OnOk result (self.new.to_drain ≡ self.old.to_drain) }
+        ensures goes_on { GoOver P.Patterns patterns.old patterns.new }
     {
         let mut answers = List::new(self.alloc);
         for ask in asks.into_vec() {
@@ -266,7 +371,10 @@ impl Turning {
         ask: Ask,
         answers: &mut List<Bytes>,
     ) -> Result<bool, Memory>
+        ensures takes { TakesAsk number ask (known_over P.Patterns patterns.old patterns.new)
+            self.old answers.old result self.new answers.new }
         ensures some { OnOk result (NoneEmpty answers.old → NoneEmpty answers.new) }
+        ensures drains { OnOk result (self.new.to_drain ≡ self.old.to_drain) }
         ensures goes_on { GoOver P.Patterns patterns.old patterns.new }
     {
         match ask {
@@ -289,7 +397,10 @@ impl Turning {
     }
 
     // Subscribes a link, unless as many are subscribed as may be.
-    fn subscribe(&mut self, number: u32, query: Query) -> Result<bool, Memory> {
+    fn subscribe(&mut self, number: u32, query: Query) -> Result<bool, Memory>
+        ensures drains { OnOk result (self.new.to_drain ≡ self.old.to_drain) }
+        ensures subscribes { IfOk result (λ goes. SubscribesBy number query self.old goes self.new) }
+    {
         match self.hub.subscribe(query)? {
             Some(id) => {
                 self.kept.begin_sub(number, id)?;
@@ -302,26 +413,40 @@ impl Turning {
     // ---- drains
 
     /// Finds the links whose subscriptions are to be drained.
-    pub(crate) fn find_due(&mut self) -> Result<(), Memory> {
+    pub(crate) fn find_due(&mut self) -> Result<(), Memory>
+        ensures ready { OnOk result (IsReady Pass.Drains self.new) }
+        ensures same { OnOk result (self.new
+            ≡ record self.old { to_drain = self.new.to_drain }) }
+    {
         self.to_drain.clear();
-        for id in self.hub.due() {
-            if let Some(number) = self.kept.to_drain(*id) {
-                self.to_drain.insert(number)?;
-            }
+        find_drains(&self.kept, self.hub.due(), &mut self.to_drain)
+    }
+
+    // The subscription of a link.
+    fn subscription(&self, number: u32) -> Option<SubId>
+        ensures { result ≡ sub_in (option_map (λ link. link.role)
+            (link_at number (entries_of self.now.kept))) }
+    {
+        match self.kept.role(number) {
+            Some(Role::Subscriber(id)) => Some(id),
+            Some(Role::Opening | Role::Feed) | None => None,
         }
-        Ok(())
     }
 
     fn drain<N: Links>(&mut self, links: &mut N, number: u32) -> Result<(), Memory>
-        ensures { Calls N.Links (Visit Pass.Drains number) links.old links.new }
+        ensures calls { Calls N.Links (Visit Pass.Drains number) links.old links.new }
+        ensures steps { (tells : TheOption Pat) (refuses : TheOption (TheList ℕ → Bool)) (count : ℕ)
+            → TakesStep Pass.Drains number (known_of tells refuses count count)
+            (N.trace links.old) self.old result (N.trace links.new) self.new }
+        ensures drains { OnOk result (self.new.to_drain ≡ self.old.to_drain) }
     {
-        let Some(Role::Subscriber(id)) = self.kept.role(number) else {
+        let Some(id) = self.subscription(number) else {
             return Ok(());
         };
         match self.hub.drain(id)? {
             Some(frames) => self.kept.put(number, frames),
             None => {
-                self.close(links, number);
+                self.let_go(links, number);
                 Ok(())
             }
         }
@@ -330,7 +455,11 @@ impl Turning {
     // ---- writes
 
     fn write<N: Links>(&mut self, links: &mut N, number: u32) -> Result<(), Memory>
-        ensures { Calls N.Links (Visit Pass.Writes number) links.old links.new }
+        ensures calls { Calls N.Links (Visit Pass.Writes number) links.old links.new }
+        ensures steps { (tells : TheOption Pat) (refuses : TheOption (TheList ℕ → Bool)) (count : ℕ)
+            → TakesStep Pass.Writes number (known_of tells refuses count count)
+            (N.trace links.old) self.old result (N.trace links.new) self.new }
+        ensures drains { OnOk result (self.new.to_drain ≡ self.old.to_drain) }
     {
         match links.write(number, self.kept.head(number)) {
             Ok(n) => {

@@ -28,3 +28,16 @@ returns-in-Err-Memory-clause-calls g c =
     let at = c.in-Err-Memory in
     none_at g.N.Links old new
     (at_fault (λ fault. poll_made c.args.wait (Err fault)) (g.N.Links.trace old) (g.N.Links.trace new) at.field-0 faults.Memory at.field-0-is at.ensures.traced) at.ensures.cause.later
+
+pub returns-in-Ok-clause-polls : goal.returns-in-Ok-clause-polls
+returns-in-Ok-clause-polls g c = λ trace told. record { grew = c.in-Ok.ensures.traced trace told; fresh = c.in-Ok.ensures.fresh trace told }
+
+pub returns-in-Err-Failed-clause-polls : goal.returns-in-Err-Failed-clause-polls
+returns-in-Err-Failed-clause-polls g c =
+    let at = c.in-Err-Failed in
+    at_fault (λ fault. poll_made c.args.wait (Err fault)) (g.N.Links.trace c.args.links.now) (g.N.Links.trace c.poll.new.self) at.field-0 faults.Failed at.field-0-is at.ensures.traced
+
+pub returns-in-Err-Memory-clause-polls : goal.returns-in-Err-Memory-clause-polls
+returns-in-Err-Memory-clause-polls g c =
+    let at = c.in-Err-Memory in
+    at_fault (λ fault. poll_made c.args.wait (Err fault)) (g.N.Links.trace c.args.links.now) (g.N.Links.trace c.poll.new.self) at.field-0 faults.Memory at.field-0-is at.ensures.traced
