@@ -1,8 +1,9 @@
 //! A server over links: it applies the lines of feeds, and sends each subscriber the frames that bring it up to date.
 //!
 //! Stands on mesh_links for the calls, on link_sessions for the open links, on fed_hub for what is held and who is due, and on
-//! serve_rules for how much one read takes. `server::Server` takes turns, and `serve::serve_top` takes them until one ends the
-//! server; their contracts cite `specs/TurnCalls`, which calls a turn makes and in which order.
+//! serve_rules for what a turn is. `server::Server` takes turns, and `serve::serve_top` takes them until one ends the server; their
+//! contracts cite `specs/Turned` and `specs/Ends`, by which these are turns of serve_rules, and `specs/TurnCalls`, which kinds of
+//! calls a turn makes and in which order.
 #![tactic(auto)]
 
 pub mod serve;
