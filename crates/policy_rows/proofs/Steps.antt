@@ -67,6 +67,11 @@ pub found_through : {A B C : Type 0} (g : A → Option B) (h : B → Option C) (
 found_through g h [] = refl
 found_through g h (x ∷ xs) = through_one h (g x) (filter_map g xs) (filter_map (λ x. option_and_then h (g x)) xs) (found_through g h xs)
 
+-- the same, where the items are seen through a function
+pub found_shown : {X A B : Type 0} (f : A → Option B) (shown : X → A) (xs : List X) → filter_map (λ x. f (shown x)) xs ≡ filter_map f (map shown xs)
+found_shown f shown [] = refl
+found_shown f shown (x ∷ xs) = ap (cons_option (f (shown x))) (found_shown f shown xs)
+
 -- ---- the first of what is found that passes
 
 module _ {A B : Type 0} (g : A → Option B) (p : B → Bool) (xs : List A) (i : ℕ) (x : A) (lt : i < length xs) (at : x ≡ get_or xs i x) (none : find p (filter_map g (take i xs)) ≡ None) where

@@ -1,4 +1,4 @@
-ghost use Rattle.std.specs.Prelude.{◌≡◌, ◌≤◌, ◌+◌, ◌++◌, [], ◌∷◌, IfOk, OnOk, filter_map, flat_map, length, map, option_to_list};
+ghost use Rattle.std.specs.Prelude.{◌≡◌, ◌≤◌, ◌+◌, ◌++◌, [], ◌∷◌, IfOk, OnOk, filter_map, length, map, option_to_list};
 ghost use Rattle.std.specs.FinMap.{get};
 ghost use Rattle.std.specs.Option.{option_copied};
 ghost use Rattle.std.specs.Ordering.{is_eq};
@@ -22,7 +22,7 @@ use view_types::object::Object;
 
 /// The authorizations among which those stand that apply to a Server, in the order of their keys: the ServerAuthorizations of
 /// its namespace, and the AuthorizationPolicies that target the Server or its namespace.
-pub(crate) fn server_candidates<'a, L>(
+pub fn server_candidates<'a, L>(
     alloc: Global,
     store: &'a Store,
     ns: &Text,
@@ -30,12 +30,11 @@ pub(crate) fn server_candidates<'a, L>(
     steps: &mut Steps<L>,
 ) -> Result<Vec<&'a Object>, Memory>
     ensures objects { IfOk result (λ found. map (λ o. o.now) found.items
-        ≡ in_order_by key_cmp key_of
-        (flat_map (λ mark. objects_with store.now.objects (mark ∷ []))
-        (server_authz_marks ns.now name.now))) }
+        ≡ objects_with store.now.objects (server_authz_marks ns.now name.now)) }
     ensures steps { steps.new ≤ steps.old
         + cost store.now.objects (server_authz_marks ns.now name.now) }
 {
+    store.stand_at_keys();
     let in_namespace = server_authz_in(store, ns)?;
     let on_server = policies_on(store, ns, RefKind::Server, name)?;
     let on_namespace = policies_on(store, ns, RefKind::Namespace, ns)?;
@@ -67,7 +66,7 @@ pub(crate) fn route_candidates<'a, L>(
 }
 
 /// Adds the objects that are held at the keys.
-fn add_all<'a, L>(
+pub fn add_all<'a, L>(
     store: &'a Store,
     keys: &[ObjKey],
     found: &mut Vec<&'a Object>,

@@ -7,7 +7,7 @@
 #![tactic(auto)]
 
 pub mod by_mark;
-mod candidates;
+pub mod candidates;
 mod clients;
 pub mod held;
 mod in_order;

@@ -1,6 +1,5 @@
-ghost use Rattle.std.specs.Prelude.{◌≡◌, ◌≤◌, ◌+◌, ◌++◌, ◌&&◌, IfOk, OnOk, filter, if◌then◌else◌, is_some, map, option_and_then, option_to_list};
+ghost use Rattle.std.specs.Prelude.{◌≡◌, ◌≤◌, ◌+◌, ◌++◌, ◌&&◌, IfOk, OnOk, filter, filter_map, map, option_to_list};
 ghost use Rattle.std.specs.Cmp.Lexicographic.{slice_cmp};
-ghost use Rattle.std.specs.FinMap.{get};
 ghost use Rattle.std.specs.List.{list_any};
 ghost use Rattle.std.specs.Option.{option_copied};
 ghost use Rattle.std.specs.Ordering.{is_eq, nat_cmp};
@@ -9,8 +8,9 @@ ghost use Rattle.view_rules.specs.InOrder.{in_order_by};
 ghost use Rattle.view_rules.specs.Routes.{as_route, attached_routes, created_cmp, has_parent, place_of, route_cmp, route_group};
 ghost use Rattle.mark_rules.specs.Reads.{count_at};
 
+use crate::candidates::add_all;
 use crate::parent::Attachment;
-use mesh_base::key::{Kind, ObjKey};
+use mesh_base::key::Kind;
 use mesh_base::memory::Memory;
 use mesh_base::steps::Steps;
 use mesh_base::text::Text;
@@ -35,9 +35,25 @@ pub fn attached_routes<'a, A: Attachment, L>(
         + count_at store.now.objects (A.mark attachment.now ns.now) }
 {
     let keys = attachment.keys(store, ns)?;
+    let mut objects = Vec::new(alloc);
+    add_all(store, keys, &mut objects, steps)?;
+    routes_among(alloc, ns, attachment, objects.as_slice())
+}
+
+/// The routes among these objects that are of the namespace and attached, each once, in that order.
+pub fn routes_among<'a, A: Attachment>(
+    alloc: Global,
+    ns: &Text,
+    attachment: &A,
+    objects: &[&'a Object],
+) -> Result<Vec<&'a Route>, Memory>
+    ensures { IfOk result (λ routes. map (λ route. route.now) routes.items
+        ≡ in_order_by route_cmp place_of (filter (has_parent ns.now (A.is_parent attachment.now))
+        (filter_map as_route (map (λ o. o.now) objects.now)))) }
+{
     let mut routes = Vec::new(alloc);
-    for key in keys {
-        add(&mut routes, route_at(store, key, ns, attachment, steps))?;
+    for object in objects {
+        add(&mut routes, attached_route(*object, ns, attachment))?;
     }
     put_in_order(&mut routes)?;
     Ok(routes)
@@ -51,27 +67,6 @@ fn add<'a>(routes: &mut Vec<&'a Route>, route: Option<&'a Route>) -> Result<(), 
         routes.push(route)?;
     }
     Ok(())
-}
-
-/// The route at the key, if it is attached.
-#[tactic(auto, using(object_store::proofs::Counts::copied_some))]
-fn route_at<'a, A: Attachment, L>(
-    store: &'a Store,
-    key: &ObjKey,
-    ns: &Text,
-    attachment: &A,
-    steps: &mut Steps<L>,
-) -> Option<&'a Route>
-    ensures value { option_to_list (option_copied result)
-        ≡ filter (has_parent ns.now (A.is_parent attachment.now))
-        (option_to_list (option_and_then as_route (get store.now.objects key.now))) }
-    ensures steps { steps.new ≤ steps.old
-        + (if is_some (get store.now.objects key.now) then 1 else 0) }
-{
-    match store.get(key, steps) {
-        Some(object) => attached_route(object, ns, attachment),
-        None => None,
-    }
 }
 
 fn attached_route<'a, A: Attachment>(

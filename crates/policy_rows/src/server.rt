@@ -89,7 +89,8 @@ fn server_at<'a, L>(
     }
 }
 
-fn server_found(found: Option<&Object>) -> Option<&ServerSpec>
+/// The object, if there is one and it is a Server.
+pub fn server_found(found: Option<&Object>) -> Option<&ServerSpec>
     ensures { option_copied result ≡ server_found (option_copied found.entry) }
 {
     match found {

@@ -71,7 +71,6 @@ impl Subject for ServerSpec {
         store: &'a Store,
         steps: &mut Steps<L>,
     ) -> Result<Vec<&'a Object>, Memory> {
-        store.stand_at_keys();
         server_candidates(alloc, store, &self.meta.ns, &self.meta.name, steps)
     }
 }

@@ -7,7 +7,8 @@ use Rattle.view_types.specs.declared.authn.RefKind.TheVariants as ref
 use Rattle.view_types.specs.declared.mark.Mark.TheVariants.{PolicyOn, ServerAuthzIn}
 use Rattle.view_rules.specs.InOrder.{in_order_by}
 use Rattle.mark_rules.proofs.Counts.{objects_count}
-use Rattle.policy_rows.proofs.AmongMarked.{three}
+use Rattle.mark_rules.specs.Reads.{server_authz_marks}
+use Rattle.policy_rows.proofs.AmongMarked.{objects_in_order, three}
 use Rattle.policy_rows.proofs.candidates.server_candidates.Goals as goal
 
 pub returns-clause-objects : goal.returns-clause-objects
@@ -19,6 +20,7 @@ returns-clause-objects g c =
     (map (λ o. o.now) c.new-found.result.items) (map (λ o. o.now) c.add_all.new.found.items) (map (λ o. o.now) c.add_all-2.new.found.items) (map (λ o. o.now) c.add_all-3.new.found.items)
     (ap (map (λ o. o.now)) c.new-found.ensures.items) c.in_ok-add_all.ensures.objects c.in_ok-add_all-2.ensures.objects c.in_ok-add_all-3.ensures.objects
     c.in_ok-in_namespace.ensures c.in_ok-on_server.ensures c.in_ok-on_namespace.ensures)
+    ∙ objects_in_order c.args.store.now.objects c.stand_at_keys.ensures (server_authz_marks c.args.ns.now c.args.name.now)
 
 pub returns-in_err-add_all-clause-steps : goal.returns-in_err-add_all-clause-steps
 returns-in_err-add_all-clause-steps g c =
