@@ -33,7 +33,7 @@ ips_exact (V4 n) (V6 m) e = absurd (less_apart e)
 ips_exact (V6 n) (V4 m) e = absurd (greater_apart e)
 ips_exact (V6 n) (V6 m) e = ap V6 (nat_cmp-IsAntisymmetric n m e)
 
-targets_exact : IsAntisymmetric target_order.TheImpl.cmp-value.it
+pub targets_exact : IsAntisymmetric target_order.TheImpl.cmp-value.it
 targets_exact (Service ns name port) (Service other_ns other other_port) e =
     let first = both_equal (slice_cmp nat_cmp ns other_ns) (ordering_then (slice_cmp nat_cmp name other) (nat_cmp port other_port)) e in
     let rest = both_equal (slice_cmp nat_cmp name other) (nat_cmp port other_port) first.1 in

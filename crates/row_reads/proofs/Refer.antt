@@ -27,7 +27,7 @@ use Rattle.row_reads.specs.declared.references.Reference.TheVariants.{Pods, Back
 
 -- ---- routes
 
-backends_refer : (objects : List Object) → flat_map backends_of (filter_map as_route objects) ≡ flat_map (references Backends) objects
+pub backends_refer : (objects : List Object) → flat_map backends_of (filter_map as_route objects) ≡ flat_map (references Backends) objects
 backends_refer [] = refl
 backends_refer (object.LinkerdRoute route ∷ os) = ap (λ marks. backends_of route ++ marks) (backends_refer os)
 backends_refer (object.GatewayRoute route ∷ os) = ap (λ marks. backends_of route ++ marks) (backends_refer os)

@@ -1,5 +1,5 @@
 // The objects that an object refers to.
-ghost use Rattle.std.specs.Prelude.{◌≡◌, ◌++◌, [], ◌∷◌, OnOk, flat_map};
+ghost use Rattle.std.specs.Prelude.{◌≡◌, ◌++◌, [], ◌∷◌, OnOk, flat_map, map};
 ghost use Rattle.view_types.specs.declared.mark.Mark.TheVariants.{Obj};
 ghost use Rattle.object_store.specs.Held.{key_with};
 ghost use Rattle.view_rules.specs.Endpoints.{has_addresses};
@@ -51,6 +51,21 @@ pub fn add_references(
             _ => Ok(()),
         },
     }
+}
+
+/// Adds the marks of what these objects refer to, in their order.
+pub fn add_all_references(
+    marks: &mut List<Mark>,
+    sort: Reference,
+    objects: &[&Object],
+) -> Result<(), Memory>
+    ensures { OnOk result (marks.new
+        ≡ marks.old ++ flat_map (references sort) (map (λ o. o.now) objects.now)) }
+{
+    for object in objects {
+        add_references(marks, sort, object)?;
+    }
+    Ok(())
 }
 
 /// Adds the mark of a key.

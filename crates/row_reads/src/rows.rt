@@ -316,13 +316,15 @@ fn add_own(alloc: Global, marks: &mut List<Mark>, key: &ObjKey) -> Result<(), Me
     marks.add(Mark::Obj(key.copy(alloc)?))
 }
 
-fn authz_in(ns: &Text) -> Result<Mark, Memory>
+/// The mark of the ServerAuthorizations of a namespace.
+pub fn authz_in(ns: &Text) -> Result<Mark, Memory>
     ensures { IfOk result (λ mark. mark ≡ ServerAuthzIn ns.now) }
 {
     Ok(Mark::ServerAuthzIn(ns.copy()?))
 }
 
-fn policies_on(ns: &Text, target: RefKind, name: &Text) -> Result<Mark, Memory>
+/// The mark of the AuthorizationPolicies of a namespace with this target.
+pub fn policies_on(ns: &Text, target: RefKind, name: &Text) -> Result<Mark, Memory>
     ensures { IfOk result (λ mark. mark ≡ PolicyOn ns.now target name.now) }
 {
     Ok(Mark::PolicyOn(ns.copy()?, target, name.copy()?))

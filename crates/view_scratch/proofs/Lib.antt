@@ -1,6 +1,6 @@
 pub mod Found
 mod PortSteps
 mod ProfileSteps
-mod RouteSteps
+pub mod RouteSteps
 pub mod Rows
 pub mod SliceSteps

@@ -192,7 +192,8 @@ fn inbound_route<L>(
     route_row(from.alloc, route, rules, authz)
 }
 
-fn inbound_rules(alloc: Global, rules: &[Rule]) -> Result<List<RuleRow>, Memory>
+/// What is shown of the rules of a route to those who receive.
+pub fn inbound_rules(alloc: Global, rules: &[Rule]) -> Result<List<RuleRow>, Memory>
     ensures { IfOk result (λ rows. rows ≡ map inbound_rule rules.now) }
 {
     let mut rows = List::new(alloc);

@@ -12,7 +12,7 @@ use view_types::pod::Pod;
 use view_types::service::Service;
 
 /// The port is opaque for the Pod or Service of this metadata.
-pub(crate) fn is_opaque(alloc: Global, meta: &Meta, port: u16) -> Result<bool, Memory>
+pub fn is_opaque(alloc: Global, meta: &Meta, port: u16) -> Result<bool, Memory>
     ensures { IfOk result (λ opaque. opaque ≡ is_within (opaque_ranges meta.now) port) }
 {
     Ok(opaque_ports(alloc, meta)?.holds(port))

@@ -75,7 +75,8 @@ fn to_address<L>(
     }
 }
 
-fn to_pod(
+/// The view of an address that no Service has: the Pod there, if there is one.
+pub fn to_pod(
     alloc: Global,
     config: &Config,
     pod: Option<&Pod>,
@@ -134,7 +135,8 @@ fn outbound_routes<L>(
     route_rows(from, routes.as_slice(), steps)
 }
 
-fn route_rows<L>(
+/// What is shown of these routes to those who send.
+pub fn route_rows<L>(
     from: &Snapshot,
     routes: &[&Route],
     steps: &mut Steps<L>,
