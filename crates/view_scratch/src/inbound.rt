@@ -88,7 +88,8 @@ fn default_row(alloc: Global, config: &Config, pod: &Pod, port: u16) -> Result<S
     })
 }
 
-fn default_protocol(alloc: Global, pod: &Pod, port: u16) -> Result<Protocol, Memory>
+/// The protocol of a Pod's port that no Server selects.
+pub fn default_protocol(alloc: Global, pod: &Pod, port: u16) -> Result<Protocol, Memory>
     ensures { IfOk result (λ protocol. protocol ≡ default_protocol pod.now port) }
 {
     if is_opaque(alloc, &pod.meta, port)? {
@@ -97,7 +98,9 @@ fn default_protocol(alloc: Global, pod: &Pod, port: u16) -> Result<Protocol, Mem
     Ok(Protocol::Unknown)
 }
 
-fn default_policy(config: &Config, pod: &Pod) -> Policy
+/// The policy of a Pod's port that no Server selects: that which the Pod's annotation names, else the
+/// configured one.
+pub fn default_policy(config: &Config, pod: &Pod) -> Policy
     ensures { result ≡ default_policy config.now pod.now }
 {
     match annotated_policy(pod) {

@@ -15,7 +15,7 @@ pub mod inbound;
 pub mod opaque;
 pub mod outbound;
 mod pairs;
-mod pod;
+pub mod pod;
 pub mod profile;
 pub mod scratch;
 pub mod service;

@@ -28,7 +28,7 @@ pub(crate) fn pod_held<'a, L>(
 }
 
 /// The Pod of the namespace and name, if it is held.
-pub(crate) fn pod_named<'a, L>(
+pub fn pod_named<'a, L>(
     store: &'a Store,
     ns: &Text,
     name: &Text,
