@@ -1,7 +1,7 @@
 //! The program: the destination and policy controllers of a Linkerd 2 control plane, over a recorded feed or over links.
 //!
 //! Stands on command_run for what a command does, on serve_core for a server, on mesh_outside for standard input and output, on
-//! mio_edge for sockets, on regex_patterns for the regular expressions of routes, and on run_report for what standard error is told.
+//! mio_edge for sockets, on regex_patterns for the regular expressions of routes, and on run_report and link_report for what standard error is told.
 //! `main` hands the words to `command_run::top::top`, whose contract is that of the program, and runs the server that it configures
 //! by `serve_core::serve::serve_top`.
 #![tactic(auto)]
@@ -19,6 +19,7 @@ use crate::serve::serve;
 use command_run::top::{Outcome, top};
 use command_run::words::words_of;
 use line_run::Status;
+use link_report::LinkScreen;
 use mesh_base::limits::Limits;
 use mesh_base::memory::Memory;
 use mesh_base::text::Text;
@@ -61,6 +62,15 @@ fn progress<'a>(
 fn output_screen(rt: &HostRuntime) -> Option<Stderr> {
     if rt.stdout().is_terminal() {
         screen(rt)
+    } else {
+        None
+    }
+}
+
+// The terminal that shows what goes over the links of a server.
+fn link_screen(rt: &HostRuntime, start: StartTime) -> Option<LinkScreen<&HostRuntime, Stderr>> {
+    if rt.stderr().is_terminal() {
+        Some(LinkScreen::new(rt.alloc(), rt, start, rt.stderr()))
     } else {
         None
     }
@@ -151,6 +161,6 @@ fn main(rt: HostRuntime) -> ExitCode {
     };
     match outcome {
         Outcome::Ended(status) => exit_code(status),
-        Outcome::Serve(server) => serve(&rt, &server),
+        Outcome::Serve(server) => serve(&rt, &server, link_screen(&rt, start)),
     }
 }

@@ -2,15 +2,17 @@
 ghost use Rattle.std.specs.Prelude.{◌≤◌};
 
 use crate::exit::server_code;
+use link_report::{CountedLinks, LinkScreen};
 use mio_edge::mio_links::{ListenFault, MioLinks};
 use regex_patterns::RegexPatterns;
 use run_report::ServerNote;
 use serve_config::ServeConfig;
 use serve_core::serve::{ServeStatus, serve_top};
-use std::io::Eprint;
+use std::io::{Eprint, Write};
 use std::net::Net;
 use std::process::ExitCode;
 use std::sync::Wait;
+use std::time::Clock;
 
 fn tell<R: Eprint>(rt: &R, note: ServerNote<'_>) {
     let _ = eprint!(rt; "{note}");
@@ -30,19 +32,23 @@ fn ended<R: Eprint>(rt: &R, status: ServeStatus) -> ExitCode {
 }
 
 /// Listens, and serves the links that are opened until a feed stops the server. Standard error is told where it listens and how it
-/// ended.
-pub(crate) fn serve<R: Net + Wait + Eprint + AllocGlobal>(rt: &R, server: &ServeConfig) -> ExitCode
+/// ended, and the screen, if there is one, what goes over the links.
+pub(crate) fn serve<R: Net + Wait + Eprint + AllocGlobal, C: Clock + Drop, W: Write + Drop>(
+    rt: &R,
+    server: &ServeConfig,
+    screen: Option<LinkScreen<C, W>>,
+) -> ExitCode
     requires { 1 ≤ server.now.limits.frame_addrs }
 {
     let address = server.address.as_str();
     match MioLinks::listen(rt, rt.alloc(), address) {
-        Ok(mut links) => {
+        Ok(links) => {
             tell(rt, ServerNote::Listening { address });
+            let mut links = CountedLinks::new(links, screen);
             let mut patterns = RegexPatterns::new(rt.alloc());
-            ended(
-                rt,
-                serve_top(rt, rt.alloc(), server, &mut links, &mut patterns),
-            )
+            let status = serve_top(rt, rt.alloc(), server, &mut links, &mut patterns);
+            links.clear();
+            ended(rt, status)
         }
         Err(ListenFault::Memory) => ended(rt, ServeStatus::Memory),
         Err(ListenFault::Failed(error)) => {

@@ -18,7 +18,7 @@ pub(crate) struct Ticks {
 }
 
 impl Ticks {
-    fn new() -> Ticks {
+    pub(crate) fn new() -> Ticks {
         Ticks {
             millis: Cell::new(0),
         }

@@ -1,0 +1,51 @@
+// What is counted of links.
+use std::fmt;
+use std::fmt::{Display, Formatter};
+
+/// What is counted of links. Each count of what went over them stands still at the end of `u64`.
+#[derive(Clone, Copy, PartialEq, Eq)]
+pub struct LinkCounts {
+    /// Those that are open.
+    pub links: u64,
+    /// The open links whose first line names feeds.
+    pub feeds: u64,
+    /// The other open links on which something was written: only a subscription is sent anything.
+    pub subscriptions: u64,
+    /// The lines that were read of feeds.
+    pub lines: u64,
+    /// The frames that were written whole.
+    pub frames: u64,
+}
+
+impl LinkCounts {
+    /// No link was opened.
+    pub const NONE: LinkCounts = LinkCounts {
+        links: 0,
+        feeds: 0,
+        subscriptions: 0,
+        lines: 0,
+        frames: 0,
+    };
+}
+
+fn write_number<W: fmt::Write>(f: &mut Formatter<W>, number: u64, one: &str) -> fmt::Result {
+    if number == 1 {
+        write!(f, "1 {one}")
+    } else {
+        write!(f, "{number} {one}s")
+    }
+}
+
+impl Display for LinkCounts {
+    fn fmt<W: fmt::Write>(&self, f: &mut Formatter<W>) -> fmt::Result {
+        write_number(f, self.links, "link")?;
+        f.write_str(", ")?;
+        write_number(f, self.feeds, "feed")?;
+        f.write_str(", ")?;
+        write_number(f, self.subscriptions, "subscription")?;
+        f.write_str(", ")?;
+        write_number(f, self.lines, "line")?;
+        f.write_str(", ")?;
+        write_number(f, self.frames, "frame")
+    }
+}
