@@ -57,6 +57,8 @@ impl<F: Drop> KeyStreams<F> {
             → has_stream self.new n ≡ (nat_eq n id || has_stream self.old n)) }
         ensures shown { has_stream self.old id ≡ false
             → OnOk result ((now : TheView) → SetsShown now id None self.old self.new) }
+        ensures again { has_stream self.old id ≡ true
+            → (now : TheView) → ShowSame now self.old self.new }
         ensures right { (encode : Option TheView → Option F) (now : TheView)
             → AreRight encode now self.old → AreRight encode now self.new }
         ensures err_open { OnErr result (HasSame self.old self.new) }
@@ -169,6 +171,8 @@ impl<F: Drop> KeyStreams<F> {
         ensures open { HasSame self.old self.new }
         ensures shown { has_stream self.old id ≡ true → OnOk result ((now : TheView) → IsOrderly now
             → now.exists ≡ exists → SetsShown now id (Some now) self.old self.new) }
+        ensures none { has_stream self.old id ≡ false
+            → (now : TheView) → ShowSame now self.old self.new }
         ensures right { (encode : Option TheView → Option F) (now : TheView)
             → AreRight encode now self.old → AreRight encode now self.new }
         ensures err { OnErr result ((now : TheView) → ShowSame now self.old self.new) }
