@@ -20,8 +20,8 @@ use Rattle.mark_rules.specs.declared.keys.EndpointKey.{EndpointKey}
 use Rattle.key_lists.specs.Keys.{has_key, key_at, keys_at}
 use Rattle.endpoint_rows.proofs.KeysAt.{own_key}
 use Rattle.row_table.specs.IndexRows.{HaveSame}
-use Rattle.slice_marks.proofs.Reading.{has_read, one_mark}
-use Rattle.slice_marks.specs.Marked.{Agree, has_any, is_read, marks_at, marks_read}
+use Rattle.slice_marks.proofs.Reading.{has_any, has_read, one_mark}
+use Rattle.slice_marks.specs.Marked.{Agree, is_read, marks_at, marks_read}
 use Rattle.endpoint_index.specs.Given.{own_reads, pods_at}
 use Rattle.endpoint_index.specs.Standing.{marks_in}
 use Rattle.endpoint_index.specs.declared.kept.KeptEndpoints.{KeptEndpoints}

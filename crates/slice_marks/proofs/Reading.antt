@@ -3,7 +3,7 @@ use Rattle.std.proofs.Common.{◌≡◌, Bool, true, false, cond, not, ◌&&◌,
 use Rattle.std.proofs.lemmas.List.Folds.{list_any-append}
 use Rattle.std.specs.BTreeMap as tree
 use Rattle.std.specs.Cmp.{Equal-is}
-use Rattle.std.specs.List.{filter, slice_get}
+use Rattle.std.specs.List.{filter, list_any, slice_get}
 use Rattle.std.specs.Map.{keys_of, lookup}
 use Rattle.std.specs.Option.{is_some}
 use Rattle.std.specs.Ordering.{is_eq}
@@ -16,7 +16,11 @@ use Rattle.mark_rules.specs.Marks.{has_mark, mark_cmp, same_mark}
 use Rattle.mesh_base.specs.declared.key.ObjKey.{ObjKey}
 use Rattle.view_types.specs.declared.mark.Mark.{Mark}
 use Rattle.endpoint_rows.proofs.KeysAt.{own_key}
-use Rattle.slice_marks.specs.Marked.{KeysByMark, OthersStay, has_any, is_read, marks_read}
+use Rattle.slice_marks.specs.Marked.{KeysByMark, OthersStay, is_read, marks_read}
+
+-- whether there is a key
+abbrev pub has_any : List ObjKey → Bool
+has_any keys = list_any (λ key. true) keys
 
 pub one_mark : (m x : Mark) → same_mark m x ≡ true → m ≡ x
 one_mark m x e = marks_exact m x ((Equal-is (mark_cmp m x)).0 e)

@@ -1,7 +1,8 @@
 -- Slices by the marks that their rows read.
-use Rattle.std.specs.Prelude.{◌≡◌, Bool, true, false, List, [], ◌∷◌, Option, Some, None, filter}
+use Rattle.std.specs.Prelude.{◌≡◌, Bool, true, false, List, [], Option, Some, None, filter}
 use Rattle.std.specs.BTreeMap as tree
 use Rattle.std.specs.BTreeMap.{BTreeMap}
+use Rattle.std.specs.List.{list_any}
 use Rattle.key_lists.specs.Keys.{key_at, keys_at}
 use Rattle.mark_rules.specs.Marks.{has_mark, mark_cmp}
 use Rattle.mesh_base.specs.KeyOrder.{key_cmp}
@@ -29,13 +30,9 @@ pub record Agree (s : SliceMarks) : Type 0 where
 
 -- ---- which marks are read
 
-abbrev pub has_any : List ObjKey → Bool
-has_any [] = false
-has_any (k ∷ keys) = true
-
 -- a slice reads the mark
 abbrev pub is_read : KeysByMark → Mark → Bool
-is_read by mark = has_any (keys_at mark_cmp by mark)
+is_read by mark = list_any (λ key. true) (keys_at mark_cmp by mark)
 
 -- the marks that slices read
 abbrev pub marks_read : KeysByMark → List Mark

@@ -1,6 +1,5 @@
 use Rattle.std.proofs.Common.{Some, None, ap, ◌∙◌}
-use Rattle.slice_marks.proofs.Reading.{first_any}
-use Rattle.slice_marks.specs.Marked.{has_any}
+use Rattle.slice_marks.proofs.Reading.{first_any, has_any}
 use Rattle.slice_marks.proofs.slices.SliceMarks.is_read.Goals as goal
 
 pub returns-in-Some : goal.returns-in-Some
