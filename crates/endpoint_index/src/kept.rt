@@ -1,5 +1,6 @@
 // What is kept of the endpoints of a port.
-ghost use Rattle.std.specs.Prelude.{◌≡◌, ◌≤◌, ◌+◌, ◌++◌, ◌∷◌, true, false, IfOk, OnOk};
+ghost use Rattle.std.specs.Prelude.{◌≡◌, ◌≤◌, ◌+◌, ◌-◌, ◌^◌, ◌++◌, ◌∷◌, true, false, min, IfOk, OnOk};
+ghost use Rattle.std.specs.BTreeMap.{btree_map_len};
 ghost use Rattle.std.specs.List.{flat_map};
 ghost use Rattle.std.specs.Option.{option_copied};
 ghost use Rattle.view_types.specs.Objects.{ObjectMap};
@@ -56,7 +57,9 @@ impl KeptEndpoints {
     }
 
     /// How many marks the endpoints read, about.
-    fn count(&self) -> usize {
+    fn count(&self) -> usize
+        ensures { result ≡ min (btree_map_len self.now.slices.read.by_mark + 2) (2 ^ 64 - 1) }
+    {
         self.slices.read.count().saturating_add(2)
     }
 }
