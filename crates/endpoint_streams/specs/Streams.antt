@@ -1,5 +1,5 @@
--- Streams of endpoints: what is at each id, which streams a change touches, and what a subscriber is sent.
-use Rattle.std.specs.Prelude.{◌≡◌, ℕ, nat_eq, Bool, false, List, [], Option, Some, None, Result, Ok, if◌then◌else◌, option_map}
+-- Streams of endpoints: which of them a change touches, and what a subscriber is sent.
+use Rattle.std.specs.Prelude.{ℕ, Bool, false, List, [], Option, Some, None, Result, Ok, option_map}
 use Rattle.mesh_base.specs.declared.limits.Limits.{Limits}
 use Rattle.view_types.specs.Objects.{ObjectMap}
 use Rattle.view_types.specs.declared.config.Config.{Config}
@@ -12,18 +12,6 @@ use Rattle.mark_rules.specs.Rows.{endpoint_row}
 use Rattle.mark_rules.specs.declared.keys.EndpointKey.{EndpointKey}
 use Rattle.feed_history.specs.Drains.{frames_within}
 use Rattle.feed_history.specs.declared.refusal.HubFault.{HubFault}
-
--- ---- what is at each id
-
--- this is at the id, and at each other id what was
-abbrev pub SetsAt : {X : Type 0} → ℕ → X → (ℕ → X) → (ℕ → X) → Type 0
-SetsAt id value old new = (n : ℕ) → new n ≡ (if nat_eq n id then value else old n)
-
--- each id has what it had
-abbrev pub Keeps : {X : Type 0} → (ℕ → X) → (ℕ → X) → Type 0
-Keeps old new = (id : ℕ) → new id ≡ old id
-
--- ---- what a stream shows
 
 -- the endpoints of a key over the objects held, if there is a key
 abbrev pub endpoints_at : Config → ObjectMap → Option EndpointKey → Option EndpointView

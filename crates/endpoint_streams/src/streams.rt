@@ -8,7 +8,8 @@ ghost use Rattle.mark_rules.specs.Reads.{cost, endpoint_reads};
 ghost use Rattle.mark_rules.specs.declared.keys.EndpointKey.{EndpointKey as TheKey};
 ghost use Rattle.mesh_base.specs.declared.limits.Limits.{Limits};
 ghost use Rattle.feed_history.specs.Drains.{IsOrMemory};
-ghost use Rattle.endpoint_streams.specs.Streams.{Keeps, SetsAt, endpoints_at, frames_to, is_met};
+ghost use Rattle.row_views.specs.Ids.{Keeps, SetsAt};
+ghost use Rattle.endpoint_streams.specs.Streams.{endpoints_at, frames_to, is_met};
 
 use bytes::Bytes;
 use feed_history::refusal::HubFault;

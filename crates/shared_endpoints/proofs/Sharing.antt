@@ -13,7 +13,8 @@ use Rattle.endpoint_groups.proofs.Moving.{same_number}
 use Rattle.key_streams.specs.declared.streams.KeyStreams.{KeyStreams}
 use Rattle.key_streams.specs.Streams.{AreRight, HasSame, SetsShown, has_stream, shown_for}
 use Rattle.row_table.proofs.Keys.{is_itself, tells}
-use Rattle.shared_endpoints.specs.Sharing.{AreRightAt, AreShared, AreTied, ChangedAt, ChangesAt, HasOneAt, LeftAt, OthersHaveOne, PutsStreams, has_at, is_key, shown_at, shown_by}
+use Rattle.shared_endpoints.specs.Sharing.{AreRightAt, AreShared, AreTied, ChangedAt, ChangesAt, HasOneAt, LeftAt, OthersHaveOne, PutsStreams, has_at, shown_at, shown_by}
+use Rattle.row_views.specs.Ids.{is_key}
 
 module _ {F : Type 0} where
   pub some_at : (o : Option (KeyStreams F)) (id : ℕ) → has_at o id ≡ true → is_some o ≡ true

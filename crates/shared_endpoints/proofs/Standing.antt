@@ -35,8 +35,9 @@ use Rattle.feed_history.specs.declared.refusal.HubFault.{HubFault}
 use Rattle.endpoint_groups.proofs.Entering.{itself}
 use Rattle.endpoint_groups.proofs.Moving.{same_number}
 use Rattle.key_streams.specs.Streams.{AreRight, HasSame, SetsShown, ShowSame, has_stream, shown_for}
-use Rattle.shared_endpoints.specs.ByKey.{Joined, JoinedAt, JoinsAt, LeavesAt, SetsAt, Streams, key_at, key_cmp, streams_at}
-use Rattle.shared_endpoints.specs.Sharing.{AreRightAt, ChangesAt, HasOneAt, LeftAt, OthersHaveOne, encoding, has_at, is_key, shown_by}
+use Rattle.row_views.specs.Ids.{is_key, key_at}
+use Rattle.shared_endpoints.specs.ByKey.{Joined, JoinedAt, JoinsAt, LeavesAt, SetsAt, Streams, key_cmp, streams_at}
+use Rattle.shared_endpoints.specs.Sharing.{AreRightAt, ChangesAt, HasOneAt, LeftAt, OthersHaveOne, encoding, has_at, shown_by}
 use Rattle.shared_endpoints.specs.Standing.{AllHaveOne, HasOneUser, IsIndexed, Standing, StandsExactly, index_stands, key_of_id, row_at, shown_now, shown_of, users}
 use Rattle.shared_endpoints.specs.declared.shared.SharedEndpoints.{SharedEndpoints}
 use Rattle.shared_endpoints.proofs.ByKey.{key_exact, key_total}

@@ -1,7 +1,7 @@
 -- Facts of streams that stand for something, of which it isn't said how they do.
-use Rattle.std.proofs.Common.{◌≡◌, ℕ, Bool, List, Option, Some, Result, Ok, Err, subst, sym}
-use Rattle.std.proofs.Math.Logic.{∥∥₁_elim, ∥∥₁_prop}
-use Rattle.std.specs.Coded.{Coded, Coded-set, Unit-prop, codes, coded_bool}
+use Rattle.std.proofs.Common.{◌≡◌, ℕ, List, Option, Some, Result, Ok, Err, subst, sym}
+use Rattle.std.proofs.Math.Logic.{∥∥₁_elim}
+use Rattle.std.specs.Coded.{Coded, Coded-set, Unit-prop, codes}
 use Rattle.feed_history.specs.Drains.{IsOrMemory}
 use Rattle.feed_history.specs.contracts.refusal.HubFault as the_fault
 use Rattle.feed_history.specs.declared.refusal.HubFault.{HubFault}
@@ -14,15 +14,11 @@ use Rattle.view_types.specs.Objects.{ObjectMap}
 use Rattle.view_types.specs.declared.config.Config.{Config}
 use Rattle.view_types.specs.contracts.endpoint.EndpointView as the_view
 use Rattle.view_types.specs.declared.endpoint.EndpointView.{EndpointView}
-
-pub map_truncated : {A B : Type 0} → ∥ A ∥₁ → (A → B) → ∥ B ∥₁
-map_truncated a f = ∥∥₁_elim a ∥∥₁_prop (λ a. ∣ f a ∣₁)
+use Rattle.shared_endpoints.specs.Standing.{HasOneUser}
+use Rattle.shared_endpoints.specs.declared.shared.SharedEndpoints.{SharedEndpoints}
 
 pub same_views : {A : Type 0} (a b : Option EndpointView) → ∥ A ∥₁ → (A → a ≡ b) → a ≡ b
 same_views a b t f = let coded : Coded (Option EndpointView) = hlevel (codes, the_view.the_row.coded) in ∥∥₁_elim t (Coded-set coded a b) f
-
-pub same_tests : {A : Type 0} (a b : Bool) → ∥ A ∥₁ → (A → a ≡ b) → a ≡ b
-same_tests a b t f = ∥∥₁_elim t (Coded-set coded_bool a b) f
 
 abbrev Frames : Type 0
 Frames = Result (List (List ℕ)) HubFault
@@ -44,6 +40,9 @@ or_memory expected (Err (Oversize bytes)) = same_frames (Err (Oversize bytes)) e
 
 pub frames_or_memory : {A : Type 0} (expected result : Frames) → ∥ A ∥₁ → (A → IsOrMemory expected result) → IsOrMemory expected result
 frames_or_memory expected result t f = ∥∥₁_elim t (or_memory expected result) f
+
+pub one_user_prop : (s : SharedEndpoints) (key : EndpointKey) → IsProp (HasOneUser s key)
+one_user_prop s key = hlevel (codes)
 
 -- the endpoints now are in order, where they are those of a key
 pub orderly_now : (orderly : EndpointsAreOrderly) (now : EndpointView) (config : Config) (held : ObjectMap) (key : EndpointKey) → Some now ≡ Some (endpoint_row config held key) → IsOrderly now

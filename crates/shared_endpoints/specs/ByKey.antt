@@ -2,7 +2,7 @@
 use Rattle.std.specs.Prelude.{◌≡◌, ◌||◌, ℕ, nat_eq, false, List, Option, Some, None, if◌then◌else◌, is_some}
 use Rattle.std.specs.BTreeMap as tree
 use Rattle.std.specs.BTreeMap.{BTreeMap}
-use Rattle.std.specs.Ordering.{eq_by_cmp, nat_cmp}
+use Rattle.std.specs.Ordering.{eq_by_cmp}
 use Rattle.std.specs.declared.cmp.Ordering.{Ordering}
 use Rattle.view_types.specs.declared.endpoint.EndpointView.{EndpointView}
 use Rattle.mark_rules.specs.contracts.keys.EndpointKeyOrd as key_order
@@ -20,9 +20,6 @@ key_cmp = key_order.TheImpl.cmp-value.it
 
 abbrev pub streams_at : BTreeMap EndpointKey Streams → EndpointKey → Option Streams
 streams_at by_key key = tree.get key_cmp by_key key
-
-abbrev pub key_at : BTreeMap ℕ EndpointKey → ℕ → Option EndpointKey
-key_at by_id id = tree.get nat_cmp by_id id
 
 -- ---- what becomes of the streams of a key
 

@@ -10,6 +10,7 @@ use Rattle.view_types.specs.declared.endpoint.EndpointView.{EndpointView}
 use Rattle.feed_history.specs.Drains.{frames_within}
 use Rattle.key_streams.specs.declared.streams.KeyStreams.{KeyStreams}
 use Rattle.key_streams.specs.Streams.{AreRight, HasSame, has_stream, shown_for}
+use Rattle.row_views.specs.Ids.{is_key}
 
 module _ {F : Type 0} where
   -- the id has one of the streams of a key, if it has any
@@ -54,15 +55,10 @@ module _ {F : Type 0} where
     pub right : (encode : Option EndpointView → Option F) (now : EndpointView) → AreRightAt encode now old → AreRightAt encode now new
 
 module _ {Key : Type 0} (cmp : Key → Key → Ordering) where
-  -- it is this key
-  abbrev pub is_key : Key → Option Key → Bool
-  is_key key None = false
-  is_key key (Some k) = eq_by_cmp cmp key k
-
   module _ {F : Type 0} where
     -- each stream is one of its key
     abbrev pub AreTied : (Key → Option (KeyStreams F)) → (ℕ → Option Key) → Type 0
-    AreTied streams key_of = (key : Key) (id : ℕ) → has_at (streams key) id ≡ is_key key (key_of id)
+    AreTied streams key_of = (key : Key) (id : ℕ) → has_at (streams key) id ≡ is_key cmp key (key_of id)
 
     -- Each stream is one of its key, and what is kept as the encoding of messages to the endpoints of a key is that.
     pub record AreShared (encode : EndpointView → Option EndpointView → Option F) (row : Key → EndpointView) (streams : Key → Option (KeyStreams F)) (key_of : ℕ → Option Key) : Type 0 where

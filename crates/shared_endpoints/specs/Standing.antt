@@ -10,8 +10,9 @@ use Rattle.mark_rules.specs.Rows.{endpoint_row}
 use Rattle.mark_rules.specs.declared.keys.EndpointKey.{EndpointKey}
 use Rattle.endpoint_index.specs.contracts.index.EndpointIndexRowIndex.TheImpl.{ghosts as the_index}
 use Rattle.endpoint_index.specs.declared.index.EndpointIndex.{EndpointIndex}
-use Rattle.shared_endpoints.specs.ByKey.{Streams, key_at, key_cmp, streams_at}
-use Rattle.shared_endpoints.specs.Sharing.{AreShared, HasOneAt, encoding, is_key, shown_at}
+use Rattle.row_views.specs.Ids.{is_key, key_at}
+use Rattle.shared_endpoints.specs.ByKey.{Streams, key_cmp, streams_at}
+use Rattle.shared_endpoints.specs.Sharing.{AreShared, HasOneAt, encoding, shown_at}
 use Rattle.shared_endpoints.specs.declared.shared.SharedEndpoints.{SharedEndpoints}
 
 abbrev pub index_stands : EndpointIndex → ObjectMap → Type 0

@@ -41,11 +41,12 @@ impl SharedEndpoints {
     ghost use Rattle.view_types.specs.Objects.{ObjectMap};
     ghost use Rattle.view_types.specs.declared.config.Config.{Config as TheConfig};
     ghost use Rattle.mark_rules.specs.Reads.{cost, endpoint_reads};
+    ghost use Rattle.mark_rules.specs.declared.keys.EndpointKey.{EndpointKey as TheKey};
     ghost use Rattle.mesh_base.specs.declared.limits.Limits.{Limits as TheLimits};
-    ghost use Rattle.endpoint_streams.specs.Streams.{SetsAt};
+    ghost use Rattle.row_views.specs.Ids.{SetsAt};
     ghost use Rattle.shared_endpoints.specs.ByKey.{key_cmp, streams_at};
     ghost use Rattle.shared_endpoints.specs.Sharing.{OthersHaveOne};
-    ghost use Rattle.shared_endpoints.specs.Standing.{AllHaveOne, Stands, key_of_id, shown_to_id};
+    ghost use Rattle.shared_endpoints.specs.Standing.{AllHaveOne, HasOneUser, Stands, key_of_id, shown_to_id};
 
     /// No streams, whose messages are made within these limits.
     pub fn new(alloc: Global, config: &Config, limits: &Limits) -> Result<SharedEndpoints, Memory>
@@ -63,6 +64,13 @@ impl SharedEndpoints {
             alloc,
         })
     }
+
+    /// A key has one user of its endpoints while a stream of it is open, and none otherwise.
+    pub fn keys_have_one_user(&self)
+        ensures { (config : TheConfig) (limits : TheLimits) (held : ObjectMap)
+            → ⟦<SharedEndpoints as EndpointStreams>⟧.stands self.now config limits held
+            → (key : TheKey) → HasOneUser self.now key }
+    {}
 
     // Makes room for streams of a key, if it has none.
     fn enter<L>(

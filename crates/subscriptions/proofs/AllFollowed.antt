@@ -16,7 +16,8 @@ use Rattle.mark_rules.specs.Reads.{endpoint_reads}
 use Rattle.mark_rules.specs.Rows.{endpoint_row}
 use Rattle.mark_rules.specs.declared.keys.EndpointKey.{EndpointKey}
 use Rattle.mark_rules.proofs.MarkTests.{neither_first, neither_second}
-use Rattle.endpoint_streams.specs.Streams.{Keeps, is_met}
+use Rattle.endpoint_streams.specs.Streams.{is_met}
+use Rattle.row_views.specs.Ids.{Keeps}
 use Rattle.row_views.specs.Queries.{reads_one, row_query}
 use Rattle.watch_events.specs.declared.event.Event.{Event}
 use Rattle.feed_history.specs.Due.{is_touched, marks_of_event}

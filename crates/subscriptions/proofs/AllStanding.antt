@@ -16,7 +16,8 @@ use Rattle.view_rules.specs.Batch.{batch}
 use Rattle.view_rules.specs.Views.{view_of}
 use Rattle.mark_rules.specs.Rows.{endpoint_row}
 use Rattle.mark_rules.specs.declared.keys.EndpointKey.{EndpointKey}
-use Rattle.endpoint_streams.specs.Streams.{Keeps, SetsAt, endpoints_at, frames_to}
+use Rattle.endpoint_streams.specs.Streams.{endpoints_at, frames_to}
+use Rattle.row_views.specs.Ids.{Keeps, SetsAt}
 use Rattle.feed_history.specs.Drains.{frames_within}
 use Rattle.feed_history.specs.Ids.{in_place}
 use Rattle.feed_history.proofs.Placed.{found_has_id}

@@ -14,7 +14,7 @@ use Rattle.view_types.specs.declared.query.Query.{Query}
 use Rattle.view_types.specs.declared.view.View.{View}
 use Rattle.view_types.specs.declared.view.View.TheVariants.{Endpoints}
 use Rattle.mark_rules.specs.declared.keys.EndpointKey.{EndpointKey}
-use Rattle.endpoint_streams.specs.Streams.{SetsAt}
+use Rattle.row_views.specs.Ids.{SetsAt}
 use Rattle.feed_history.specs.Ids.{ended, in_place}
 use Rattle.row_views.specs.Queries.{row_query}
 use Rattle.subscriptions.specs.Live.{AreBelow, IdsRise, LiveSubscription, endpoint_key, id_of, key_at, row_query_at, showing, shown_by, shown_in_place, sub_at, subs_of, with_endpoints}

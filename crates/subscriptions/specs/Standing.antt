@@ -15,7 +15,7 @@ use Rattle.mark_rules.specs.Rows.{endpoint_row}
 use Rattle.mark_rules.specs.declared.keys.EndpointKey.{EndpointKey}
 use Rattle.watch_events.specs.Lawful.{IsLawfulEvent}
 use Rattle.watch_events.specs.declared.event.Event.{Event}
-use Rattle.endpoint_streams.specs.Streams.{Keeps, SetsAt}
+use Rattle.row_views.specs.Ids.{Keeps, SetsAt}
 use Rattle.row_views.specs.Queries.{row_query}
 use Rattle.feed_history.specs.Due.{is_touched, marks_of_event}
 use Rattle.feed_history.specs.Events.{objects_after}

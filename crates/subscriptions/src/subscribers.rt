@@ -11,7 +11,7 @@ ghost use Rattle.view_rules.specs.Views.{view_of};
 ghost use Rattle.feed_history.specs.Drains.{IsOrMemory, frames_within};
 ghost use Rattle.feed_history.specs.Ids.{ended, in_place};
 ghost use Rattle.watch_events.specs.declared.event.Event.{Event};
-ghost use Rattle.endpoint_streams.specs.Streams.{SetsAt};
+ghost use Rattle.row_views.specs.Ids.{SetsAt};
 ghost use Rattle.row_views.specs.Queries.{view_at};
 ghost use Rattle.subscriptions.specs.DueIds.{Rises, is_among};
 ghost use Rattle.subscriptions.specs.Live.{AreBelow, LiveSubscription, endpoint_key, id_of, key_at, row_query_at, shown_in_place, sub_at, subs_of};

@@ -1,6 +1,6 @@
 use Rattle.std.proofs.Common.{Some, ◌∙◌, ap, cond}
 use Rattle.key_streams.proofs.Counts.{at_id}
-use Rattle.shared_endpoints.specs.ByKey.{key_at}
+use Rattle.row_views.specs.Ids.{key_at}
 use Rattle.shared_endpoints.proofs.Standing.{adds, join_each}
 use Rattle.shared_endpoints.proofs.shared.SharedEndpoints.add.Goals as goal
 

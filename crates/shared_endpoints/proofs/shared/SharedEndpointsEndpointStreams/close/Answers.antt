@@ -1,9 +1,11 @@
 use Rattle.std.proofs.Common.{◌≡◌, None, Some, ap, cond, rules, sym, ◌∙◌}
 use Rattle.key_streams.proofs.Counts.{at_id}
-use Rattle.shared_endpoints.specs.ByKey.{SetsAt, key_at}
+use Rattle.row_views.specs.Ids.{key_at}
+use Rattle.shared_endpoints.specs.ByKey.{SetsAt}
 use Rattle.shared_endpoints.proofs.ByKey.{turned_puts}
 use Rattle.shared_endpoints.proofs.Standing.{last_each, last_keeps, last_stands, leave_each, leave_keeps, leave_stands, unset_keeps, unset_stands}
-use Rattle.shared_endpoints.proofs.Truncated.{map_truncated, same_views}
+use Rattle.row_views.proofs.Truncated.{map_truncated}
+use Rattle.shared_endpoints.proofs.Truncated.{same_views}
 use Rattle.shared_endpoints.proofs.shared.SharedEndpointsEndpointStreams.close.Goals as goal
 
 pub returns-in_default-clause-stands : goal.returns-in_default-clause-stands

@@ -1,11 +1,13 @@
 use Rattle.std.proofs.Common.{◌≡◌, None, Some, rules, sym, ◌∙◌}
 use Rattle.mark_rules.specs.Rows.{endpoint_row}
 use Rattle.endpoint_streams.specs.Streams.{endpoints_at, frames_to}
-use Rattle.shared_endpoints.specs.ByKey.{SetsAt, key_at, streams_at}
+use Rattle.row_views.specs.Ids.{key_at}
+use Rattle.shared_endpoints.specs.ByKey.{SetsAt, streams_at}
 use Rattle.shared_endpoints.specs.Standing.{key_of_id, row_at, shown_to_id}
 use Rattle.shared_endpoints.proofs.ByKey.{err_then, ok_when, puts_one}
 use Rattle.shared_endpoints.proofs.Standing.{drain_each, drain_fails, has_row, has_some, now_frames, now_sets, now_stands, row_there}
-use Rattle.shared_endpoints.proofs.Truncated.{frames_or_memory, map_truncated, orderly_now, same_results, same_views}
+use Rattle.row_views.proofs.Truncated.{map_truncated}
+use Rattle.shared_endpoints.proofs.Truncated.{frames_or_memory, orderly_now, same_results, same_views}
 use Rattle.shared_endpoints.proofs.shared.SharedEndpointsEndpointStreams.drain.Goals as goal
 
 pub returns-in_default-clause-stands : goal.returns-in_default-clause-stands

@@ -8,7 +8,8 @@ use Rattle.shared_endpoints.specs.Sharing.{ChangesAt, has_at}
 use Rattle.shared_endpoints.proofs.ByKey.{if_then, key_exact, key_total, ok_then}
 use Rattle.shared_endpoints.proofs.Sharing.{changed_have}
 use Rattle.shared_endpoints.proofs.Standing.{follow_keeps, follow_stands, follow_touches}
-use Rattle.shared_endpoints.proofs.Truncated.{map_truncated, same_tests, same_views}
+use Rattle.row_views.proofs.Truncated.{map_truncated, same_tests}
+use Rattle.shared_endpoints.proofs.Truncated.{same_views}
 use Rattle.shared_endpoints.proofs.shared.SharedEndpointsEndpointStreams.follow.Goals as goal
 
 pub returns-clause-stands : goal.returns-clause-stands

@@ -1,6 +1,7 @@
 use Rattle.std.proofs.Common.{None, ap, cond, nat_eq, ◌∙◌}
 use Rattle.shared_endpoints.proofs.ByKey.{ok_if, ok_then}
-use Rattle.shared_endpoints.proofs.Truncated.{map_truncated, same_views}
+use Rattle.row_views.proofs.Truncated.{map_truncated}
+use Rattle.shared_endpoints.proofs.Truncated.{same_views}
 use Rattle.shared_endpoints.proofs.shared.SharedEndpointsEndpointStreams.open.Goals as goal
 
 pub returns-clause-stands : goal.returns-clause-stands
