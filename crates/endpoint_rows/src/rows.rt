@@ -97,6 +97,7 @@ impl EndpointRows {
     pub fn settle(&mut self) -> Result<(), Memory>
         ensures keeps { Keeps self.old → OnOk result (Keeps self.new) }
         ensures slices { self.new.slices ≡ self.old.slices }
+        ensures touched { OnOk result (self.new.touched ≡ []) }
         ensures view { Keeps self.old → OnOk result (self.new.view ≡ record {
           exists = self.old.view.exists;
           rows = first_rows (all_rows self.old.slices.by_slice);
