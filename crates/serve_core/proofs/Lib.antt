@@ -19,9 +19,11 @@ pub mod KeptLinks
 pub mod KeptTests
 pub mod LinesHeard
 pub mod LinkTurns
+pub mod MadeCalls
 pub mod NewLinks
 pub mod NoneLeft
 pub mod Noted
+pub mod Numbers
 pub mod OpenAfter
 pub mod OpenOnes
 pub mod OpenTraces
@@ -35,6 +37,7 @@ pub mod ReadSteps
 pub mod Reading
 pub mod Replaced
 pub mod Roles
+pub mod RunParts
 pub mod ServeRuns
 pub mod ServedLinks
 pub mod Settles

@@ -19,7 +19,7 @@ use Rattle.serve_core.proofs.OpenTraces.{last_then, open_then}
 
 -- ---- events
 
-rises : (last : ℕ) (shown : List LinkEvent) → last ≤ last_of_events last shown
+pub rises : (last : ℕ) (shown : List LinkEvent) → last ≤ last_of_events last shown
 rises last [] = omega arith
 rises last (events.New n ∷ more) = let rest = rises (max last n) more in omega (arith, rest)
 rises last (events.Readable n ∷ more) = rises last more

@@ -2,6 +2,7 @@
 use Rattle.std.proofs.Common.{◌≡◌, ◌≤◌, Bool, false, not, List, [], ◌∷◌, ◌++◌, Option, Some, None, Result, Ok, Err, refl, sym, ap, ◌∙◌, subst, append_assoc, append-nil}
 use Rattle.mesh_base.specs.declared.limits.Limits.{Limits}
 use Rattle.mesh_base.specs.declared.memory.Memory.{Memory}
+use Rattle.mesh_links.specs.Calls.{last_in}
 use Rattle.mesh_links.specs.declared.call.LinkCall.{LinkCall}
 use Rattle.mesh_links.specs.declared.call.LinkCall.TheVariants as calls
 use Rattle.mesh_links.specs.declared.call.LinkEvent.{LinkEvent}
@@ -10,6 +11,7 @@ use Rattle.route_match.specs.Matching.{Pat}
 use Rattle.feed_history.specs.KnownPatterns.{PatternsNow, facts_in}
 use Rattle.feed_history.specs.MarkCauses.{AreFair}
 use Rattle.serve_rules.specs.FedLines.{FedRow, rows_fed, serve_of}
+use Rattle.serve_rules.specs.LinkOrder.{AreAboveIn}
 use Rattle.serve_rules.specs.LinkStates.{LinkState}
 use Rattle.serve_rules.specs.Traces.{opened, waits}
 use Rattle.serve_rules.specs.Turns.{calls_of}
@@ -59,6 +61,8 @@ module _ (known : PatternsNow) (traced : Option (List LinkCall)) (old : Turning)
         few = few_none known.before known.now later;
         cut = λ told. record {
           round = some.round;
+          polled = λ none. refl;
+          fresh = subst (λ shown. AreAboveIn (last_in trace) shown) (sym some.showed) tt;
           more = calls_of some.round;
           rest = [];
           unmarked = tt;
@@ -91,6 +95,9 @@ module _ (known : PatternsNow) (traced : Option (List LinkCall)) (old : Turning)
               let follows = rest.follows told in
               record {
                 round = record { waited = wait; shown = Some shown; made = rest.made; fed = rest.lines ++ fed; links = follows.after };
+                shown = shown;
+                polled = refl;
+                fresh = poll.fresh;
                 calls_are = refl;
                 fed_is = refl;
                 next = record { turn = follows.is; wait = same; fair = rest.fair stands.fair };
@@ -115,6 +122,8 @@ module _ (known : PatternsNow) (traced : Option (List LinkCall)) (old : Turning)
               let follows = rest.follows told in
               record {
                 round = record { waited = wait; shown = Some shown; made = rest.made ++ follows.more; fed = follows.rest ++ (rest.lines ++ fed); links = follows.after };
+                polled = λ none. absurd cc;
+                fresh = poll.fresh;
                 more = follows.more;
                 rest = follows.rest;
                 unmarked = follows.unmarked;

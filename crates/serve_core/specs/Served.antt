@@ -22,7 +22,6 @@ use Rattle.serve_rules.specs.LinkStates.{LinkState, is_due, query_of}
 use Rattle.fed_hub.specs.LineSteps.{touches_by}
 use Rattle.fed_hub.specs.declared.hub.FedHub.{FedHub}
 use Rattle.serve_core.specs.Linked.{Keeps, KeepsBut}
-use Rattle.serve_core.specs.declared.server.Server.{Server}
 use Rattle.serve_core.specs.declared.turning.Turning.{Turning}
 
 -- A line touches a query if it is an accepted event of which the query read a mark before it.
@@ -106,8 +105,3 @@ pub record IsAtBut (config : Config) (limits : Limits) (pat : Pat) (fed : List F
   pub id_of : ℕ → ℕ
   pub is : IsNearly config limits pat fed links trace id_of now
   pub keeps : KeepsBut (serving_of config limits pat) id_of number links now.kept
-
--- A server that is not spent stands for the lines fed and the open links to which a trace leads.
-pub record Serves (config : Config) (limits : Limits) (pat : Pat) (fed : List FedRow) (links : List LinkState) (trace : List LinkCall) (server : Server) : Type 0 where
-  pub going : server.spent ≡ false
-  pub turning : IsAt config limits pat fed links trace server.turning

@@ -3,6 +3,7 @@ use Rattle.std.specs.Prelude.{◌≡◌, false, List, [], ◌∷◌, ◌++◌, O
 use Rattle.std.specs.List.{list_any}
 use Rattle.mesh_base.specs.declared.limits.Limits.{Limits}
 use Rattle.mesh_base.specs.declared.memory.Memory.{Memory}
+use Rattle.mesh_links.specs.Calls.{AreNew, last_in}
 use Rattle.mesh_links.specs.declared.call.LinkCall.{LinkCall}
 use Rattle.mesh_links.specs.declared.call.LinkCall.TheVariants as calls
 use Rattle.mesh_links.specs.declared.call.LinkEvent.{LinkEvent}
@@ -13,6 +14,7 @@ use Rattle.feed_history.specs.MarkCauses.{AreFair, IsTold}
 use Rattle.feed_history.specs.Marks.{AreFew}
 use Rattle.serve_rules.specs.Batches.{Serving}
 use Rattle.serve_rules.specs.FedLines.{FedRow, is_stop, rows_fed, serve_of}
+use Rattle.serve_rules.specs.LinkOrder.{AreAboveIn}
 use Rattle.serve_rules.specs.LinkStates.{LinkState}
 use Rattle.serve_rules.specs.TraceExtension.{IsNext}
 use Rattle.serve_rules.specs.Traces.{StandsFor, opened, waits}
@@ -120,9 +122,13 @@ GoesOnFrom known shown trace_before old result trace_now new = (config : Config)
 
 -- ---- a turn
 
--- A turn that may come next made these calls and fed these lines, and the server stands for what it leads to.
+-- A turn that may come next made these calls and fed these lines, and the server stands for what it leads to. Its poll gave a list,
+-- in which each new link has a number above all earlier ones.
 pub record IsTaken (config : Config) (limits : Limits) (pat : Pat) (known : PatternsNow) (fed lines : List FedRow) (links : List LinkState) (trace made : List LinkCall) (new : Turning) : Type 0 where
   pub round : Turn
+  pub shown : List LinkEvent
+  pub polled : round.shown ≡ Some shown
+  pub fresh : AreNew trace shown
   pub calls_are : made ≡ calls_of round
   pub fed_is : round.fed ≡ lines ++ fed
   pub next : IsNext (serving_of config limits pat) (facts_in known) fed links round
@@ -143,9 +149,12 @@ pub record FailsPoll (config : Config) (limits : Limits) (pat : Pat) (fed : List
   pub grew : trace_now ≡ Some (trace ++ calls.Poll (waits (serving_of config limits pat) fed links) None ∷ [])
   pub at : IsAt config limits pat fed links (trace ++ calls.Poll (waits (serving_of config limits pat) fed links) None ∷ []) new
 
--- A turn that may come next begins with these calls; the lines that it feeds besides these met no fault.
-pub record IsCut (serving : Serving) (known : PatternsNow) (fed lines : List FedRow) (links : List LinkState) (part : List LinkCall) : Type 0 where
+-- A turn that may come next begins with these calls, of which none is a poll that failed; the lines that it feeds besides these met
+-- no fault.
+pub record IsCut (serving : Serving) (known : PatternsNow) (fed lines : List FedRow) (links : List LinkState) (trace part : List LinkCall) : Type 0 where
   pub round : Turn
+  pub polled : round.shown ≡ None → part ≡ []
+  pub fresh : AreAboveIn (last_in trace) round.shown
   pub more : List LinkCall
   pub rest : List FedRow
   pub unmarked : AreUnmarked rest
@@ -159,7 +168,7 @@ pub record Cuts (config : Config) (limits : Limits) (pat : Pat) (known : Pattern
   pub part : List LinkCall
   pub grew : trace_now ≡ Some (trace ++ part)
   pub few : AreFew (rows_fed lines) known.before known.now
-  pub cut : IsTold (serve_of config limits pat) known.tells (rows_fed lines) → IsCut (serving_of config limits pat) known fed lines links part
+  pub cut : IsTold (serve_of config limits pat) known.tells (rows_fed lines) → IsCut (serving_of config limits pat) known fed lines links trace part
 
 abbrev pub TurnsBy : Config → Limits → Pat → PatternsNow → List FedRow → List LinkState → List LinkCall → Result Answer ServeFault → Option (List LinkCall) → Turning → Type 0
 TurnsBy config limits pat known fed links trace (Ok answer) trace_now new = Takes config limits pat known fed links trace answer trace_now new
