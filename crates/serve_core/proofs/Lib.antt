@@ -3,12 +3,15 @@ pub mod AskShapes
 pub mod AsksTaken
 pub mod CallSteps
 pub mod Cancelled
+pub mod ChangedViews
 pub mod Closes
 pub mod ClosesAll
+pub mod CloseCauses
 pub mod Draining
 pub mod Drains
 pub mod DueDrains
 pub mod FedParts
+pub mod Failures
 pub mod Finding
 pub mod HeardHeads
 pub mod HeardLinks
@@ -30,6 +33,7 @@ pub mod OpenTraces
 pub mod PassGoesOn
 pub mod PassSteps
 pub mod Passing
+pub mod Placed
 pub mod Polls
 pub mod ReadAsks
 pub mod ReadBytes
@@ -37,6 +41,7 @@ pub mod ReadSteps
 pub mod Reading
 pub mod Replaced
 pub mod Roles
+pub mod RunLaws
 pub mod RunParts
 pub mod ServeRuns
 pub mod ServedLinks

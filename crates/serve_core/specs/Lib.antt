@@ -6,4 +6,6 @@ pub mod Steps
 pub mod Shown
 pub mod Turned
 pub mod Ends
+pub mod CloseCauses
 pub mod Hearing
+pub mod Laws
