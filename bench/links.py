@@ -303,19 +303,20 @@ class Scene:
         self.loop.until(lambda: self.feed.all_answered() and all(peer.received.endswith(last) for peer in peers), f"a change of web-{service}")
         return max([peer.last for peer in peers], default=begin) - begin
 
-    def check(self):
-        """Compares what each subscriber folds to with what `diagnose` shows over the same feed."""
+    def check(self, most=None):
+        """Compares what each subscriber of so many Services, or of all, folds to with what `diagnose` shows over the same feed."""
+        checked = list(self.peers)[:most]
         with tempfile.NamedTemporaryFile("w", suffix=".jsonl") as out:
             out.writelines(text + "\n" for text in self.feed.lines)
             out.flush()
-            expected = {service: self.diagnosis(out.name, service) for service in self.peers}
-        for service, peers in self.peers.items():
-            for peer in peers:
+            expected = {service: self.diagnosis(out.name, service) for service in checked}
+        for service in checked:
+            for peer in self.peers[service]:
                 if peer.is_closed:
                     raise Wrong(f"a subscriber of web-{service} was closed")
                 if fold(bytes(peer.received)) != expected[service]:
                     raise Wrong(f"a subscriber of web-{service} folds to something else than diagnose shows")
-        return len(self.all())
+        return sum(len(self.peers[service]) for service in checked)
 
     def diagnosis(self, path, service):
         words = ["diagnose", "--id", "1", "--method", "Get", "--path", f"web-{service}.app.svc.cluster.local:80"]
