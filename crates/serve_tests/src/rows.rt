@@ -91,7 +91,19 @@ failread:1 before step 4: usual | arrive:1 arrive:2 bytes:1:/feed+#0a+service+sl
 failread:2 before step 4: usual | arrive:1 arrive:2 bytes:1:/feed+#0a+service+slice bytes:2:@+#request failread:2 => 1 ok 1,ok 2; closed 2; Going
 failwrite:1 before step 4: usual | arrive:1 arrive:2 bytes:1:/feed+#0a+service+slice bytes:2:@+#request failwrite:1 => 2 00000000130a110a0f0a0a0a050d0302010a10903f18904e; closed 1; Going
 failwrite:2 before step 4: usual | arrive:1 arrive:2 bytes:1:/feed+#0a+service+slice bytes:2:@+#request failwrite:2 => 1 ok 1,ok 2; closed 2; Going
-failpoll before step 4: usual | arrive:1 arrive:2 bytes:1:/feed+#0a+service+slice bytes:2:@+#request failpoll => 1 ok 1; 2 00000000130a110a0f0a0a0a050d0302010a10903f18904e; Links";
+failpoll before step 4: usual | arrive:1 arrive:2 bytes:1:/feed+#0a+service+slice bytes:2:@+#request failpoll => 1 ok 1; 2 00000000130a110a0f0a0a0a050d0302010a10903f18904e; Links
+lines after a stop in its read are applied: usual | arrive:1 arrive:2 bytes:1:/feed+#0a+service+stop+slice bytes:2:@+#request => 1 ok 1; 2 00000000130a110a0f0a0a0a050d0302010a10903f18904e; closed 1; closed 2; Stopped
+two messages that are too long: message=4 | arrive:1 arrive:2 arrive:3 bytes:1:/feed+#0a+service+slice bytes:2:@+#request bytes:3:@+#request => 1 ok 1,ok 2; closed 2; closed 3; Going
+a message one byte above the limit: message=3 | arrive:1 arrive:2 bytes:1:/feed+#0a+service bytes:2:@+#request => 1 ok 1; closed 2; Going
+lines of a feed above the limit are not applied: feeds=1 | arrive:1 arrive:2 arrive:3 bytes:1:/feed+#0a bytes:2:/feed+#0a+service bytes:3:@+#request => 3 00000000021a00; closed 2; Going
+a feed in place of one that was answered and ended: feeds=1 | arrive:1 arrive:2 bytes:1:/feed+#0a+bookmark tick end:1 tick tick bytes:2:/feed+#0a+bookmark => 1 ok 1; 2 ok 1; closed 1; Going
+a subscription in place of one whose message was too long: subs=1 message=3 | arrive:1 arrive:2 arrive:3 bytes:1:/feed+#0a+service bytes:2:@+#request tick tick bytes:1:service_gone tick tick bytes:3:@+#request => 1 ok 1,ok 2; 3 00000000021a00; closed 2; Going
+a subscription in place of one whose read failed: subs=1 | arrive:1 arrive:2 bytes:1:@+#request tick tick failread:1 tick bytes:2:@+#request => 1 00000000021a00; 2 00000000021a00; closed 1; Going
+a subscription in place of one whose write failed: subs=1 | arrive:1 arrive:2 failwrite:1 bytes:1:@+#request tick tick bytes:2:@+#request => 2 00000000021a00; closed 1; Going
+a subscription in place of one with a byte behind its request: subs=1 | arrive:1 arrive:2 bytes:1:@+#request tick bytes:1:a tick bytes:2:@+#request => 1 00000000021a00; 2 00000000021a00; closed 1; Going
+a line feed behind a request: usual | arrive:1 bytes:1:@+#request+#0a => closed 1; Going
+a change, and then a line that changes nothing for it: usual | arrive:1 arrive:2 bytes:1:/feed+#0a+service bytes:2:@+#request tick tick tick bytes:1:slice+pod => 1 ok 1,ok 2,ok 3; 2 00000000041a02080100000000130a110a0f0a0a0a050d0302010a10903f18904e; Going
+a list as long as may be, and a longer one: objects=1 | arrive:1 bytes:1:/feed+#0a+{\"kind\":\"ServiceList\",\"apiVersion\":\"v1\",\"items\":[{\"metadata\":{\"name\":\"web\",\"namespace\":\"app\"}},{\"metadata\":{\"name\":\"api\",\"namespace\":\"app\"}}]}+#0a+{\"kind\":\"ServiceList\",\"apiVersion\":\"v1\",\"items\":[{\"metadata\":{\"name\":\"web\",\"namespace\":\"app\"}}]}+#0a => 1 refused 1 Full 0,ok 2; Going";
 
 /// What a row is about, the limits, the script, the number of turns, and the calls.
 pub const ORDERED: &str = "nothing: usual | tick 2 => wait:0 wait:0
@@ -111,4 +123,7 @@ two frames of a batch are written in two turns: addrs=1 | arrive:1 arrive:2 byte
 a touched view that is the same is drained and writes nothing: usual | arrive:1 arrive:2 bytes:1:/feed+#0a+service bytes:2:@+#request tick bytes:1:service 5 => wait:4 r1:183 r2:81 w1:5 w2:9 poll:1 r1:177 r2? w1:5 poll:0 r1? wait:0 wait:0
 a drain waits until its link can be written: usual | arrive:1 arrive:2 room:2:0 bytes:2:@+#request bytes:1:/feed+#0a tick bytes:1:service tick room:2:100 6 => wait:4 r1:6 r2:81 w2? poll:1 r1:177 r2? w1:5 poll:1 r1? w2:7 poll:0 w2:9 wait:0 wait:0
 a failing write and a subscriber behind it: usual | arrive:1 arrive:2 arrive:3 failwrite:2 bytes:2:@+#request bytes:3:@+#request 2 => wait:6 r1? r2:81 r3:81 w2! c2 w3:7 poll:0 r3?
-an end and a room in one poll: usual | arrive:1 room:1:0 bytes:1:@+#request tick end:1 room:1:5 3 => wait:2 r1:81 w1? poll:2 r1:0 c1 wait:0";
+an end and a room in one poll: usual | arrive:1 room:1:0 bytes:1:@+#request tick end:1 room:1:5 3 => wait:2 r1:81 w1? poll:2 r1:0 c1 wait:0
+a read of as many bytes as may be: usual | arrive:1 bytes:1:/feed+#0a+bookmark+*16384+#0a+bookmark 3 => wait:2 r1:16384 w1:5 poll:0 r1:71 w1:18 poll:0 w1:5
+a read of all that may be read at once: usual | arrive:1 bytes:1:/feed+#0a+*16377+#0a 3 => wait:2 r1:16384 w1:18 poll:0 r1? wait:0
+a change while a frame is written byte by byte: usual | arrive:1 arrive:2 room:2:1 bytes:1:/feed+#0a bytes:2:@+#request tick bytes:1:service 9 => wait:5 r1:6 r2:81 w2:1 poll:1 r1:177 r2? w1:5 w2:1 poll:0 r1? w2:1 poll:0 w2:1 poll:0 w2:1 poll:0 w2:1 poll:0 w2:1 poll:0 w2:1 poll:0 w2:1";
