@@ -1,0 +1,53 @@
+-- When the rows of the keys that ids are open with stand for the objects held.
+use Rattle.std.specs.Prelude.{◌≡◌, ◌&&◌, not, ℕ, Bool, List, [], Option, Some, None, if◌then◌else◌}
+use Rattle.std.specs.BTreeMap as tree
+use Rattle.std.specs.BTreeMap.{BTreeMap}
+use Rattle.std.specs.BTreeSet as sorted
+use Rattle.std.specs.BTreeSet.{BTreeSet}
+use Rattle.std.specs.List.{list_any, sum_by}
+use Rattle.std.specs.Ordering.{nat_cmp}
+use Rattle.std.specs.declared.cmp.Ordering.{Ordering}
+use Rattle.view_types.specs.Objects.{ObjectMap}
+use Rattle.view_types.specs.declared.mark.Mark.{Mark}
+use Rattle.mark_graph.specs.RowMarks.{AllHaveRows, row_at}
+use Rattle.mark_rules.specs.Marks.{meets}
+use Rattle.mark_rules.specs.Reads.{cost}
+use Rattle.row_table.specs.IndexRows.{Filter, has_key}
+use Rattle.row_views.specs.Ids.{has_ids}
+
+abbrev pub keys_in : {Key : Type 0} → Option (List Key) → List Key
+keys_in None = []
+keys_in (Some keys) = keys
+
+-- the keys that an id is open with
+abbrev pub keys_at : {Key : Type 0} → BTreeMap ℕ (List Key) → ℕ → List Key
+keys_at by_id id = keys_in (tree.get nat_cmp by_id id)
+
+-- the list contains the key, and the set doesn't
+abbrev pub is_left_out : {Key : Type 0} → (Key → Key → Ordering) → List Key → BTreeSet Key → Key → Bool
+is_left_out cmp keys set key = has_key cmp keys key && not (sorted.contains cmp set key)
+
+module _ {Index Key : Type 0} (cmp : Key → Key → Ordering) (users : Index → Key → ℕ) (stand : Index → ObjectMap → Type 0) (held : ObjectMap) (index : Index) (by_key : BTreeMap Key (BTreeSet ℕ)) where
+  -- The index stands for the objects held, and its users are the keys that have ids, each once. A key that is kept has an id.
+  pub record InUse : Type 0 where
+    pub rows : stand index held
+    pub one_user : (key : Key) → users index key ≡ (if has_ids cmp by_key key then 1 else 0)
+    pub each : AllHaveRows cmp by_key
+
+  -- These keys are in use, and each id stands at the keys that it is open with, and at no others.
+  pub record Standing (by_id : BTreeMap ℕ (List Key)) : Type 0 where
+    pub in_use : InUse
+    pub ids : (key : Key) (id : ℕ) → row_at cmp by_key key id ≡ has_key cmp (keys_at by_id id) key
+
+module _ {Key Row : Type 0} (filter : Filter Key Row) (held : ObjectMap) where
+  -- the row of one of the keys reads a mark of a change
+  abbrev pub any_met : List Mark → List Key → Bool
+  any_met changed keys = list_any (λ key. meets (filter.reads held key) changed) keys
+
+  -- what is looked up, at most, as an id is opened with these keys: what each of them reads that isn't used yet
+  abbrev pub open_cost : (Key → Bool) → List Key → ℕ
+  open_cost used keys = sum_by (λ key. if used key then 0 else cost held (filter.reads held key)) keys
+
+  -- the row of a key that is used
+  abbrev pub row_if : Bool → Key → Option Row
+  row_if used key = if used then Some (filter.row_of held key) else None

@@ -1,0 +1,173 @@
+// The rows of the keys that ids are open with.
+ghost use Rattle.std.specs.Prelude.{◌≡◌, ◌≤◌, ◌+◌, ℕ, [], true, IfOk, OnErr, OnOk, Some};
+ghost use Rattle.std.specs.List.{list_any};
+ghost use Rattle.std.specs.List.Sorted.{IsStrictlySortedBy};
+ghost use Rattle.std.specs.Option.{option_copied};
+ghost use Rattle.std.specs.Ordering.{nat_cmp};
+ghost use Rattle.view_types.specs.Objects.{ObjectMap};
+ghost use Rattle.mark_graph.specs.RowMarks.{has_row, row_at};
+ghost use Rattle.mark_rules.specs.Changes.{Leads};
+ghost use Rattle.row_table.specs.IndexRows.{has_key};
+ghost use Rattle.row_views.specs.Ids.{Keeps, SetsAt, has_ids};
+ghost use Rattle.row_views.specs.Standing.{FollowCost};
+ghost use Rattle.row_sets.specs.Standing.{Standing, any_met, keys_at, open_cost, row_if};
+
+use crate::used_keys::UsedKeys;
+use mark_graph::by_mark::{gather_all, list_of, set_of};
+use mesh_base::copied::Copied;
+use mesh_base::list::List;
+use mesh_base::memory::Memory;
+use mesh_base::steps::Steps;
+use object_store::change::Change;
+use object_store::store::Store;
+use row_table::row_index::RowIndex;
+use std::alloc::Global;
+use std::collections::{BTreeMap, BTreeSet};
+
+/// The rows of an index that ids are open with, each kept once for all ids that have its key. After Memory nothing is known of the
+/// rows, but the keys of the ids stay.
+#[derive(Drop)]
+pub struct RowSets<I: RowIndex + Drop>
+where
+    I::Key: Copied,
+{
+    used: UsedKeys<I>,
+    /// The keys of each id.
+    by_id: BTreeMap<u64, List<I::Key>>,
+    alloc: Global,
+}
+
+impl<I: RowIndex + Drop> RowSets<I>
+where
+    I::Key: Copied,
+{
+    /// No id is open with a key. The index has no users.
+    pub fn new(alloc: Global, index: I) -> RowSets<I>
+        requires { (key : I.Key) → I.users index key ≡ 0 }
+        ensures index { result.used.index ≡ index }
+        ensures keys { (id : ℕ) → keys_at result.by_id id ≡ [] }
+        ensures stands { (held : ObjectMap) → I.stands index held → Standing I.Key.Ord.cmp I.users
+            I.stands held result.used.index result.used.by_key result.by_id }
+    {
+        RowSets {
+            used: UsedKeys::new(alloc, index),
+            by_id: BTreeMap::new(alloc),
+            alloc,
+        }
+    }
+
+    /// Opens an id with these keys, whatever it was open with. The row of a key that it has before and after is not found anew.
+    pub fn set<L>(
+        &mut self,
+        store: &Store,
+        id: u64,
+        keys: List<I::Key>,
+        steps: &mut Steps<L>,
+    ) -> Result<(), Memory>
+        ensures keys { OnOk result
+            (SetsAt id keys (keys_at self.old.by_id) (keys_at self.new.by_id)) }
+        ensures stands { OnOk result (Standing I.Key.Ord.cmp I.users I.stands store.now.objects
+            self.old.used.index self.old.used.by_key self.old.by_id → Standing I.Key.Ord.cmp
+            I.users I.stands store.now.objects self.new.used.index self.new.used.by_key
+            self.new.by_id) }
+        ensures steps { Standing I.Key.Ord.cmp I.users I.stands store.now.objects
+            self.old.used.index self.old.used.by_key self.old.by_id → steps.new ≤ steps.old
+            + open_cost (I.filter self.old.used.index) store.now.objects
+            (has_ids I.Key.Ord.cmp self.old.used.by_key) keys }
+        ensures filter { I.filter self.new.used.index ≡ I.filter self.old.used.index }
+        ensures kept { OnErr result (Keeps (keys_at self.old.by_id) (keys_at self.new.by_id)) }
+    {
+        let new = set_of(self.alloc, keys.copy(self.alloc)?)?;
+        self.used.put_all(store, keys.as_slice(), id, steps)?;
+        self.used.take_others(keys_of(&self.by_id, id), &new, id);
+        self.by_id.insert(id, keys)?;
+        Ok(())
+    }
+
+    /// Leaves an id with no keys. It allocates nothing.
+    pub fn clear(&mut self, id: u64)
+        ensures keys { SetsAt id [] (keys_at self.old.by_id) (keys_at self.new.by_id) }
+        ensures stands { (held : ObjectMap) → Standing I.Key.Ord.cmp I.users I.stands held
+            self.old.used.index self.old.used.by_key self.old.by_id → Standing I.Key.Ord.cmp
+            I.users I.stands held self.new.used.index self.new.used.by_key self.new.by_id }
+        ensures filter { I.filter self.new.used.index ≡ I.filter self.old.used.index }
+    {
+        let Some(keys) = self.by_id.remove(&id) else {
+            return;
+        };
+        self.used
+            .take_others(keys.as_slice(), &BTreeSet::new(self.alloc), id);
+    }
+
+    /// Brings the rows up to a change of the store. Gives the ids, ascending, that have a key whose row reads a mark of it.
+    pub fn follow<L>(
+        &mut self,
+        store: &Store,
+        change: &Change,
+        steps: &mut Steps<L>,
+    ) -> Result<List<u64>, Memory>
+        ensures touched { IfOk result (λ ids. (held : ObjectMap) → Standing I.Key.Ord.cmp I.users
+            I.stands held self.old.used.index self.old.used.by_key self.old.by_id → (id : ℕ)
+            → has_row id ids ≡ any_met (I.filter self.old.used.index) held change.now.marks
+            (keys_at self.old.by_id id)) }
+        ensures in_order { IfOk result (λ ids. IsStrictlySortedBy nat_cmp ids) }
+        ensures stands { OnOk result ((held : ObjectMap) → Standing I.Key.Ord.cmp I.users I.stands
+            held self.old.used.index self.old.used.by_key self.old.by_id
+            → Leads change.now.marks held store.now.objects → Standing I.Key.Ord.cmp I.users
+            I.stands store.now.objects self.new.used.index self.new.used.by_key self.new.by_id) }
+        ensures steps { OnOk result (FollowCost (I.filter self.old.used.index) I.Key.Ord.cmp
+            change.now.marks (I.marks_at self.old.used.index) store.now.objects steps.old
+            steps.new) }
+        ensures filter { I.filter self.new.used.index ≡ I.filter self.old.used.index }
+        ensures keys { self.new.by_id ≡ self.old.by_id }
+    {
+        let keys = self.used.index.on_change(store, change, steps)?;
+        ids_at(self.alloc, &self.used.by_key, keys.as_slice())
+    }
+
+    /// The row of a key that an id has.
+    pub fn row(&self, key: &I::Key) -> Option<&I::Row>
+        ensures used { (held : ObjectMap) → Standing I.Key.Ord.cmp I.users I.stands held
+            self.now.used.index self.now.used.by_key self.now.by_id → option_copied result
+            ≡ row_if (I.filter self.now.used.index) held
+            (has_ids I.Key.Ord.cmp self.now.used.by_key key.now) key.now }
+        ensures of_id { (held : ObjectMap) → Standing I.Key.Ord.cmp I.users I.stands held
+            self.now.used.index self.now.used.by_key self.now.by_id → (id : ℕ)
+            → has_key I.Key.Ord.cmp (keys_at self.now.by_id id) key.now ≡ true
+            → option_copied result ≡ Some ((I.filter self.now.used.index).row_of held key.now) }
+    {
+        self.used.index.row(key)
+    }
+
+    /// The keys that an id is open with.
+    pub fn keys(&self, id: u64) -> &[I::Key]
+        ensures { result.now ≡ keys_at self.now.by_id id }
+    {
+        keys_of(&self.by_id, id)
+    }
+}
+
+// The keys of an id.
+fn keys_of<K>(by_id: &BTreeMap<u64, List<K>>, id: u64) -> &[K]
+    ensures { result.now ≡ keys_at by_id.now id }
+{
+    match by_id.get(&id) {
+        Some(keys) => keys.as_slice(),
+        None => &[],
+    }
+}
+
+// The ids of these keys, ascending.
+fn ids_at<K: Ord + Copied>(
+    alloc: Global,
+    by_key: &BTreeMap<K, BTreeSet<u64>>,
+    keys: &[K],
+) -> Result<List<u64>, Memory>
+    ensures ids { IfOk result (λ ids. (id : ℕ)
+        → has_row id ids ≡ list_any (λ key. row_at K.cmp by_key.now key id) keys.now) }
+    ensures in_order { IfOk result (λ ids. IsStrictlySortedBy nat_cmp ids) }
+{
+    let mut ids = BTreeSet::new(alloc);
+    gather_all(by_key, keys, &mut ids)?;
+    list_of(alloc, ids)
+}
