@@ -1,20 +1,14 @@
+// The index of profiles.
+use crate::trial::{Trial, Writing};
 use mark_rules::keys::ProfileKey;
-use mesh_base::limits::Limits;
-use mesh_base::steps::Steps;
 use mesh_base::text::Text;
 use net_cidr::ip::Ip;
-use object_store::change::Change;
-use object_store::store::Store;
-use profile_index::index::{ProfileIndex, new_index};
-use row_table::row_index::RowIndex;
+use profile_index::index::new_index;
 use std::alloc::Global;
 use std::test::Fail;
 use view_types::config::Config;
 use view_types::outbound::ProfileView;
 use view_types::query::Target;
-use watch_events::event::Event;
-use watch_events::line::Line;
-use watch_events::read::read_line;
 
 // Objects by names. Of the Service web, and of the Pod web-1, there are several forms.
 const OBJECTS: &str =
@@ -67,7 +61,41 @@ leave t => - s:none/2 p:none/2
 leave s => - p:none/2
 enter t => - t:web/3 p:none/2";
 
-const KEYS: [&str; 4] = ["w", "t", "s", "p"];
+#[derive(Drop)]
+struct Profiles;
+
+impl Writing<ProfileKey, ProfileView> for Profiles {
+    fn letters(&self) -> &'static str {
+        "w t s p"
+    }
+
+    fn key(&self, alloc: Global, letter: &str) -> Result<ProfileKey, Fail> {
+        let (target, client) = match letter {
+            "w" => (web(alloc)?, None),
+            "t" => (web(alloc)?, Some("test")),
+            "s" => (at(0x0a60_000a), Some("test")),
+            "p" => (at(0x0a01_0203), None),
+            _ => return Err(Fail::new("no key has this letter")),
+        };
+        let client = match client {
+            Some(ns) => Some(Text::from_str(alloc, ns)?),
+            None => None,
+        };
+        Ok(ProfileKey { target, client })
+    }
+
+    fn push_row(&self, all: &mut String, row: &ProfileView) -> Result<(), Fail> {
+        all.push_str(name_of(row))?;
+        if row.opaque {
+            all.push_str("!")?;
+        }
+        for route in row.routes.as_slice() {
+            all.push_str("+")?;
+            all.push_str(route.name.as_str())?;
+        }
+        Ok(())
+    }
+}
 
 fn web(alloc: Global) -> Result<Target, Fail> {
     Ok(Target::Service {
@@ -82,118 +110,6 @@ fn at(ip: u32) -> Target {
         ip: Ip::V4(ip),
         port: 80,
     }
-}
-
-fn key_of(alloc: Global, letter: &str) -> Result<ProfileKey, Fail> {
-    let (target, client) = match letter {
-        "w" => (web(alloc)?, None),
-        "t" => (web(alloc)?, Some("test")),
-        "s" => (at(0x0a60_000a), Some("test")),
-        "p" => (at(0x0a01_0203), None),
-        _ => return Err(Fail::new("no key has this letter")),
-    };
-    let client = match client {
-        Some(ns) => Some(Text::from_str(alloc, ns)?),
-        None => None,
-    };
-    Ok(ProfileKey { target, client })
-}
-
-fn object_of(name: &str) -> Result<&'static str, Fail> {
-    for line in OBJECTS.lines() {
-        match line.split_once(' ') {
-            Some((other, object)) if other == name => return Ok(object),
-            _ => {}
-        }
-    }
-    Err(Fail::new("no object has this name"))
-}
-
-// A store, and an index that follows it.
-#[derive(Drop)]
-struct Kept {
-    alloc: Global,
-    config: Config,
-    store: Store,
-    index: ProfileIndex,
-    steps: Steps<Store>,
-}
-
-impl Kept {
-    fn new(alloc: Global) -> Result<Kept, Fail> {
-        let config = Config::usual(alloc)?;
-        let index = new_index(alloc, &config)?;
-        Ok(Kept {
-            alloc,
-            config,
-            store: Store::new(alloc, 20),
-            index,
-            steps: Steps::new(),
-        })
-    }
-
-    fn change(&mut self, verb: &str, name: &str) -> Result<Change, Fail> {
-        let object = object_of(name)?;
-        let line = format!(in self.alloc; r#"{{"type":"{verb}","object":{object}}}"#)?;
-        match read_line(self.alloc, line.as_bytes(), &self.config, &Limits::USUAL) {
-            Ok(Line::Event(Event::Set(object))) => match self.store.set(object) {
-                Ok(change) => Ok(change),
-                Err(_) => Err(Fail::new("an object was refused")),
-            },
-            Ok(Line::Event(Event::Delete(key))) => Ok(self.store.remove(&key)?),
-            _ => Err(Fail::new("a line is no event of one object")),
-        }
-    }
-
-    // The letters of the keys that the index answers.
-    fn follow(&mut self, verb: &str, name: &str) -> Result<String, Fail> {
-        let change = self.change(verb, name)?;
-        let keys = self.index.on_change(&self.store, &change, &mut self.steps)?;
-        let mut letters = String::new(self.alloc);
-        for letter in KEYS {
-            if has_key(keys.as_slice(), &key_of(self.alloc, letter)?) {
-                letters.push_str(letter)?;
-            }
-        }
-        if letters.is_empty() {
-            letters.push_str("-")?;
-        }
-        Ok(letters)
-    }
-
-    fn step(&mut self, words: &str) -> Result<String, Fail> {
-        match words.split_once(' ') {
-            Some(("enter", letter)) => {
-                let key = key_of(self.alloc, letter)?;
-                self.index.enter(&self.store, key, &mut self.steps)?;
-                Ok(format!(in self.alloc; "-")?)
-            }
-            Some(("leave", letter)) => {
-                self.index.leave(&key_of(self.alloc, letter)?);
-                Ok(format!(in self.alloc; "-")?)
-            }
-            Some(("set", name)) => self.follow("ADDED", name),
-            Some(("remove", name)) => self.follow("DELETED", name),
-            _ => Err(Fail::new("no step is written so")),
-        }
-    }
-
-    fn push_rows(&self, all: &mut String) -> Result<(), Fail> {
-        for letter in KEYS {
-            let key = key_of(self.alloc, letter)?;
-            if let Some(row) = self.index.row(&key) {
-                all.push_str(format!(in self.alloc; " {letter}:{}", name_of(row))?.as_str())?;
-                push_profile(all, row)?;
-                let count = self.index.marks(&key)?.len();
-                all.push_str(format!(in self.alloc; "/{count}")?.as_str())?;
-            }
-        }
-        Ok(())
-    }
-}
-
-fn has_key(keys: &[ProfileKey], key: &ProfileKey) -> bool {
-    keys.iter().any(|other| other == key)
 }
 
 // The name of the Service, else that of the Pod.
@@ -214,25 +130,15 @@ fn pod_name(row: &ProfileView) -> &str {
     }
 }
 
-fn push_profile(all: &mut String, row: &ProfileView) -> Result<(), Fail> {
-    if row.opaque {
-        all.push_str("!")?;
-    }
-    for route in row.routes.as_slice() {
-        all.push_str("+")?;
-        all.push_str(route.name.as_str())?;
-    }
-    Ok(())
-}
-
 #[test]
 fn rows_follow_their_objects(rt: HostRuntime) -> Result<(), Fail> {
     let alloc = rt.alloc();
-    let mut kept = Kept::new(alloc)?;
+    let config = Config::usual(alloc)?;
+    let index = new_index(alloc, &config)?;
+    let mut trial = Trial::new(alloc, OBJECTS, config, index);
     for row in ROWS.lines() {
         let (words, expected) = row.split_once(" => ").ok_or("a row expects nothing")?;
-        let mut shown = kept.step(words)?;
-        kept.push_rows(&mut shown)?;
+        let shown = trial.step(&Profiles, words)?;
         assert_eq!(rt; shown.as_str(), expected, "at {row}");
     }
     Ok(())

@@ -1,0 +1,2 @@
+mod AuthzCosts
+mod ServerRows

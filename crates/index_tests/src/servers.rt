@@ -1,0 +1,135 @@
+// The index of what the ports of Pods are served by.
+use crate::trial::{Trial, Writing};
+use mark_rules::keys::ServerKey;
+use mesh_base::text::Text;
+use server_index::index::new_index;
+use std::alloc::Global;
+use std::test::Fail;
+use view_types::config::Config;
+use view_types::policy::{Policy, Protocol};
+
+// Objects by names. The Pod web-1 has three forms: with the label web, with the label db, and with annotations and the port name
+// http at two containers. A Server is of the label web or db, of a port, and maybe of a protocol and a policy. The Server m has
+// four forms, and k and z say the same.
+const OBJECTS: &str =
+    r#"web {"apiVersion":"v1","kind":"Pod","metadata":{"name":"web-1","namespace":"app","labels":{"app":"web"}},"spec":{"containers":[{"ports":[{"name":"http","containerPort":8080}]},{"ports":[{"name":"admin","containerPort":9990}]}]}}
+db {"apiVersion":"v1","kind":"Pod","metadata":{"name":"web-1","namespace":"app","labels":{"app":"db"}},"spec":{"containers":[{"ports":[{"name":"http","containerPort":8080}]}]}}
+both {"apiVersion":"v1","kind":"Pod","metadata":{"name":"web-1","namespace":"app","labels":{"app":"web"},"annotations":{"config.linkerd.io/default-inbound-policy":"deny","config.linkerd.io/opaque-ports":"9990"}},"spec":{"containers":[{"ports":[{"name":"http","containerPort":8080}]},{"ports":[{"name":"http","containerPort":9990}]}]}}
+m {"apiVersion":"policy.linkerd.io/v1beta3","kind":"Server","metadata":{"name":"m","namespace":"app"},"spec":{"podSelector":{"matchLabels":{"app":"web"}},"port":8080,"proxyProtocol":"HTTP/2"}}
+m.audit {"apiVersion":"policy.linkerd.io/v1beta3","kind":"Server","metadata":{"name":"m","namespace":"app"},"spec":{"podSelector":{"matchLabels":{"app":"web"}},"port":8080,"accessPolicy":"audit"}}
+m.db {"apiVersion":"policy.linkerd.io/v1beta3","kind":"Server","metadata":{"name":"m","namespace":"app"},"spec":{"podSelector":{"matchLabels":{"app":"db"}},"port":8080}}
+m.admin {"apiVersion":"policy.linkerd.io/v1beta3","kind":"Server","metadata":{"name":"m","namespace":"app"},"spec":{"podSelector":{"matchLabels":{"app":"web"}},"port":9990}}
+b {"apiVersion":"policy.linkerd.io/v1beta3","kind":"Server","metadata":{"name":"b","namespace":"app"},"spec":{"podSelector":{"matchLabels":{"app":"web"}},"port":8080,"accessPolicy":"all-authenticated"}}
+z {"apiVersion":"policy.linkerd.io/v1beta3","kind":"Server","metadata":{"name":"z","namespace":"app"},"spec":{"podSelector":{"matchLabels":{"app":"web"}},"port":"http"}}
+k {"apiVersion":"policy.linkerd.io/v1beta3","kind":"Server","metadata":{"name":"k","namespace":"app"},"spec":{"podSelector":{"matchLabels":{"app":"web"}},"port":"http"}}
+a.other {"apiVersion":"policy.linkerd.io/v1beta3","kind":"Server","metadata":{"name":"a","namespace":"other"},"spec":{"podSelector":{"matchLabels":{"app":"web"}},"port":8080}}"#;
+
+// What happens; then the keys that the index answers, and the row of each key that has users: the name of the Server or
+// default, the protocol and the policy, or none without the Pod; and how many marks are read. Each key is a letter: the ports
+// 8080 (h) and 9990 (i) of the Pod web-1.
+const ROWS: &str = "\
+enter h => - h:none/2
+set m => h h:none/2
+set web => h h:m http2 deny/2
+enter i => - h:m http2 deny/2 i:default unknown all-unauthenticated/2
+set b => hi h:b unknown all-authenticated/2 i:default unknown all-unauthenticated/2
+set a.other => - h:b unknown all-authenticated/2 i:default unknown all-unauthenticated/2
+set z => hi h:b unknown all-authenticated/2 i:default unknown all-unauthenticated/2
+remove b => hi h:m http2 deny/2 i:default unknown all-unauthenticated/2
+remove z => hi h:m http2 deny/2 i:default unknown all-unauthenticated/2
+set k => hi h:k unknown deny/2 i:default unknown all-unauthenticated/2
+remove k => hi h:m http2 deny/2 i:default unknown all-unauthenticated/2
+set z => hi h:m http2 deny/2 i:default unknown all-unauthenticated/2
+set m.audit => hi h:m unknown audit/2 i:default unknown all-unauthenticated/2
+set m.admin => hi h:z unknown deny/2 i:m unknown deny/2
+set m.db => hi h:z unknown deny/2 i:default unknown all-unauthenticated/2
+set db => hi h:m unknown deny/2 i:default unknown all-unauthenticated/2
+set both => hi h:z unknown deny/2 i:z unknown deny/2
+remove z => hi h:default unknown deny/2 i:default opaque deny/2
+remove both => hi h:none/2 i:none/2
+set m => hi h:none/2 i:none/2
+set web => hi h:m http2 deny/2 i:default unknown all-unauthenticated/2
+leave i => - h:m http2 deny/2
+remove m => h h:default unknown all-unauthenticated/2
+leave h => -
+set m => -
+enter h => - h:m http2 deny/2";
+
+#[derive(Drop)]
+struct Servers;
+
+impl Writing<ServerKey, Option<(Protocol, Policy, Option<Text>)>> for Servers {
+    fn letters(&self) -> &'static str {
+        "h i"
+    }
+
+    fn key(&self, alloc: Global, letter: &str) -> Result<ServerKey, Fail> {
+        let port = match letter {
+            "h" => 8080,
+            "i" => 9990,
+            _ => return Err(Fail::new("no key has this letter")),
+        };
+        Ok(ServerKey {
+            ns: Text::from_str(alloc, "app")?,
+            pod: Text::from_str(alloc, "web-1")?,
+            port,
+        })
+    }
+
+    fn push_row(
+        &self,
+        all: &mut String,
+        row: &Option<(Protocol, Policy, Option<Text>)>,
+    ) -> Result<(), Fail> {
+        match row {
+            Some((protocol, policy, server)) => {
+                push_name(all, server)?;
+                all.push_str(protocol_word(*protocol))?;
+                all.push_str(policy_word(*policy))?;
+            }
+            None => all.push_str("none")?,
+        }
+        Ok(())
+    }
+}
+
+fn push_name(all: &mut String, server: &Option<Text>) -> Result<(), Fail> {
+    match server {
+        Some(name) => all.push_str(name.as_str())?,
+        None => all.push_str("default")?,
+    }
+    Ok(())
+}
+
+fn protocol_word(protocol: Protocol) -> &'static str {
+    match protocol {
+        Protocol::Unknown => " unknown",
+        Protocol::Http2 => " http2",
+        Protocol::Opaque => " opaque",
+        _ => " another",
+    }
+}
+
+fn policy_word(policy: Policy) -> &'static str {
+    match policy {
+        Policy::AllUnauthenticated => " all-unauthenticated",
+        Policy::AllAuthenticated => " all-authenticated",
+        Policy::Deny => " deny",
+        Policy::Audit => " audit",
+        _ => " another",
+    }
+}
+
+#[test]
+fn rows_follow_their_objects(rt: HostRuntime) -> Result<(), Fail> {
+    let alloc = rt.alloc();
+    let config = Config::usual(alloc)?;
+    let index = new_index(alloc, &config)?;
+    let mut trial = Trial::new(alloc, OBJECTS, config, index);
+    for row in ROWS.lines() {
+        let (words, expected) = row.split_once(" => ").ok_or("a row expects nothing")?;
+        let shown = trial.step(&Servers, words)?;
+        assert_eq!(rt; shown.as_str(), expected, "at {row}");
+    }
+    Ok(())
+}

@@ -1,0 +1,10 @@
+//! The routes of Servers, kept in rows for the ports that they are joined into. No command uses it yet.
+//!
+//! Stands on row_table for the rows, on mark_rules for what a row is and which mark it reads, on object_store, on policy_rows
+//! for the routes that are attached to a Server, and on view_scratch for their rules. `RouteIndex` is the table of row_table
+//! over `RouteFinder`, so its contract is that of `RowIndex`, with `server_routes` and `route_reads` of mark_rules as its
+//! filter. A row has no authorizations: those of each route are a row of their own.
+#![tactic(auto)]
+
+pub mod finder;
+pub mod index;

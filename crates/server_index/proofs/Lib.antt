@@ -1,0 +1,4 @@
+mod Followed
+mod Names
+mod Noted
+mod Outside

@@ -1,0 +1,4 @@
+pub mod Matches
+pub mod ServerKeys
+pub mod Standing
+pub mod Still

@@ -1,0 +1,239 @@
+// What is kept of a port: its row, and the Servers that match it.
+ghost use Rattle.std.specs.Prelude.{◌≡◌, ◌≤◌, ◌+◌, ◌↔◌, false, Some, None, IsTrue, IfOk, OnOk, count_by, length, slice_get};
+ghost use Rattle.view_types.specs.Objects.{ObjectMap};
+ghost use Rattle.view_types.specs.declared.mark.Mark.TheVariants.{Obj, ServersIn};
+ghost use Rattle.view_rules.specs.PodRows.{pod_key};
+ghost use Rattle.mark_rules.specs.Changes.{Leads};
+ghost use Rattle.mark_rules.specs.Marks.{has_mark, same_mark};
+ghost use Rattle.mark_rules.specs.Reads.{cost, count_at, server_reads};
+ghost use Rattle.server_index.specs.Matches.{AreRight, AreUp, BringsUp, names_server, part_from};
+ghost use Rattle.server_index.specs.Standing.{Stands};
+
+use crate::matching::Matching;
+use crate::notes::ServerNotes;
+use crate::port::{PodPort, Port};
+use crate::servers::{count_servers, follow_servers, servers_for};
+use mark_rules::keys::ServerKey;
+use mesh_base::key::{Kind, ObjKey};
+use mesh_base::list::List;
+use mesh_base::memory::Memory;
+use mesh_base::same::Same;
+use mesh_base::steps::Steps;
+use mesh_base::text::Text;
+use row_reads::rows::server_reads;
+use view_scratch::inbound::{default_policy, default_protocol};
+use view_scratch::pod::pod_named;
+use view_types::mark::Mark;
+use view_types::policy::{Policy, Protocol};
+
+/// What a port is served by, if its Pod is held: the protocol, the policy, and the name of the Server if one is chosen. Beside
+/// it stand the Servers that match the port, and the marks that are read.
+#[derive(Drop)]
+pub struct KeptServer {
+    pub(crate) row: Option<(Protocol, Policy, Option<Text>)>,
+    pub(crate) servers: Matching,
+    pub(crate) marks: List<Mark>,
+}
+
+/// Finds what a port is served by.
+pub(crate) fn find<L>(port: &Port, steps: &mut Steps<L>) -> Result<KeptServer, Memory>
+    requires { port.now.from.now.store.now.spent ≡ false }
+    ensures stands { IfOk result (Stands port.now.from.now.config.now
+        port.now.from.now.store.now.objects port.now.key.now) }
+    ensures steps { steps.new ≤ steps.old + cost port.now.from.now.store.now.objects
+        (server_reads port.now.key.now) }
+{
+    let alloc = port.from.alloc;
+    let mut kept = KeptServer {
+        row: None,
+        servers: Matching::new(alloc),
+        marks: server_reads(alloc, port.key)?,
+    };
+    find_again(port, &mut kept, steps)?;
+    Ok(kept)
+}
+
+/// Brings what is kept of a port up to a change with these marks. Only the Servers of the change are
+/// looked at, unless it has the mark of the Pod, or is of more Servers than the namespace has after it.
+pub(crate) fn follow<L>(
+    port: &Port,
+    changed: &[Mark],
+    kept: &mut KeptServer,
+    notes: &mut ServerNotes,
+    steps: &mut Steps<L>,
+) -> Result<(), Memory>
+    requires going { port.now.from.now.store.now.spent ≡ false }
+    requires notes { AreRight port.now.from.now.store.now.objects notes.old }
+    ensures stands { OnOk result ((held : ObjectMap)
+        → Stands port.now.from.now.config.now held port.now.key.now kept.old
+        → Leads changed.now held port.now.from.now.store.now.objects
+        → Stands port.now.from.now.config.now port.now.from.now.store.now.objects
+        port.now.key.now kept.new) }
+    ensures marks { OnOk result (kept.new.marks ≡ kept.old.marks) }
+    ensures notes { OnOk result (AreRight port.now.from.now.store.now.objects notes.new) }
+    ensures steps { steps.new ≤ steps.old + cost port.now.from.now.store.now.objects
+        (server_reads port.now.key.now) }
+{
+    let servers = port.from.store.servers_in(&port.key.ns);
+    if !is_in_place(changed, servers, port.key) {
+        find_again(port, kept, steps)?;
+        return Ok(());
+    }
+    follow_in_place(port, changed, kept, notes, steps)
+}
+
+/// Whether the change leaves the Pod as it was, and is of no more Servers of the namespace than these.
+fn is_in_place(changed: &[Mark], servers: &[ObjKey], key: &ServerKey) -> bool
+    ensures pod { IsTrue result
+        → has_mark changed.now (Obj (pod_key key.now.ns key.now.pod)) ≡ false }
+    ensures few { IsTrue result
+        → count_by (names_server key.now.ns) changed.now ≤ length servers.now }
+{
+    if count_servers(&key.ns, changed) > servers.len() {
+        return false;
+    }
+    !has_pod(changed, key)
+}
+
+/// Whether the change has the mark of the Pod.
+fn has_pod(changed: &[Mark], key: &ServerKey) -> bool
+    ensures { result ≡ has_mark changed.now (Obj (pod_key key.now.ns key.now.pod)) }
+{
+    changed.iter().any(|mark| is_pod(key, mark))
+}
+
+fn is_pod(key: &ServerKey, mark: &Mark) -> bool
+    ensures { result ≡ same_mark (Obj (pod_key key.now.ns key.now.pod)) mark.now }
+{
+    match mark {
+        Mark::Obj(other) => is_pod_key(key, other),
+        _ => false,
+    }
+}
+
+fn is_pod_key(key: &ServerKey, other: &ObjKey) -> bool
+    ensures { IsTrue result ↔ (other.now ≡ pod_key key.now.ns key.now.pod) }
+{
+    other.kind.is_same(&Kind::Pod) && other.ns.is_same(&key.ns) && other.name.is_same(&key.pod)
+}
+
+/// Finds the row and the Servers again. The marks stay, since the key alone tells them.
+fn find_again<L>(port: &Port, kept: &mut KeptServer, steps: &mut Steps<L>) -> Result<(), Memory>
+    requires { port.now.from.now.store.now.spent ≡ false }
+    ensures stands { OnOk result (kept.old.marks ≡ server_reads port.now.key.now
+        → Stands port.now.from.now.config.now port.now.from.now.store.now.objects
+        port.now.key.now kept.new) }
+    ensures marks { OnOk result (kept.new.marks ≡ kept.old.marks) }
+    ensures steps { steps.new ≤ steps.old + cost port.now.from.now.store.now.objects
+        (server_reads port.now.key.now) }
+{
+    let Port { from, key } = *port;
+    from.store.stand_at_keys();
+    match pod_named(from.store, &key.ns, &key.pod, steps) {
+        Some(pod) => {
+            fill(&PodPort { from, key, pod }, kept, steps)?;
+            Ok(())
+        }
+        None => {
+            kept.row = None;
+            Ok(())
+        }
+    }
+}
+
+/// Finds the Servers that match the port of a Pod, and the row.
+fn fill<L>(port: &PodPort, kept: &mut KeptServer, steps: &mut Steps<L>) -> Result<(), Memory>
+    requires { port.now.from.now.store.now.spent ≡ false }
+    ensures servers { OnOk result (AreUp port.now.from.now.store.now.objects port.now.key.now
+        port.now.pod.now kept.new.servers) }
+    ensures row { OnOk result (kept.new.row ≡ Some (part_from port.now.from.now.config.now
+        port.now.pod.now port.now.key.now.port (slice_get kept.new.servers.by_name.entries 0))) }
+    ensures marks { OnOk result (kept.new.marks ≡ kept.old.marks) }
+    ensures steps { steps.new ≤ steps.old + count_at port.now.from.now.store.now.objects
+        (ServersIn port.now.key.now.ns) }
+{
+    kept.servers = servers_for(port, steps)?;
+    kept.row = Some(part_from(port, &kept.servers)?);
+    Ok(())
+}
+
+/// Brings what is kept up to a change that leaves the Pod as it was.
+fn follow_in_place<L>(
+    port: &Port,
+    changed: &[Mark],
+    kept: &mut KeptServer,
+    notes: &mut ServerNotes,
+    steps: &mut Steps<L>,
+) -> Result<(), Memory>
+    requires going { port.now.from.now.store.now.spent ≡ false }
+    requires notes { AreRight port.now.from.now.store.now.objects notes.old }
+    requires pod { has_mark changed.now (Obj (pod_key port.now.key.now.ns port.now.key.now.pod))
+        ≡ false }
+    requires few { count_by (names_server port.now.key.now.ns) changed.now
+        ≤ count_at port.now.from.now.store.now.objects (ServersIn port.now.key.now.ns) }
+    ensures stands { OnOk result ((held : ObjectMap)
+        → Stands port.now.from.now.config.now held port.now.key.now kept.old
+        → Leads changed.now held port.now.from.now.store.now.objects
+        → Stands port.now.from.now.config.now port.now.from.now.store.now.objects
+        port.now.key.now kept.new) }
+    ensures marks { OnOk result (kept.new.marks ≡ kept.old.marks) }
+    ensures notes { OnOk result (AreRight port.now.from.now.store.now.objects notes.new) }
+    ensures steps { steps.new ≤ steps.old + cost port.now.from.now.store.now.objects
+        (server_reads port.now.key.now) }
+{
+    let Port { from, key } = *port;
+    match pod_named(from.store, &key.ns, &key.pod, steps) {
+        Some(pod) => {
+            renew(&PodPort { from, key, pod }, changed, kept, notes, steps)?;
+            Ok(())
+        }
+        None => Ok(()),
+    }
+}
+
+/// Brings the Servers up to a change with these marks, and the row where a Server differs.
+fn renew<L>(
+    port: &PodPort,
+    changed: &[Mark],
+    kept: &mut KeptServer,
+    notes: &mut ServerNotes,
+    steps: &mut Steps<L>,
+) -> Result<(), Memory>
+    requires { AreRight port.now.from.now.store.now.objects notes.old }
+    ensures servers { OnOk result (BringsUp port.now.from.now.store.now.objects port.now.key.now
+        port.now.pod.now (λ k. has_mark changed.now (Obj k)) kept.old.servers kept.new.servers) }
+    ensures row { OnOk result (kept.old.row ≡ Some (part_from port.now.from.now.config.now
+        port.now.pod.now port.now.key.now.port (slice_get kept.old.servers.by_name.entries 0))
+        → kept.new.row ≡ Some (part_from port.now.from.now.config.now port.now.pod.now
+        port.now.key.now.port (slice_get kept.new.servers.by_name.entries 0))) }
+    ensures marks { OnOk result (kept.new.marks ≡ kept.old.marks) }
+    ensures notes { OnOk result (AreRight port.now.from.now.store.now.objects notes.new) }
+    ensures steps { steps.new ≤ steps.old
+        + count_by (names_server port.now.key.now.ns) changed.now }
+{
+    let differs = follow_servers(port, changed, &mut kept.servers, notes, steps)?;
+    if !differs {
+        return Ok(());
+    }
+    kept.row = Some(part_from(port, &kept.servers)?);
+    Ok(())
+}
+
+/// The protocol, the policy and the name of the Server of least name, else what holds without one.
+fn part_from(port: &PodPort, servers: &Matching) -> Result<(Protocol, Policy, Option<Text>), Memory>
+    ensures { IfOk result (λ part. part ≡ part_from port.now.from.now.config.now port.now.pod.now
+        port.now.key.now.port (slice_get servers.now.by_name.entries 0)) }
+{
+    match servers.first() {
+        Some((name, terms)) => Ok((terms.0, terms.1, Some(name.copy()?))),
+        None => default_part(port),
+    }
+}
+
+fn default_part(port: &PodPort) -> Result<(Protocol, Policy, Option<Text>), Memory>
+    ensures { IfOk result (λ part. part ≡ part_from port.now.from.now.config.now port.now.pod.now
+        port.now.key.now.port None) }
+{
+    let protocol = default_protocol(port.from.alloc, port.pod, port.key.port)?;
+    Ok((protocol, default_policy(port.from.config, port.pod), None))
+}

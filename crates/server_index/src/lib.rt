@@ -1,0 +1,17 @@
+//! What the ports of Pods are served by, kept in rows for the clients that ask for them: the protocol, the policy and the Server.
+//! No command uses it yet.
+//!
+//! Stands on row_table for the rows, on mark_rules for what a row is and which marks it reads, on object_store, on policy_rows
+//! for whether a Server selects a port, and on view_scratch for what holds without a Server. `ServerIndex` is the table of
+//! row_table over `ServerRule`, so its contract is that of `RowIndex`, with `server_part` and `server_reads` of mark_rules as its
+//! filter. A row keeps the Servers that match its port (`specs/Matches`, `specs/Standing`), so that a changed Server is put into
+//! it or taken out without a look at the others, and is looked up once for all rows.
+#![tactic(auto)]
+
+pub mod index;
+pub mod kept;
+pub mod matching;
+pub mod notes;
+mod port;
+pub mod rule;
+mod servers;

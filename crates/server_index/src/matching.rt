@@ -1,0 +1,72 @@
+// The Servers that match a port, by their names.
+ghost use Rattle.std.proofs.Props.{props};
+ghost use Rattle.std.specs.Prelude.{◌≡◌, ℕ, false, List, None, IfOk, OnOk, if◌then◌else◌, option_map, slice_get};
+ghost use Rattle.std.specs.BTreeMap.{IsOrdered, get};
+ghost use Rattle.std.specs.Cmp.Lexicographic.{slice_cmp};
+ghost use Rattle.std.specs.Ordering.{eq_by_cmp, nat_cmp};
+
+use mesh_base::memory::Memory;
+use mesh_base::same::Same;
+use mesh_base::text::Text;
+use std::alloc::Global;
+use std::collections::BTreeMap;
+use view_types::policy::{Policy, Protocol};
+
+/// The Servers that match a port, by their names, each with its protocol and its policy.
+#[derive(Drop)]
+pub struct Matching {
+    by_name: BTreeMap<Text, (Protocol, Policy)>,
+    ghost ordered: { IsOrdered (slice_cmp nat_cmp) by_name } by { Prim.hlevel props },
+}
+
+impl Matching {
+    pub(crate) fn new(alloc: Global) -> Matching
+        ensures { (name : List ℕ) → get (slice_cmp nat_cmp) result.by_name name ≡ None }
+    {
+        Matching {
+            by_name: BTreeMap::new(alloc),
+        }
+    }
+
+    /// Puts a Server of the name with these terms, or takes it out where there are none. Tells whether
+    /// anything differs then.
+    pub(crate) fn put(
+        &mut self,
+        name: &Text,
+        terms: Option<(Protocol, Policy)>,
+    ) -> Result<bool, Memory>
+        ensures put { OnOk result ((other : List ℕ)
+            → get (slice_cmp nat_cmp) self.new.by_name other
+            ≡ (if eq_by_cmp (slice_cmp nat_cmp) name.now other then terms
+            else get (slice_cmp nat_cmp) self.old.by_name other)) }
+        ensures same { IfOk result (λ differs. differs ≡ false → self.new ≡ self.old) }
+    {
+        if self.at(name).is_same(&terms) {
+            return Ok(false);
+        }
+        match terms {
+            Some(terms) => {
+                self.by_name.insert(name.copy()?, terms)?;
+                Ok(true)
+            }
+            None => {
+                self.by_name.remove(name);
+                Ok(true)
+            }
+        }
+    }
+
+    fn at(&self, name: &Text) -> Option<(Protocol, Policy)>
+        ensures { result ≡ get (slice_cmp nat_cmp) self.now.by_name name.now }
+    {
+        self.by_name.get(name).copied()
+    }
+
+    /// The Server of least name.
+    pub(crate) fn first(&self) -> Option<(&Text, &(Protocol, Policy))>
+        ensures { option_map (λ p. (p.0.now, p.1.now)) result
+            ≡ slice_get self.now.by_name.entries 0 }
+    {
+        self.by_name.first_key_value()
+    }
+}

@@ -1,0 +1,107 @@
+// How what the ports of Pods are served by is found and kept.
+ghost use Rattle.std.specs.Prelude.{◌≡◌};
+ghost use Rattle.mark_rules.specs.Reads.{server_reads};
+ghost use Rattle.mark_rules.specs.Rows.{server_part};
+ghost use Rattle.server_index.specs.Matches.{AreRight};
+ghost use Rattle.server_index.specs.ServerKeys.{server_keys_exact};
+ghost use Rattle.server_index.specs.Standing.{Stands};
+ghost use Rattle.server_index.specs.Still.{stands_show, stands_still};
+
+use crate::kept::{KeptServer, find, follow};
+use crate::notes::ServerNotes;
+use crate::port::Port;
+use mark_rules::keys::ServerKey;
+use mesh_base::copied::Copied;
+use mesh_base::list::List;
+use mesh_base::memory::Memory;
+use mesh_base::steps::Steps;
+use mesh_base::text::Text;
+use object_store::store::Store;
+use policy_rows::snapshot::Snapshot;
+use row_table::row_rule::{MarksAfter, RowRule, StoreChange};
+use std::alloc::Global;
+use view_types::config::Config;
+use view_types::mark::Mark;
+use view_types::policy::{Policy, Protocol};
+
+/// Finds what the ports of Pods are served by under a configuration.
+#[derive(Drop)]
+pub struct ServerRule {
+    pub config: Config,
+}
+
+impl RowRule for ServerRule {
+    type Key = ServerKey;
+
+    type Row = Option<(Protocol, Policy, Option<Text>)>;
+
+    type Kept = KeptServer;
+
+    type Notes = ServerNotes;
+
+    ghost filter = { λ rule. record {
+      row_of = server_part rule.config;
+      reads = λ held. server_reads;
+    } };
+
+    ghost keeps = { λ rule. Stands rule.config };
+
+    ghost row_in = { λ kept. kept.row };
+
+    ghost marks_in = { λ kept. kept.marks };
+
+    ghost notes_hold = { λ rule held change notes. AreRight held notes };
+
+    ghost tells = { λ before after. Unit {0} };
+
+    fn find<L>(
+        &self,
+        alloc: Global,
+        store: &Store,
+        key: &ServerKey,
+        steps: &mut Steps<L>,
+    ) -> Result<KeptServer, Memory> {
+        let from = Snapshot {
+            alloc,
+            config: &self.config,
+            store,
+        };
+        find(&Port { from: &from, key }, steps)
+    }
+
+    fn no_notes(&self, alloc: Global) -> ServerNotes {
+        ServerNotes::new(alloc)
+    }
+
+    fn follow<L>(
+        &self,
+        after: &StoreChange,
+        key: &ServerKey,
+        kept: &mut KeptServer,
+        notes: &mut ServerNotes,
+        steps: &mut Steps<L>,
+    ) -> Result<MarksAfter, Memory> {
+        let from = Snapshot {
+            alloc: after.alloc,
+            config: &self.config,
+            store: after.store,
+        };
+        let port = Port { from: &from, key };
+        follow(&port, after.change.marks.as_slice(), kept, notes, steps)?;
+        Ok(MarksAfter::Same)
+    }
+
+    fn row(kept: &KeptServer) -> &Option<(Protocol, Policy, Option<Text>)> {
+        &kept.row
+    }
+
+    fn marks(alloc: Global, kept: &KeptServer) -> Result<List<Mark>, Memory> {
+        kept.marks.copy(alloc)
+    }
+
+    ghost shows = { λ rule. stands_show rule.config };
+
+    ghost stays = { λ rule. stands_still rule.config };
+
+    ghost exact = { server_keys_exact };
+}
