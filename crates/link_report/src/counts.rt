@@ -1,4 +1,5 @@
 // What is counted of links.
+use run_report::write_number;
 use std::fmt;
 use std::fmt::{Display, Formatter};
 
@@ -15,25 +16,6 @@ pub struct LinkCounts {
     pub lines: u64,
     /// The frames that were written whole.
     pub frames: u64,
-}
-
-impl LinkCounts {
-    /// No link was opened.
-    pub const NONE: LinkCounts = LinkCounts {
-        links: 0,
-        feeds: 0,
-        subscriptions: 0,
-        lines: 0,
-        frames: 0,
-    };
-}
-
-fn write_number<W: fmt::Write>(f: &mut Formatter<W>, number: u64, one: &str) -> fmt::Result {
-    if number == 1 {
-        write!(f, "1 {one}")
-    } else {
-        write!(f, "{number} {one}s")
-    }
 }
 
 impl Display for LinkCounts {

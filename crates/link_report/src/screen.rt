@@ -1,7 +1,7 @@
 // A line of a terminal that is written again and again.
 use crate::counts::LinkCounts;
 use crate::tally::LinkTally;
-use run_report::StartTime;
+use run_report::{EachSecond, StartTime};
 use std::alloc::Global;
 use std::io::{Cursor, Write};
 use std::time::Clock;
@@ -12,11 +12,8 @@ const WIDTH: usize = 160;
 #[derive(Drop)]
 pub struct LinkScreen<C, W> {
     pub(crate) tally: LinkTally,
-    clock: C,
-    start: StartTime,
+    due: EachSecond<C>,
     pub screen: W,
-    // The seconds that had passed when it was last shown.
-    shown: u64,
     // The longest line that was shown.
     width: usize,
 }
@@ -25,10 +22,8 @@ impl<C: Clock, W: Write> LinkScreen<C, W> {
     pub fn new(alloc: Global, clock: C, start: StartTime, screen: W) -> LinkScreen<C, W> {
         LinkScreen {
             tally: LinkTally::new(alloc),
-            clock,
-            start,
+            due: EachSecond::new(clock, start),
             screen,
-            shown: 0,
             width: 0,
         }
     }
@@ -40,12 +35,7 @@ impl<C: Clock, W: Write> LinkScreen<C, W> {
 
     // Shows the counts if a second has passed since they were last shown.
     pub(crate) fn show(&mut self) {
-        let Some(elapsed) = self.start.elapsed(&self.clock) else {
-            return;
-        };
-        let seconds = elapsed.as_secs();
-        if seconds > self.shown {
-            self.shown = seconds;
+        if self.due.is_due() {
             self.show_line();
         }
     }

@@ -31,7 +31,7 @@ mod server;
 mod usage;
 mod words;
 
-pub use clock::StartTime;
+pub use clock::{EachSecond, StartTime};
 pub use command::{Command, CommandLine};
 pub use errors::{ErrorKeeper, LastError};
 pub use feed::FeedNotes;
@@ -41,7 +41,7 @@ pub use lines::LineCount;
 pub use output::{OutputCounts, OutputTally};
 pub use progress::Progress;
 pub use refusals::OutputNotes;
-pub use report::{Report, Run};
+pub use report::{Report, Run, write_number};
 pub use server::ServerNote;
 pub use usage::{USAGE, USAGE_LINE};
 pub use words::{CommandReader, WrongWords};

@@ -1,5 +1,5 @@
 // How much was read, shown in one line of a terminal that is written again and again.
-use crate::clock::StartTime;
+use crate::clock::{EachSecond, StartTime};
 use crate::command::Command;
 use std::fmt;
 use std::fmt::{Display, Formatter};
@@ -29,40 +29,30 @@ fn show_line<W: Write>(screen: &mut W, command: Command, bytes: u64) {
 /// A line of a terminal that shows, at most once in each second after the first, how much was read.
 #[derive(Drop)]
 pub struct Progress<C, W> {
-    clock: C,
-    start: StartTime,
+    due: EachSecond<C>,
     command: Command,
     pub screen: W,
-    // The seconds that had passed when it was last shown.
-    shown: u64,
 }
 
 impl<C: Clock, W: Write> Progress<C, W> {
     pub fn new(clock: C, start: StartTime, command: Command, screen: W) -> Progress<C, W> {
         Progress {
-            clock,
-            start,
+            due: EachSecond::new(clock, start),
             command,
             screen,
-            shown: 0,
         }
     }
 
     /// So many bytes have been read.
     pub fn show(&mut self, bytes: u64) {
-        let Some(elapsed) = self.start.elapsed(&self.clock) else {
-            return;
-        };
-        let seconds = elapsed.as_secs();
-        if seconds > self.shown {
-            self.shown = seconds;
+        if self.due.is_due() {
             show_line(&mut self.screen, self.command, bytes);
         }
     }
 
     /// Leaves the line empty.
     pub fn clear(&mut self) {
-        if self.shown > 0 {
+        if self.due.was_due() {
             clear_line(&mut self.screen);
         }
     }

@@ -200,7 +200,8 @@ impl Run<'_> {
     }
 }
 
-fn write_number<W: fmt::Write>(f: &mut Formatter<W>, number: u64, thing: &str) -> fmt::Result {
+/// Writes a number of things by the name of one, as "1 line" or "2 lines".
+pub fn write_number<W: fmt::Write>(f: &mut Formatter<W>, number: u64, thing: &str) -> fmt::Result {
     if number == 1 {
         write!(f, "1 {thing}")
     } else {
