@@ -17,7 +17,6 @@ ghost use Rattle.endpoint_index.specs.Given.{given_at, pods_at, rows_named, slic
 ghost use Rattle.endpoint_index.specs.Slices.{AreEmpty, AreUpBut, SlicesStand};
 
 use crate::service_port::PortSource;
-use crate::touched::has_key;
 use endpoint_rows::laws::slices_make_the_service;
 use endpoint_rows::rows::EndpointRows;
 use mark_rules::laws::keys_by_mark;
@@ -27,6 +26,7 @@ use mesh_base::list::List;
 use mesh_base::memory::Memory;
 use mesh_base::steps::Steps;
 use row_reads::references::add_pods;
+use slice_marks::keys::has_key;
 use slice_marks::slices::SliceMarks;
 use std::alloc::Global;
 use view_scratch::collect::{add_slice, slice_at};

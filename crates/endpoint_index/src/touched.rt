@@ -1,9 +1,8 @@
 // Which slices a change touches.
 ghost use Rattle.std.specs.Prelude.{◌≡◌, ◌||◌, IfOk, OnOk};
 ghost use Rattle.std.specs.List.{list_any};
-ghost use Rattle.key_lists.specs.Keys.{Rises, has_key};
+ghost use Rattle.key_lists.specs.Keys.{has_key};
 ghost use Rattle.mesh_base.specs.declared.key.ObjKey.{ObjKey as TheKey};
-ghost use Rattle.mesh_base.specs.KeyOrder.{key_cmp};
 ghost use Rattle.view_types.specs.declared.mark.Mark.TheVariants.{Obj};
 ghost use Rattle.mark_rules.specs.Marks.{same_mark};
 ghost use Rattle.endpoint_index.specs.Given.{touches};
@@ -14,7 +13,6 @@ use mesh_base::key::ObjKey;
 use mesh_base::memory::Memory;
 use slice_marks::slices::SliceMarks;
 use std::alloc::Global;
-use std::cmp::Ordering;
 use view_types::mark::Mark;
 
 /// The slices that have one of these marks or name a Pod that does. Other objects of the marks are
@@ -65,18 +63,4 @@ fn add_own(alloc: Global, mark: &Mark, touched: &mut KeyList) -> Result<(), Memo
         Mark::Obj(key) => touched.put(key.copy(alloc)?),
         _ => Ok(()),
     }
-}
-
-/// Whether a key is among keys that rise.
-pub(crate) fn has_key(keys: &[ObjKey], key: &ObjKey) -> bool
-    requires { Rises keys.now }
-    ensures { result ≡ has_key key.now keys.now }
-{
-    keys.binary_search_by(|other| compare(other, key)).is_ok()
-}
-
-fn compare(a: &ObjKey, b: &ObjKey) -> Ordering
-    ensures { result ≡ key_cmp a.now b.now }
-{
-    a.cmp(b)
 }

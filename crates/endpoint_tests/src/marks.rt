@@ -9,13 +9,19 @@ use std::test::Fail;
 use view_types::mark::Mark;
 
 // A slice, the Pods that it is put with, none if it is taken, and then the slices at each of three
-// Pods. A Pod that the slice named or names now has a - if no slice names it then, and else a +.
+// Pods. A Pod that lost a place in the slice, or that the slice didn't name, has a - if no slice names
+// it then, and else a +.
 const ROWS: &str = "b x x => x:b+ y: z:
 a y x => x:ab+ y:a+ z:
 a y x => x:ab y:a z:
 a z => x:b+ y:- z:a+
 b => x:- y: z:a
-c => x: y: z:a";
+c => x: y: z:a
+a z x y => x:a+ y:a+ z:a
+a z y => x:- y:a z:a
+a x y => x:a+ y:a z:-
+a x y x => x:a y:a z:
+a x y => x:a+ y:a z:";
 
 fn pod(alloc: Global, name: &str) -> Result<Mark, Memory> {
     Ok(Mark::Obj(key(alloc, Kind::Pod, name)?))

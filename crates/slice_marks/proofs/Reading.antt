@@ -15,8 +15,8 @@ use Rattle.mark_rules.proofs.MarkTests.{neither_first, neither_second}
 use Rattle.mark_rules.specs.Marks.{has_mark, mark_cmp, same_mark}
 use Rattle.mesh_base.specs.declared.key.ObjKey.{ObjKey}
 use Rattle.view_types.specs.declared.mark.Mark.{Mark}
-use Rattle.endpoint_rows.proofs.KeysAt.{own_key}
-use Rattle.slice_marks.specs.Marked.{KeysByMark, OthersStay, is_read, marks_read}
+use Rattle.endpoint_rows.proofs.KeysAt.{one_key, own_key}
+use Rattle.slice_marks.specs.Marked.{KeysByMark, Leaves, OthersStay, is_read, marks_read}
 
 -- whether there is a key
 abbrev pub has_any : List ObjKey → Bool
@@ -42,20 +42,57 @@ pub first_any : (keys : List ObjKey) (first : Option ObjKey) → first ≡ slice
 first_any [] first e = ap is_some e
 first_any (k ∷ ks) first e = ap is_some e
 
-module _ (old new : KeysByMark) (key : ObjKey) (marks : List Mark) where
-  left_alone : (a c d : Bool) → a ≡ false → (not (a && c) && d) ≡ d
-  left_alone true c d e = absurd (cc e)
-  left_alone false c d e = refl
+left_alone : (a c d : Bool) → a ≡ false → (not (a && c) && d) ≡ d
+left_alone true c d e = absurd (cc e)
+left_alone false c d e = refl
 
-  none_put : (a c d : Bool) → a ≡ false → ((a && c) || d) ≡ d
-  none_put true c d e = absurd (cc e)
-  none_put false c d e = refl
+none_put : (a c d : Bool) → a ≡ false → ((a && c) || d) ≡ d
+none_put true c d e = absurd (cc e)
+none_put false c d e = refl
 
-  pub others_taken : ((m : Mark) (k : ObjKey) → key_at mark_cmp new m k ≡ (not (has_mark marks m && is_key k key) && key_at mark_cmp old m k)) → OthersStay marks old new
-  others_taken taken m lacks = same_any (keys_at mark_cmp new m) (keys_at mark_cmp old m) (λ k. taken m k ∙ left_alone (has_mark marks m) (is_key k key) (key_at mark_cmp old m k) lacks)
+pub others_taken : (old new : KeysByMark) (key : ObjKey) (marks : List Mark) → ((m : Mark) (k : ObjKey) → key_at mark_cmp new m k ≡ (not (has_mark marks m && is_key k key) && key_at mark_cmp old m k)) → OthersStay marks old new
+others_taken old new key marks taken m lacks = same_any (keys_at mark_cmp new m) (keys_at mark_cmp old m) (λ k. taken m k ∙ left_alone (has_mark marks m) (is_key k key) (key_at mark_cmp old m k) lacks)
 
-  pub others_put : ((m : Mark) (k : ObjKey) → key_at mark_cmp new m k ≡ ((has_mark marks m && is_key k key) || key_at mark_cmp old m k)) → OthersStay marks old new
-  others_put put m lacks = same_any (keys_at mark_cmp new m) (keys_at mark_cmp old m) (λ k. put m k ∙ none_put (has_mark marks m) (is_key k key) (key_at mark_cmp old m k) lacks)
+-- one more moves, where a key is put to it
+pub one_moves : (moved : List Mark) (before old new : KeysByMark) (mark : Mark) (key : ObjKey) → ((m : Mark) (k : ObjKey) → key_at mark_cmp new m k ≡ ((same_mark m mark && is_key k key) || key_at mark_cmp old m k))
+    → OthersStay moved before old → OthersStay (moved ++ mark ∷ []) before new
+one_moves moved before old new mark key put stay m lacks =
+    let neither = sym (list_any-append (same_mark m) moved (mark ∷ [])) ∙ lacks in
+    same_any (keys_at mark_cmp new m) (keys_at mark_cmp old m) (λ k. put m k ∙ none_put (same_mark m mark) (is_key k key) (key_at mark_cmp old m k) (neither_first _ _ (neither_second _ _ neither)))
+    ∙ stay m (neither_first _ _ neither)
+
+-- a key that stands at a mark is put there once more
+pub put_again : (by : KeysByMark) (mark : Mark) (key : ObjKey) → key_at mark_cmp by mark key ≡ true → (m : Mark) (k : ObjKey) → key_at mark_cmp by m k ≡ ((same_mark m mark && is_key k key) || key_at mark_cmp by m k)
+put_again by mark key there m k = elim (same_mark m mark) as (λ b. same_mark m mark ≡ b → key_at mark_cmp by m k ≡ ((b && is_key k key) || key_at mark_cmp by m k)) [
+  | true ↦ λ s. elim (is_key k key) as (λ b. is_key k key ≡ b → key_at mark_cmp by m k ≡ (b || key_at mark_cmp by m k)) [
+    | true ↦ λ t. (λ i. key_at mark_cmp by (one_mark m mark s i) (one_key k key t i)) ∙ there
+    | false ↦ λ t. refl
+  ] refl
+  | false ↦ λ s. refl
+] refl
+
+-- ---- marks that are left out
+
+last : (done : List Mark) (mark m : Mark) → has_mark done m ≡ false → has_mark (done ++ mark ∷ []) m ≡ true → same_mark m mark ≡ true
+last done mark m lacks had = or_nothing (same_mark m mark) ∙ ap (λ b. b || (same_mark m mark || false)) (sym lacks) ∙ sym (list_any-append (same_mark m) done (mark ∷ [])) ∙ had
+  where
+    or_nothing : (b : Bool) → b ≡ (b || false)
+    or_nothing true = refl
+    or_nothing false = refl
+
+-- one mark more is passed, and left out unless it stands among those now
+pub one_passed : (done marks left : List Mark) (mark : Mark) (stands : Bool) → (stands ≡ true → has_mark marks mark ≡ true) → Leaves done marks left → Leaves (done ++ mark ∷ []) marks (cond stands left (left ++ mark ∷ []))
+one_passed done marks left mark true among so_far m lacks had =
+    elim (has_mark done m) as (λ b. has_mark done m ≡ b → has_mark marks m ≡ true) [
+      | true ↦ λ e. so_far m lacks e
+      | false ↦ λ e. (λ i. has_mark marks (one_mark m mark (last done mark m e had) i)) ∙ among refl
+    ] refl
+one_passed done marks left mark false among so_far m lacks had =
+    let neither = sym (list_any-append (same_mark m) left (mark ∷ [])) ∙ lacks in
+    elim (has_mark done m) as (λ b. has_mark done m ≡ b → has_mark marks m ≡ true) [
+      | true ↦ λ e. so_far m (neither_first _ _ neither) e
+      | false ↦ λ e. absurd (let no : true ≡ false = sym (last done mark m e had) ∙ neither_first (same_mark m mark) false (neither_second (has_mark left m) (same_mark m mark || false) neither) in cc no)
+    ] refl
 
 -- first some move, then others
 pub others_then : (marks more : List Mark) (old middle new : KeysByMark) → OthersStay marks old middle → OthersStay more middle new → OthersStay (marks ++ more) old new

@@ -28,6 +28,10 @@ marks_at by key = marks_given (tree.get key_cmp by key)
 pub record Agree (s : SliceMarks) : Type 0 where
   pub keys : (mark : Mark) (key : ObjKey) → key_at mark_cmp s.by_mark mark key ≡ has_mark (marks_at s.by_slice key) mark
 
+-- each of the marks before is among those now or left out
+abbrev pub Leaves : List Mark → List Mark → List Mark → Type 0
+Leaves before marks left = (mark : Mark) → has_mark left mark ≡ false → has_mark before mark ≡ true → has_mark marks mark ≡ true
+
 -- ---- which marks are read
 
 -- a slice reads the mark

@@ -5,5 +5,5 @@
 //! lemmas about keys at items of lists. The contracts cite `specs/Marked`.
 #![tactic(auto)]
 
-mod keys;
+pub mod keys;
 pub mod slices;

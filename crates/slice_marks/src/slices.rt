@@ -1,14 +1,15 @@
 //! The marks of slices by their keys, and the slices by those marks.
-ghost use Rattle.std.specs.Prelude.{◌≡◌, ◌++◌, [], IfOk, OnOk, true, not, filter, if◌then◌else◌};
+ghost use Rattle.std.specs.Prelude.{◌≡◌, ◌++◌, ◌∷◌, [], IfOk, OnOk, true, not, filter, if◌then◌else◌};
 ghost use Rattle.std.specs.BTreeMap.{btree_map_len};
 ghost use Rattle.mesh_base.specs.declared.key.ObjKey.{ObjKey};
 ghost use Rattle.key_lists.specs.Keys.{Rises, is_key, keys_at};
-ghost use Rattle.mark_rules.specs.Marks.{mark_cmp};
-ghost use Rattle.slice_marks.specs.Marked.{Agree, OthersStay, is_read, marks_at, marks_read};
+ghost use Rattle.mark_rules.specs.Marks.{has_mark, mark_cmp};
+ghost use Rattle.slice_marks.specs.Marked.{Agree, Leaves, OthersStay, is_read, marks_at, marks_read};
 
-use crate::keys::{keys_at, put_keys, take_keys};
+use crate::keys::{add_copy, keys_at, put_keys, take_keys};
 use key_lists::key_list::KeyList;
 use mark_graph::moves::MarkMoves;
+use mark_rules::marks::is_same_mark;
 use mesh_base::copied::Copied;
 use mesh_base::key::ObjKey;
 use mesh_base::list::List;
@@ -87,7 +88,8 @@ impl SliceMarks {
         Ok(marks)
     }
 
-    /// Lets the slice read these marks, and no others. Gives the marks that it read or reads now, or none if these are the same.
+    /// Lets the slice read these marks, and no others. Gives marks that moved: all others are read as before. Where one mark comes,
+    /// goes or stands in the place of another, those that stay aren't given (no clause says so).
     pub fn put(&mut self, key: ObjKey, marks: List<Mark>) -> Result<List<Mark>, Memory>
         ensures agree { Agree self.old → OnOk result (Agree self.new) }
         ensures put { OnOk result ((k : ObjKey)
@@ -110,22 +112,17 @@ impl SliceMarks {
         ensures moved { IfOk result (λ moved.
             OthersStay moved self.old.by_mark self.new.by_mark) }
     {
-        let mut moved = self.take(&key);
-        add_copies(self.alloc, &mut moved, marks.as_slice())?;
-        self.put_new(key, marks)?;
+        let mut moved = left_out(self.alloc, self.of(&key), marks.as_slice())?;
+        take_keys(&mut self.by_mark, moved.as_slice(), &key);
+        put_keys(
+            self.alloc,
+            &mut self.by_mark,
+            marks.as_slice(),
+            &key,
+            &mut moved,
+        )?;
+        put_marks(&mut self.by_slice, key, marks)?;
         Ok(moved)
-    }
-
-    fn put_new(&mut self, key: ObjKey, marks: List<Mark>) -> Result<(), Memory>
-        ensures agree { Agree self.old → marks_at self.old.by_slice key ≡ []
-            → OnOk result (Agree self.new) }
-        ensures put { OnOk result ((k : ObjKey)
-            → marks_at self.new.by_slice k
-            ≡ (if is_key k key then marks else marks_at self.old.by_slice k)) }
-        ensures others { OnOk result (OthersStay marks self.old.by_mark self.new.by_mark) }
-    {
-        put_keys(self.alloc, &mut self.by_mark, marks.as_slice(), &key)?;
-        put_marks(&mut self.by_slice, key, marks)
     }
 
     /// Lets the slice read nothing, and gives the marks that it read.
@@ -171,12 +168,62 @@ fn are_same(marks: &[Mark], before: &[Mark]) -> bool
     }
 }
 
+/// The marks before that are no more, and maybe others: both lists are passed side by side, and a mark that doesn't stand where it is
+/// looked for is left out.
+fn left_out(alloc: Global, before: &[Mark], marks: &[Mark]) -> Result<List<Mark>, Memory>
+    ensures { IfOk result (Leaves before.now marks.now) }
+{
+    let mut left = List::new(alloc);
+    let mut at: usize = 0;
+    let mut place: usize = 0;
+    for mark in before {
+        at = at.saturating_add(1);
+        let stands = stands_at(marks, place, mark);
+        leave_unless(alloc, stands, mark, &mut left)?;
+        place = place_after(marks, place, stands, before.get(at));
+    }
+    Ok(left)
+}
+
+/// Whether the mark stands at the place.
+fn stands_at(marks: &[Mark], place: usize, mark: &Mark) -> bool
+    ensures { result ≡ true → has_mark marks.now mark.now ≡ true }
+{
+    match marks.get(place) {
+        Some(other) => is_same_mark(mark, other),
+        None => false,
+    }
+}
+
+/// Adds a copy of the mark to those that are left out, unless it stands where it was looked for.
+fn leave_unless(
+    alloc: Global,
+    stands: bool,
+    mark: &Mark,
+    left: &mut List<Mark>,
+) -> Result<(), Memory>
+    ensures { OnOk result (left.new ≡ (if stands then left.old else left.old ++ mark.now ∷ [])) }
+{
+    if stands {
+        return Ok(());
+    }
+    add_copy(alloc, left, mark)
+}
+
+/// Where the next mark is looked for: at this place still where it stands there, and the one before doesn't.
+fn place_after(marks: &[Mark], place: usize, stood: bool, next: Option<&Mark>) -> usize {
+    match next {
+        Some(next) if !stood && stands_at(marks, place, next) => place,
+        _ => place.saturating_add(1),
+    }
+}
+
 /// Adds copies of marks to a list.
 pub fn add_copies(alloc: Global, marks: &mut List<Mark>, others: &[Mark]) -> Result<(), Memory>
     ensures { OnOk result (marks.new ≡ marks.old ++ others.now) }
 {
     for mark in others {
-        marks.add(mark.copy(alloc)?)?;
+        add_copy(alloc, marks, mark)?;
     }
     Ok(())
 }

@@ -1,22 +1,23 @@
-use Rattle.std.proofs.Common.{List, ◌++◌, cond, [], sym, ap, subst, ◌∙◌}
+use Rattle.std.proofs.Common.{◌≡◌, ◌&&◌, ◌||◌, not, List, subst}
+use Rattle.key_lists.specs.Keys.{is_key, key_at}
+use Rattle.mark_rules.specs.Marks.{has_mark, mark_cmp}
+use Rattle.mesh_base.specs.declared.key.ObjKey.{ObjKey}
 use Rattle.view_types.specs.declared.mark.Mark.{Mark}
-use Rattle.slice_marks.specs.Marked.{OthersStay, marks_at}
-use Rattle.endpoint_rows.proofs.KeysAt.{own_key}
-use Rattle.slice_marks.proofs.Agreeing.{put_twice}
-use Rattle.slice_marks.proofs.Reading.{others_then}
-use Rattle.key_lists.specs.Keys.{is_key}
+use Rattle.slice_marks.specs.Marked.{Leaves}
+use Rattle.slice_marks.proofs.Agreeing.{moved_agree}
+use Rattle.slice_marks.proofs.Reading.{others_taken}
 use Rattle.slice_marks.proofs.slices.SliceMarks.replace.Goals as goal
 
 pub returns-clause-agree : goal.returns-clause-agree
 returns-clause-agree c = λ agree.
-    c.in_ok-put_new.ensures.agree (c.take-moved.ensures.agree agree)
-    (c.take-moved.ensures.taken c.args.key ∙ ap (λ b. cond b [] (marks_at c.args.self.now.by_slice c.args.key)) (own_key c.args.key))
-
-pub returns-clause-put : goal.returns-clause-put
-returns-clause-put c = λ k.
-    c.in_ok-put_new.ensures.put k ∙ ap (cond (is_key k c.args.key) c.args.marks) (c.take-moved.ensures.taken k) ∙ put_twice (is_key k c.args.key) c.args.marks (marks_at c.args.self.now.by_slice k)
+    moved_agree c.args.self.now _ agree c.args.key c.args.marks c.in_ok-moved.moved c.take_keys.new.by
+    (subst (λ (before : List Mark). Leaves before c.args.marks c.in_ok-moved.moved) c.of.ensures (subst (λ (marks : List Mark). Leaves c.of.result.now marks c.in_ok-moved.moved) c.as_slice.ensures c.in_ok-moved.ensures))
+    c.in_ok-put_marks.ensures
+    (subst (λ marks. (m : Mark) (k : ObjKey) → key_at mark_cmp c.take_keys.new.by m k ≡ (not (has_mark marks m && is_key k c.args.key) && key_at mark_cmp c.args.self.now.by_mark m k)) c.as_slice-2.ensures c.take_keys.ensures)
+    (subst (λ marks. (m : Mark) (k : ObjKey) → key_at mark_cmp c.put_keys.new.by m k ≡ ((has_mark marks m && is_key k c.args.key) || key_at mark_cmp c.take_keys.new.by m k)) c.as_slice-3.ensures c.in_ok-put_keys.ensures.put)
 
 pub returns-clause-moved : goal.returns-clause-moved
 returns-clause-moved c =
-    subst (λ (marks : List Mark). OthersStay marks c.args.self.now.by_mark c.put_new.new.self.by_mark) (sym (c.in_ok-add_copies.ensures ∙ ap (λ more. c.take-moved.result ++ more) c.as_slice.ensures))
-    (others_then c.take-moved.result c.args.marks c.args.self.now.by_mark c.take-moved.new.self.by_mark c.put_new.new.self.by_mark c.take-moved.ensures.moved c.in_ok-put_new.ensures.others)
+    c.in_ok-put_keys.ensures.moved c.args.self.now.by_mark
+    (others_taken c.args.self.now.by_mark c.take_keys.new.by c.args.key c.in_ok-moved.moved
+    (subst (λ marks. (m : Mark) (k : ObjKey) → key_at mark_cmp c.take_keys.new.by m k ≡ (not (has_mark marks m && is_key k c.args.key) && key_at mark_cmp c.args.self.now.by_mark m k)) c.as_slice-2.ensures c.take_keys.ensures))

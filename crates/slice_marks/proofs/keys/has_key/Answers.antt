@@ -10,7 +10,7 @@ use Rattle.mesh_base.proofs.KeyOrder.{keys_total, keys_exact}
 use Rattle.mesh_base.proofs.Keyed.{searchable}
 use Rattle.mesh_base.proofs.Places.{searched}
 use Rattle.endpoint_rows.proofs.KeysAt.{own_key}
-use Rattle.endpoint_index.proofs.touched.has_key.Goals as goal
+use Rattle.slice_marks.proofs.keys.has_key.Goals as goal
 
 told : (keys : List ObjKey) → Rises keys → (key : ObjKey) (r : Result ℕ ℕ) → IfOk r (IsHit (λ k. key_cmp k key) keys) → IfErr r (IsGap (λ k. key_cmp k key) keys) → is_ok r ≡ has_key key keys
 told keys rises key (Ok i) hit gap = sym (had_has keys rises key i hit key ∙ ap (λ b. b || has_key key keys) (own_key key))
