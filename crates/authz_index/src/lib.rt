@@ -1,4 +1,4 @@
-//! The authorizations of Servers and of routes, kept in rows for the ports that they are joined into. No command uses it yet.
+//! The authorizations of Servers and of routes, kept in rows for the ports that they are joined into.
 //!
 //! Stands on row_table for the rows, on mark_rules for what a row is and which marks it reads, on object_store, and on
 //! policy_rows for the rows of authorizations. `AuthzIndex` is the table of row_table over `AuthzFinder`, so its contract is

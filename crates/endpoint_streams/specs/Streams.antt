@@ -5,6 +5,8 @@ use Rattle.view_types.specs.Objects.{ObjectMap}
 use Rattle.view_types.specs.declared.config.Config.{Config}
 use Rattle.view_types.specs.declared.endpoint.EndpointView.{EndpointView}
 use Rattle.view_types.specs.declared.mark.Mark.{Mark}
+use Rattle.view_types.specs.declared.query.Query.{Query}
+use Rattle.view_types.specs.declared.query.Query.TheVariants.{Get}
 use Rattle.view_rules.specs.Batch.{endpoint_batch}
 use Rattle.mark_rules.specs.Marks.{meets}
 use Rattle.mark_rules.specs.Reads.{endpoint_reads}
@@ -16,6 +18,10 @@ use Rattle.feed_history.specs.declared.refusal.HubFault.{HubFault}
 -- the endpoints of a key over the objects held, if there is a key
 abbrev pub endpoints_at : Config → ObjectMap → Option EndpointKey → Option EndpointView
 endpoints_at config held key = option_map (endpoint_row config held) key
+
+-- a query for the endpoints of a key, whoever asks
+abbrev pub query_for : EndpointKey → Query
+query_for key = Get key.ns key.name key.port (record { ns = None; node = None })
 
 -- the endpoints of a key, if there is one, read a mark of a change
 abbrev pub is_met : ObjectMap → List Mark → Option EndpointKey → Bool

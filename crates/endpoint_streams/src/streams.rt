@@ -1,4 +1,4 @@
-ghost use Rattle.std.specs.Prelude.{◌≡◌, ◌≤◌, ◌+◌, ℕ, List, Option, Some, None, IfOk, OnErr, OnOk};
+ghost use Rattle.std.specs.Prelude.{◌≡◌, ◌≤◌, ◌+◌, ℕ, List, Option, Some, None, IfOk, OnErr, OnOk, option_map};
 ghost use Rattle.view_types.specs.Objects.{ObjectMap};
 ghost use Rattle.view_types.specs.declared.config.Config.{Config};
 ghost use Rattle.view_types.specs.declared.endpoint.EndpointView.{EndpointView};
@@ -9,7 +9,8 @@ ghost use Rattle.mark_rules.specs.declared.keys.EndpointKey.{EndpointKey as TheK
 ghost use Rattle.mesh_base.specs.declared.limits.Limits.{Limits};
 ghost use Rattle.feed_history.specs.Drains.{IsOrMemory};
 ghost use Rattle.row_views.specs.Ids.{Keeps, SetsAt};
-ghost use Rattle.endpoint_streams.specs.Streams.{endpoints_at, frames_to, is_met};
+ghost use Rattle.row_views.specs.Costs.{FollowsWithin};
+ghost use Rattle.endpoint_streams.specs.Streams.{endpoints_at, frames_to, is_met, query_for};
 
 use bytes::Bytes;
 use feed_history::refusal::HubFault;
@@ -81,6 +82,11 @@ pub trait EndpointStreams: Drop {
             → stands self.old config limits held
             → Leads change.now.marks held store.now.objects
             → stands self.new config limits store.now.objects) }
+        ensures steps { OnOk result ((config : Config) (limits : Limits) (held : ObjectMap)
+            → stands self.old config limits held
+            → Leads change.now.marks held store.now.objects
+            → FollowsWithin config change.now.marks held store.now.objects
+            (λ id. option_map query_for (key_of self.old id)) steps.old steps.new) }
         ensures keys { Keeps (key_of self.old) (key_of self.new) };
 
     /// The frames that bring the subscriber of an id from the endpoints that it was last shown to those now. `Oversize` comes where

@@ -79,7 +79,7 @@ fn link_screen(rt: &HostRuntime, start: StartTime) -> Option<LinkScreen<&HostRun
 // The objects that a hub holds, by their kinds.
 fn held_in(hub: &Hub) -> HeldObjects {
     let mut held = HeldObjects::NONE;
-    for object in hub.objects() {
+    for object in hub.store().all() {
         held.add(object.kind());
     }
     held

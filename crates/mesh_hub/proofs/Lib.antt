@@ -1,7 +1,9 @@
 mod Accepted
 pub mod Calls
 mod Changed
+mod Costs
 mod Drained
 pub mod HubSteps
 mod LiveSubs
+mod Simulating
 mod UpTo

@@ -3,28 +3,24 @@ use Rattle.std.proofs.Common.{◌≡◌, ◌&&◌, ◌||◌, not, ℕ, Bool, tru
 use Rattle.std.specs.Prelude.{option_map}
 use Rattle.std.specs.Option.{is_some, option_copied}
 use Rattle.mesh_base.specs.declared.sub_id.SubId.{SubId}
-use Rattle.view_types.specs.Objects.{ObjectMap}
-use Rattle.view_types.specs.declared.config.Config.{Config}
 use Rattle.view_types.specs.declared.query.Query.{Query}
 use Rattle.view_types.specs.declared.query.Query.TheVariants.{Get, Profile, Port, Traffic}
-use Rattle.view_types.specs.declared.view.View.{View}
-use Rattle.view_rules.specs.Views.{view_of}
 use Rattle.std.proofs.lemmas.Bool.Decides.{eqb_tells}
 use Rattle.std.proofs.lemmas.List.{length-map}
 use Rattle.view_types.specs.declared.endpoint.EndpointView.{EndpointView}
 use Rattle.feed_history.specs.Ids.{ended, in_place}
-use Rattle.profile_index.specs.declared.views.ProfileViews.{ProfileViews}
-use Rattle.row_views.specs.Queries.{row_query, view_at}
+use Rattle.kept_views.specs.contracts.views.KeptViewsQueryViews.TheImpl.{ghosts as views}
+use Rattle.kept_views.specs.declared.views.KeptViews.{KeptViews}
 use Rattle.shared_endpoints.specs.contracts.shared.SharedEndpointsEndpointStreams.TheImpl.{ghosts}
 use Rattle.shared_endpoints.specs.declared.shared.SharedEndpoints.{SharedEndpoints}
-use Rattle.subscriptions.specs.Live.{LiveSubscription, endpoint_key, id_of, query_at, sub_at, subs_of, with_endpoints}
+use Rattle.subscriptions.specs.Live.{Covers, LiveSubscription, endpoint_key, id_of, query_at, sub_at, subs_of, with_endpoints}
 use Rattle.subscriptions.specs.declared.subscribers.Subscribers.{Subscribers}
 use Rattle.subscriptions.proofs.Streamed.{plain_same, seen_at}
 use Rattle.mesh_hub.specs.Hub.{asked_in, cancel_answer}
 use Rattle.mesh_hub.specs.LiveSubs.{live_in}
 
 abbrev Subs : Type 0
-Subs = Subscribers SharedEndpoints ProfileViews
+Subs = Subscribers SharedEndpoints KeptViews
 
 -- what they are once their streams are asked
 abbrev seen : Subs → List LiveSubscription
@@ -75,6 +71,13 @@ module _ (spent : Bool) (all : Subs) where
   pub going_live : spent ≡ false → live_in spent all ≡ subs_of (ghosts.shown_to all.endpoints) all.live.subs
   going_live going = ap (λ (b : Bool). live_in b all) going
 
+  -- they stay where neither they nor the streams change
+  pub same_live : (after : Subs) → after.live ≡ all.live → after.endpoints ≡ all.endpoints → live_in spent after ≡ live_in spent all
+  same_live after live endpoints = elim spent as (λ b. live_in b after ≡ live_in b all) [
+    | true ↦ (λ i. (live i).subs)
+    | false ↦ (λ i. subs_of (ghosts.shown_to (endpoints i)) (live i).subs)
+  ]
+
   pub none_live : (id : ℕ) → sub_at id all.live.subs ≡ None → sub_at id (live_in spent all) ≡ None
   none_live id none = elim spent as (λ b. sub_at id (live_in b all) ≡ None) [
     | true ↦ none
@@ -119,12 +122,12 @@ plain_found f id subs kept here other sub found =
     let same : with_endpoints f kept ≡ sub = cc both in
     sym (plain_same f kept other) ∙ same
 
--- a view that is kept is that of the query
-pub kept_view : (config : Config) (held : ObjectMap) (query : Query) (view : View) → Some view ≡ view_at config held (row_query query) → view ≡ view_of config held query
-kept_view config held (Get ns name port ctx) view is = absurd (cc is)
-kept_view config held (Profile target ctx) view is = cc is
-kept_view config held (Port ns pod port) view is = absurd (cc is)
-kept_view config held (Traffic target) view is = absurd (cc is)
+-- the views of those queries are kept that ask for no endpoints
+pub are_covered : Covers views.kept_query
+are_covered (Get ns name port ctx) = refl
+are_covered (Profile target ctx) = refl
+are_covered (Port ns pod port) = refl
+are_covered (Traffic target) = refl
 
 -- ---- who is due
 

@@ -1,5 +1,5 @@
 -- No live id is above the greatest that was accepted.
-use Rattle.std.proofs.Common.{◌≡◌, ◌<◌, ◌||◌, ℕ, Bool, true, false, cond, eqb, ltb, List, [], ◌∷◌, ◌++◌, Option, Some, None, refl, ap, ◌∙◌, arith, ltb-true}
+use Rattle.std.proofs.Common.{◌≡◌, ◌<◌, ◌||◌, ℕ, Bool, true, false, cond, eqb, ltb, List, [], ◌∷◌, ◌++◌, Option, Some, None, IfSome, refl, ap, ◌∙◌, arith, ltb-true}
 use Rattle.std.specs.List.{list_any}
 use Rattle.std.proofs.lemmas.Bool.Decides.{nat_tests}
 use Rattle.mark_rules.proofs.MarkTests.{neither_first, neither_second}
@@ -49,10 +49,18 @@ above_all n id lt (sub ∷ subs) none =
     let not_over : ltb n (id_of sub) ≡ false = neither_first _ _ none in
     (grind (arith, nat_tests), above_all n id lt subs (neither_second _ _ none))
 
+-- an id above the greatest is above all
+pub over_all : (last : Option ℕ) (id : ℕ) (subs : List LiveSubscription) → IfSome last (λ n. n < id) → AreUpTo last subs → AreBelow id subs
+over_all None id [] over none = tt
+over_all None id (sub ∷ subs) over none = absurd (cc none)
+over_all (Some n) id subs over none = above_all n id over subs none
+
+accepted_is_over : (limit live id : ℕ) (last : Option ℕ) → subscribe_refusal limit last live id ≡ None → IfSome last (λ n. n < id)
+accepted_is_over limit live id None is = tt
+accepted_is_over limit live id (Some n) is = less n id _ _ is
+
 pub accepted_is_above : (limit live id : ℕ) (last : Option ℕ) (subs : List LiveSubscription) → subscribe_refusal limit last live id ≡ None → AreUpTo last subs → AreBelow id subs
-accepted_is_above limit live id None [] is none = tt
-accepted_is_above limit live id None (sub ∷ subs) is none = absurd (cc none)
-accepted_is_above limit live id (Some n) subs is none = above_all n id (less n id _ _ is) subs none
+accepted_is_above limit live id last subs is none = over_all last id subs (accepted_is_over limit live id last is) none
 
 below_is_up_to : (id : ℕ) (subs : List LiveSubscription) → AreBelow id subs → AreUpTo (Some id) subs
 below_is_up_to id [] below = refl

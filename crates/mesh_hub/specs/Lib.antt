@@ -1,6 +1,7 @@
 pub mod Begins
 pub mod Calls
 pub mod Changing
+pub mod Costs
 pub mod Due
 pub mod Greatest
 pub mod Hub

@@ -1,11 +1,11 @@
--- The live subscriptions of a hub, with the streams of those that ask for endpoints, and the views of others that are kept.
+-- The live subscriptions of a hub, with the streams of those that ask for endpoints, and the kept views of the others.
 use Rattle.std.specs.Prelude.{Bool, true, false, List}
 use Rattle.mesh_base.specs.declared.limits.Limits.{Limits}
 use Rattle.view_types.specs.Objects.{ObjectMap}
 use Rattle.view_types.specs.declared.config.Config.{Config}
-use Rattle.profile_index.specs.contracts.views.ProfileViewsQueryViews.TheImpl.{ghosts as views}
-use Rattle.profile_index.specs.contracts.views.ProfileViewsQueryViews.TheImpl.Laws.{unique-law as views_unique}
-use Rattle.profile_index.specs.declared.views.ProfileViews.{ProfileViews}
+use Rattle.kept_views.specs.contracts.views.KeptViewsQueryViews.TheImpl.{ghosts as views}
+use Rattle.kept_views.specs.contracts.views.KeptViewsQueryViews.TheImpl.Laws.{unique-law as views_unique}
+use Rattle.kept_views.specs.declared.views.KeptViews.{KeptViews}
 use Rattle.shared_endpoints.specs.contracts.shared.SharedEndpointsEndpointStreams.TheImpl.{ghosts}
 use Rattle.shared_endpoints.specs.contracts.shared.SharedEndpointsEndpointStreams.TheImpl.Laws.{unique-law}
 use Rattle.shared_endpoints.specs.declared.shared.SharedEndpoints.{SharedEndpoints}
@@ -15,13 +15,13 @@ use Rattle.subscriptions.specs.Unique.{AllStand-prop}
 use Rattle.subscriptions.specs.declared.subscribers.Subscribers.{Subscribers}
 
 -- Each with the view that it was last shown. Once memory ran out, it isn't known which endpoints were shown.
-abbrev pub live_in : Bool → Subscribers SharedEndpoints ProfileViews → List LiveSubscription
+abbrev pub live_in : Bool → Subscribers SharedEndpoints KeptViews → List LiveSubscription
 live_in false all = subs_of (ghosts.shown_to all.endpoints) all.live.subs
 live_in true all = all.live.subs
 
 -- They stand for the objects held.
-abbrev pub Stand : Config → Limits → ObjectMap → Subscribers SharedEndpoints ProfileViews → Type 0
-Stand config limits held all = AllStand ghosts.key_of ghosts.shown_to ghosts.stands views.query_of views.stands config limits held all
+abbrev pub Stand : Config → Limits → ObjectMap → Subscribers SharedEndpoints KeptViews → Type 0
+Stand config limits held all = AllStand ghosts.key_of ghosts.shown_to ghosts.stands views.kept_query views.query_of views.stands config limits held all
 
-pub Stand-prop : (config : Config) (limits : Limits) (held : ObjectMap) (all : Subscribers SharedEndpoints ProfileViews) → IsProp (Stand config limits held all)
-Stand-prop config limits held all = AllStand-prop ghosts.key_of ghosts.shown_to ghosts.stands views.query_of views.stands unique-law views_unique config limits held all
+pub Stand-prop : (config : Config) (limits : Limits) (held : ObjectMap) (all : Subscribers SharedEndpoints KeptViews) → IsProp (Stand config limits held all)
+Stand-prop config limits held all = AllStand-prop ghosts.key_of ghosts.shown_to ghosts.stands views.kept_query views.query_of views.stands unique-law views_unique config limits held all

@@ -1,45 +1,45 @@
-ghost use Rattle.std.specs.Prelude.{◌≡◌, ◌≤◌, ◌&&◌, ◌||◌, not, nat_eq, ℕ, false, true, None, Ok, IfOk, OnErr, OnOk, Some};
-ghost use Rattle.std.specs.FinMap.{values};
+ghost use Rattle.std.specs.Prelude.{◌≡◌, ◌<◌, ◌≤◌, ◌&&◌, ◌||◌, not, nat_eq, ℕ, false, true, None, Ok, IfOk, IfSome, OnErr, OnOk, Some};
+ghost use Rattle.view_types.specs.declared.query.Query.TheVariants.{Port};
+ghost use Rattle.view_types.specs.declared.view.View.TheVariants.{Server};
 ghost use Rattle.view_rules.specs.Batch.{batch};
 ghost use Rattle.view_rules.specs.Fold.{IsOrderlyIfShown};
-ghost use Rattle.view_rules.specs.Views.{view_of};
+ghost use Rattle.view_rules.specs.Inbound.{inbound};
 ghost use Rattle.route_match.specs.Asking.{AsksPatterns, facts_of};
 ghost use Rattle.request_sim.specs.Faults.{MetPattern, Simulated};
 ghost use Rattle.feed_history.specs.Due.{is_touched};
 ghost use Rattle.subscriptions.specs.DueIds.{Rises, is_among};
-ghost use Rattle.subscriptions.specs.Live.{query_at};
+ghost use Rattle.subscriptions.specs.Live.{endpoint_key, query_at};
+ghost use Rattle.subscriptions.specs.Standing.{IsShownNow};
 ghost use Rattle.mesh_hub.specs.Greatest.{AreUpTo};
 ghost use Rattle.mesh_hub.specs.LiveSubs.{Stand, Stand-prop};
 
 use crate::held::{LawfulStore, fault_of};
 use crate::machine::Machine;
+use crate::port::{peek_port, server_in};
 use batch_laws::laws::same_view_sends_nothing;
 use bytes::Bytes;
 use event_laws::laws::events_keep_lawful;
 use feed_history::frames::frames_within;
 use feed_history::refusal::{HubFault, NoSuchId};
+use kept_views::views::KeptViews;
 use mesh_base::limits::Limits;
 use mesh_base::list::List;
 use mesh_base::memory::Memory;
 use mesh_base::steps::Steps;
 use mesh_base::sub_id::SubId;
 use mesh_outside::Patterns;
-use policy_rows::snapshot::Snapshot;
-use profile_index::views::ProfileViews;
+use object_store::store::Store;
 use request_sim::decide::decide;
 use request_sim::fault::SimFault;
-use row_reads::at_mark::Reader;
 use shared_endpoints::shared::SharedEndpoints;
 use std::alloc::Global;
+use subscriptions::boxed_view::BoxedView;
 use subscriptions::live::Subscription;
 use subscriptions::queries::asks_for_endpoints;
 use subscriptions::subscribers::Subscribers;
 use view_diff::views::batch;
-use view_scratch::inbound::inbound;
-use view_scratch::scratch::scratch;
 use view_types::config::Config;
 use view_types::message::Message;
-use view_types::object::Object;
 use view_types::query::Query;
 use view_types::request::Request;
 use view_types::verdict::Verdict;
@@ -52,7 +52,7 @@ pub struct Hub {
     config: Config,
     limits: Limits,
     store: LawfulStore,
-    subscribers: Subscribers<SharedEndpoints, ProfileViews>,
+    subscribers: Subscribers<SharedEndpoints, KeptViews>,
     /// The greatest id that was accepted.
     last: Option<u32>,
     /// Memory ran out once.
@@ -80,8 +80,9 @@ impl Drop for Hub {
 }
 
 impl Hub {
+    ghost use Rattle.mesh_hub.specs.Costs.{AppliesWithin, FindsWithin};
     ghost use Rattle.mesh_hub.specs.Due.{IdlesUnlessDue, IsUndueUnlessMemory, StaysDue, StaysDueOr, Undue, is_due};
-    ghost use Rattle.mesh_hub.specs.Hub.{Answers, Cancels, LiveSubscription, answer_of, applied, apply_refusal, drained, frames_at, fresh, is_live, new_refusal, state_of, sub_at, subscribed, Simulates};
+    ghost use Rattle.mesh_hub.specs.Hub.{Answers, Cancels, LiveSubscription, Rests, Simulates, Spends, answer_of, applied, apply_refusal, drained, frames_at, fresh, is_live, new_refusal, state_of, sub_at, subscribed};
     ghost use Rattle.mesh_hub.specs.Replies.{MayApply, MayDrain, MaySubscribe};
     ghost use Rattle.mesh_hub.specs.Sending.{IsDueOrTooLong, IsSent};
     ghost use Rattle.watch_events.specs.Lawful.{IsLawfulEvent};
@@ -93,13 +94,13 @@ impl Hub {
         ensures due { IfOk result (λ hub. (id : ℕ) → is_due hub id ≡ false) }
     {
         let endpoints = SharedEndpoints::new(alloc, &config, &limits)?;
-        let profiles = ProfileViews::new(alloc, &config)?;
+        let views = KeptViews::new(alloc, &config)?;
         Ok(Hub {
             alloc,
             config,
             limits,
             store: LawfulStore::new(alloc, limits.objects),
-            subscribers: Subscribers::new(alloc, endpoints, profiles),
+            subscribers: Subscribers::new(alloc, endpoints, views),
             last: None,
             spent: false,
         })
@@ -115,6 +116,7 @@ impl Hub {
         ensures may { MayApply result }
         ensures due { StaysDueOr (λ id. is_touched self.old.config self.old.store.objects event
             (query_at id (state_of self.old).subs)) result self.old self.new }
+        ensures steps { AppliesWithin (state_of self.old) event result steps.old steps.new }
     {
         if self.spent {
             return Err(HubFault::Memory);
@@ -125,12 +127,7 @@ impl Hub {
             Ok(change) => change,
             Err(fault) => return Err(fault_of(&mut self.spent, fault)),
         };
-        let reader = Reader {
-            alloc: self.alloc,
-            config: &self.config,
-            store: self.store.get(),
-        };
-        match self.subscribers.follow(&reader, &change, steps) {
+        match self.subscribers.follow(self.store.get(), &change, steps) {
             Ok(()) => Ok(()),
             Err(_) => {
                 self.spent = true;
@@ -152,6 +149,7 @@ impl Hub {
             (subscribed (state_of self.old) id query) result (state_of self.new) }
         ensures may { MaySubscribe result }
         ensures due { StaysDueOr (λ n. nat_eq n id.0) result self.old self.new }
+        ensures steps { FindsWithin (state_of self.old) query steps.old steps.new }
     {
         if self.spent {
             return Err(HubFault::Memory);
@@ -238,11 +236,18 @@ impl Hub {
             (state_of self.old) (state_of self.new) }
         ensures asks { AsksPatterns P.Patterns patterns.old patterns.new (MetPattern result) }
         ensures due { StaysDue self.old self.new }
+        ensures steps { FindsWithin (state_of self.old)
+            (Port request.now.ns request.now.pod request.now.port) steps.old steps.new }
     {
         if self.spent {
             return Err(SimFault::Memory);
         }
-        match self.verdict(request, patterns, steps) {
+        let _held = self.store.get();
+        let Ok(view) = self.port_view(request, steps) else {
+            return Err(SimFault::Memory);
+        };
+        let view = server_in(&view);
+        match decide(self.alloc, view, request, &self.config, patterns) {
             Ok(verdict) => Ok(verdict),
             Err(SimFault::Pattern { route, rule, item }) => {
                 Err(SimFault::Pattern { route, rule, item })
@@ -254,33 +259,33 @@ impl Hub {
         }
     }
 
-    // What comes of a request, by the view of its port.
-    fn verdict<P: Patterns, L>(
-        &self,
-        request: &Request,
-        patterns: &mut P,
-        steps: &mut Steps<L>,
-    ) -> Result<Verdict, SimFault>
-        ensures simulated { Simulated self.now.config self.now.store.objects
-            (facts_of P.Patterns patterns.old) request.now result }
-        ensures asks { AsksPatterns P.Patterns patterns.old patterns.new (MetPattern result) }
+    // The view of the port that a request is for. Without memory the hub is spent.
+    fn port_view<L>(&mut self, request: &Request, steps: &mut Steps<L>) -> Result<View, Memory>
+        requires going { self.old.spent ≡ false }
+        ensures value { IfOk result (λ view. view ≡ Server (inbound self.old.config
+            self.old.store.objects request.now.ns request.now.pod request.now.port)) }
+        ensures rests { OnOk result (Rests (state_of self.old) (state_of self.new)) }
+        ensures live { self.new.subscribers.live ≡ self.old.subscribers.live }
+        ensures spends { OnErr result (Spends (state_of self.old) (state_of self.new)) }
+        ensures steps { FindsWithin (state_of self.old)
+            (Port request.now.ns request.now.pod request.now.port) steps.old steps.new }
     {
-        let from = Snapshot {
-            alloc: self.alloc,
-            config: &self.config,
-            store: self.store.get(),
-        };
-        let Ok(view) = inbound(&from, &request.ns, &request.pod, request.port, steps) else {
-            return Err(SimFault::Memory);
-        };
-        decide(self.alloc, &view, request, &self.config, patterns)
+        fits_its_type(self.last);
+        let store = self.store.get();
+        match peek_port(&mut self.subscribers, store, request, steps) {
+            Ok(view) => Ok(view),
+            Err(_) => {
+                self.spent = true;
+                Err(Memory)
+            }
+        }
     }
 
-    /// The objects that are held, in the order of their keys.
-    pub fn objects(&self) -> &[Object]
-        ensures { result.now ≡ values (state_of self.now).objects }
+    /// The store of the objects that are held.
+    pub fn store(&self) -> &Store
+        ensures { result.now.objects ≡ (state_of self.now).objects }
     {
-        self.store.get().all()
+        self.store.get()
     }
 
     /// Whether a subscription is live under the id.
@@ -304,13 +309,9 @@ impl Hub {
             (subscribed (state_of self.old) id query) result (state_of self.new) }
         ensures may { MaySubscribe result }
         ensures due { StaysDueOr (λ n. nat_eq n id.0) result self.old self.new }
+        ensures steps { FindsWithin (state_of self.old) query steps.old steps.new }
     {
-        let reader = Reader {
-            alloc: self.alloc,
-            config: &self.config,
-            store: self.store.get(),
-        };
-        match self.subscribers.add(&reader, id, query, steps) {
+        match self.subscribers.add(self.store.get(), id, query, steps) {
             Ok(()) => {
                 self.last = Some(id.0);
                 Ok(())
@@ -351,15 +352,20 @@ impl Hub {
     }
 
     // The view that a subscriber is to see, and the frames that bring it there.
-    fn next_batch(&self, id: SubId, sub: &Subscription) -> Result<(View, List<Bytes>), HubFault>
+    fn next_batch(
+        &self,
+        id: SubId,
+        sub: &Subscription,
+    ) -> Result<(BoxedView, List<Bytes>), HubFault>
         requires going { self.now.spent ≡ false }
         requires live { sub_at id.0 self.now.subscribers.live.subs ≡ Some sub.now }
+        requires other { endpoint_key sub.now.query ≡ None }
         ensures { IsDueOrTooLong (state_of self.now) sub.now result }
     {
-        let view = self.view_of(id, &sub.query)?;
+        let view = self.view_of(id)?;
         let messages = self.messages_to(sub, &view)?;
         let frames = frames_within(self.alloc, self.limits.message, messages.as_slice())?;
-        Ok((view, frames))
+        Ok((BoxedView::new(self.alloc, view)?, frames))
     }
 
     // The messages that bring a subscriber to a view.
@@ -368,37 +374,34 @@ impl Hub {
         ensures { IfOk result (λ messages.
             messages ≡ batch sub.now.shown view.now self.now.limits) }
     {
-        batch(self.alloc, sub.shown.as_ref(), view, &self.limits)
+        batch(self.alloc, sub.shown(), view, &self.limits)
     }
 
-    // The view of the query under an id: a copy of its row where its view is kept, and else found anew.
-    fn view_of(&self, id: SubId, query: &Query) -> Result<View, Memory>
+    // The view that the subscriber of an id is to see, which asks for no endpoints.
+    fn view_of(&self, id: SubId) -> Result<View, Memory>
         requires going { self.now.spent ≡ false }
-        requires live { query_at id.0 self.now.subscribers.live.subs ≡ Some query.now }
-        ensures value { IfOk result (λ view.
-            view ≡ view_of self.now.config self.now.store.objects query.now) }
+        requires live { (sub : LiveSubscription)
+            × (sub_at id.0 self.now.subscribers.live.subs ≡ Some sub)
+            × (endpoint_key sub.query ≡ None) }
+        ensures value { IfOk result (λ view. IsShownNow self.now.config self.now.store.objects view
+            (sub_at id.0 self.now.subscribers.live.subs)) }
         ensures orderly { IfOk result (λ view. IsOrderlyIfShown (Some view)) }
     {
+        let _held = self.store.get();
         match self.subscribers.view(id)? {
             Some(view) => Ok(view),
-            None => self.view_anew(query),
+            None => unreachable!(),
         }
     }
+}
 
-    // The view of a query. A drain is lent no counter, so it makes its own.
-    fn view_anew(&self, query: &Query) -> Result<View, Memory>
-        ensures value { IfOk result (λ view.
-            view ≡ view_of self.now.config self.now.store.objects query.now) }
-        ensures orderly { IfOk result (λ view. IsOrderlyIfShown (Some view)) }
-    {
-        let mut steps = Steps::<Hub>::new();
-        scratch(
-            self.alloc,
-            self.store.get(),
-            &self.config,
-            query,
-            &mut steps,
-        )
+// An id is a number within its type.
+fn fits_its_type(id: Option<u32>)
+    ensures { IfSome id (λ n. n < 4294967296) }
+{
+    match id {
+        Some(_n) => {}
+        None => {}
     }
 }
 

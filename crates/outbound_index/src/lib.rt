@@ -1,4 +1,4 @@
-//! The outbound views of targets, kept in rows for the clients that ask for them. No command uses it yet.
+//! The outbound views of targets, kept in rows for the clients that ask for them.
 //!
 //! Stands on row_table for the rows, on mark_rules for what a row is and which marks it reads, on object_store, on policy_rows
 //! for the routes that are attached to a Service, and on view_scratch for the parts of a view. `OutboundIndex` is the table of

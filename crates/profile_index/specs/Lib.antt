@@ -1,2 +1,1 @@
 pub mod ProfileKeys
-pub mod ProfileQueries

@@ -1,4 +1,4 @@
-//! The routes of Servers, kept in rows for the ports that they are joined into. No command uses it yet.
+//! The routes of Servers, kept in rows for the ports that they are joined into.
 //!
 //! Stands on row_table for the rows, on mark_rules for what a row is and which mark it reads, on object_store, on policy_rows
 //! for the routes that are attached to a Server, and on view_scratch for their rules. `RouteIndex` is the table of row_table

@@ -1,2 +1,4 @@
-pub mod Used
+pub mod Costs
+pub mod Entered
 pub mod Standing
+pub mod Used

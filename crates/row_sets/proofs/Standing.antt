@@ -22,7 +22,7 @@ use Rattle.row_table.proofs.Keys.{flipped, is_itself}
 use Rattle.row_table.proofs.MarkLists.{meets_same, same_any}
 use Rattle.row_views.specs.Ids.{SetsAt, has_ids}
 use Rattle.row_sets.specs.Standing.{InUse, Standing, any_met, is_left_out, keys_at, keys_in, row_if}
-use Rattle.row_sets.proofs.Used.{has_where}
+use Rattle.row_views.proofs.Ids.{has_where}
 
 no_any : {A : Type 0} (f : A → Bool) (xs : List A) → ((a : A) → f a ≡ false) → list_any f xs ≡ false
 no_any f [] none = refl

@@ -18,17 +18,10 @@ use Rattle.mark_graph.specs.RowMarks.{AddsRow, AllHaveRows, RemovesRow, row_at, 
 use Rattle.row_table.specs.IndexRows.{OneLess, has_key}
 use Rattle.row_table.proofs.Keys.{flipped, is_itself, tells, turned}
 use Rattle.row_views.specs.Ids.{OneMoreUnless, has_ids}
+use Rattle.row_views.proofs.Ids.{has_alike, has_one, has_where}
 use Rattle.row_sets.specs.Standing.{InUse, is_left_out}
 
--- a set that isn't empty has an id
-first_of : (s : BTreeSet ℕ) → 0 < sorted.btree_set_len s → (r : ℕ) × (sorted.contains nat_cmp s r ≡ true)
-first_of s some = by s.keys refl
-  where
-    by : (ks : List ℕ) → s.keys ≡ ks → (r : ℕ) × (sorted.contains nat_cmp s r ≡ true)
-    by [] is = let lt : 0 < 0 = subst (λ (ks : List ℕ). 0 < length ks) is some in absurd (omega (arith, lt))
-    by (x ∷ xs) is = (x, ap (list_any (is_at (nat_cmp x))) is ∙ ap (λ b. b || list_any (is_at (nat_cmp x)) xs) (is_itself nat_cmp nat_cmp_total nat_cmp-IsAntisymmetric x))
-
-nat_itself : (n : ℕ) → nat_eq n n ≡ true
+pub nat_itself : (n : ℕ) → nat_eq n n ≡ true
 nat_itself n = sym (unsigned_tied n n) ∙ is_itself nat_cmp nat_cmp_total nat_cmp-IsAntisymmetric n
 
 and_true : (a b : Bool) → (a && b) ≡ true → b ≡ true
@@ -72,32 +65,9 @@ module _ {Key : Type 0} (cmp : Key → Key → Ordering) (total : IsTotalOrder c
 
   -- ---- keys that have ids
 
-  has_one : (by_key : ByKey) → AllHaveRows cmp by_key → (k : Key) → has_ids cmp by_key k ≡ true → (r : ℕ) × (row_at cmp by_key k r ≡ true)
-  has_one by_key each k is = by (tree.get cmp by_key k) refl
-    where
-      by : (o : Option (BTreeSet ℕ)) → tree.get cmp by_key k ≡ o → (r : ℕ) × (row_at cmp by_key k r ≡ true)
-      by None e = absurd (false≢true (sym (ap is_some e) ∙ is))
-      by (Some s) e = let one = first_of s (each k s e) in (one.0, ap (some_row one.0) e ∙ one.1)
-
-  pub has_where : (by_key : ByKey) (k : Key) (r : ℕ) → row_at cmp by_key k r ≡ true → has_ids cmp by_key k ≡ true
-  has_where by_key k r is = by (tree.get cmp by_key k) refl
-    where
-      by : (o : Option (BTreeSet ℕ)) → tree.get cmp by_key k ≡ o → has_ids cmp by_key k ≡ true
-      by None e = absurd (false≢true (sym (ap (some_row r) e) ∙ is))
-      by (Some s) e = ap is_some e
-
   -- a key whose ids all stay has ids
   stays_used : (old new : ByKey) → AllHaveRows cmp old → (k : Key) → ((r : ℕ) → row_at cmp old k r ≡ true → row_at cmp new k r ≡ true) → has_ids cmp old k ≡ true → has_ids cmp new k ≡ true
-  stays_used old new each k stay is = let one = has_one old each k is in has_where new k one.0 (stay one.0 one.1)
-
-  has_alike : (old new : ByKey) → AllHaveRows cmp old → AllHaveRows cmp new → (k : Key) → ((r : ℕ) → row_at cmp new k r ≡ row_at cmp old k r) → has_ids cmp new k ≡ has_ids cmp old k
-  has_alike old new each other k same = by (has_ids cmp new k) (has_ids cmp old k) refl refl
-    where
-      by : (n o : Bool) → has_ids cmp new k ≡ n → has_ids cmp old k ≡ o → n ≡ o
-      by true true e f = refl
-      by false false e f = refl
-      by true false e f = absurd (false≢true (sym f ∙ stays_used new old other k (λ r is. sym (same r) ∙ is) e))
-      by false true e f = absurd (false≢true (sym e ∙ stays_used old new each k (λ r is. same r ∙ is) f))
+  stays_used old new each k stay is = let one = has_one cmp total exact old each k is in has_where cmp total exact new k one.0 (stay one.0 one.1)
 
   -- keys that have ids have them still after more are added
   pub added_used : (old new : ByKey) (set : Key → Bool) (id : ℕ) → AllHaveRows cmp old → AddsRow cmp set id old new → (k : Key) → has_ids cmp old k ≡ true → has_ids cmp new k ≡ true
@@ -121,10 +91,10 @@ module _ {Key : Type 0} (cmp : Key → Key → Ordering) (total : IsTotalOrder c
 
     module _ (adds : AddsRow cmp (eq_by_cmp cmp key) id by_key new) where
       put_alike : (k : Key) → eq_by_cmp cmp k key ≡ false → has_ids cmp new k ≡ has_ids cmp by_key k
-      put_alike k apart = has_alike by_key new used.each each k (λ r. adds k r ∙ ap (λ b. (b && nat_eq r id) || row_at cmp by_key k r) (turned cmp total exact k key apart))
+      put_alike k apart = has_alike cmp total exact by_key new used.each each k (λ r. adds k r ∙ ap (λ b. (b && nat_eq r id) || row_at cmp by_key k r) (turned cmp total exact k key apart))
 
       put_there : has_ids cmp new key ≡ true
-      put_there = has_where new key id (adds key id ∙ (λ i. (is_itself cmp total exact key i && nat_itself id i) || row_at cmp by_key key id))
+      put_there = has_where cmp total exact new key id (adds key id ∙ (λ i. (is_itself cmp total exact key i && nat_itself id i) || row_at cmp by_key key id))
 
       -- an id is put at the key, which is a user of the index now
       pub put_in_use : OneMoreUnless cmp (has_ids cmp by_key key) key (users index) (users next) → stand next held → InUse cmp users stand held next new
@@ -142,7 +112,7 @@ module _ {Key : Type 0} (cmp : Key → Key → Ordering) (total : IsTotalOrder c
 
     module _ (takes : RemovesRow cmp (eq_by_cmp cmp key) id by_key new) where
       take_alike : (k : Key) → eq_by_cmp cmp k key ≡ false → has_ids cmp new k ≡ has_ids cmp by_key k
-      take_alike k apart = has_alike by_key new used.each each k (λ r. takes k r ∙ ap (λ b. not (b && nat_eq r id) && row_at cmp by_key k r) (turned cmp total exact k key apart))
+      take_alike k apart = has_alike cmp total exact by_key new used.each each k (λ r. takes k r ∙ ap (λ b. not (b && nat_eq r id) && row_at cmp by_key k r) (turned cmp total exact k key apart))
 
       -- an id is removed from the key, which has others
       pub still_in_use : has_ids cmp new key ≡ true → InUse cmp users stand held index new

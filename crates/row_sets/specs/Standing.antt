@@ -1,11 +1,11 @@
 -- When the rows of the keys that ids are open with stand for the objects held.
-use Rattle.std.specs.Prelude.{◌≡◌, ◌&&◌, not, ℕ, Bool, List, [], Option, Some, None, if◌then◌else◌}
+use Rattle.std.specs.Prelude.{◌≡◌, ◌≤◌, ◌+◌, ◌&&◌, not, ℕ, Bool, true, false, List, [], Option, Some, None, if◌then◌else◌}
 use Rattle.std.specs.BTreeMap as tree
 use Rattle.std.specs.BTreeMap.{BTreeMap}
 use Rattle.std.specs.BTreeSet as sorted
 use Rattle.std.specs.BTreeSet.{BTreeSet}
-use Rattle.std.specs.List.{list_any, sum_by}
-use Rattle.std.specs.Ordering.{nat_cmp}
+use Rattle.std.specs.List.{AllByRecursion, IsDistinct, list_any, sum_by}
+use Rattle.std.specs.Ordering.{eq_by_cmp, nat_cmp}
 use Rattle.std.specs.declared.cmp.Ordering.{Ordering}
 use Rattle.view_types.specs.Objects.{ObjectMap}
 use Rattle.view_types.specs.declared.mark.Mark.{Mark}
@@ -51,3 +51,10 @@ module _ {Key Row : Type 0} (filter : Filter Key Row) (held : ObjectMap) where
   -- the row of a key that is used
   abbrev pub row_if : Bool → Key → Option Row
   row_if used key = if used then Some (filter.row_of held key) else None
+
+  -- New keys, each once, read all that is looked up as an id is opened with these.
+  pub record EntersWithin (cmp : Key → Key → Ordering) (used : Key → Bool) (keys : List Key) (old new : ℕ) : Type 0 where
+    pub entered : List Key
+    pub each : AllByRecursion (λ key. (has_key cmp keys key ≡ true) × (used key ≡ false)) entered
+    pub once : IsDistinct (eq_by_cmp cmp) entered
+    pub most : new ≤ old + sum_by (λ key. cost held (filter.reads held key)) entered

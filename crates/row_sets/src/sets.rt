@@ -10,7 +10,7 @@ ghost use Rattle.mark_rules.specs.Changes.{Leads};
 ghost use Rattle.row_table.specs.IndexRows.{has_key};
 ghost use Rattle.row_views.specs.Ids.{Keeps, SetsAt, has_ids};
 ghost use Rattle.row_views.specs.Standing.{FollowCost};
-ghost use Rattle.row_sets.specs.Standing.{Standing, any_met, keys_at, open_cost, row_if};
+ghost use Rattle.row_sets.specs.Standing.{EntersWithin, Standing, any_met, keys_at, open_cost, row_if};
 
 use crate::used_keys::UsedKeys;
 use mark_graph::by_mark::{gather_all, list_of, set_of};
@@ -74,6 +74,10 @@ where
             self.old.used.index self.old.used.by_key self.old.by_id → steps.new ≤ steps.old
             + open_cost (I.filter self.old.used.index) store.now.objects
             (has_ids I.Key.Ord.cmp self.old.used.by_key) keys }
+        ensures entered { OnOk result (Standing I.Key.Ord.cmp I.users I.stands store.now.objects
+            self.old.used.index self.old.used.by_key self.old.by_id → EntersWithin
+            (I.filter self.old.used.index) store.now.objects I.Key.Ord.cmp
+            (has_ids I.Key.Ord.cmp self.old.used.by_key) keys steps.old steps.new) }
         ensures filter { I.filter self.new.used.index ≡ I.filter self.old.used.index }
         ensures kept { OnErr result (Keeps (keys_at self.old.by_id) (keys_at self.new.by_id)) }
     {
@@ -115,9 +119,11 @@ where
             held self.old.used.index self.old.used.by_key self.old.by_id
             → Leads change.now.marks held store.now.objects → Standing I.Key.Ord.cmp I.users
             I.stands store.now.objects self.new.used.index self.new.used.by_key self.new.by_id) }
-        ensures steps { OnOk result (FollowCost (I.filter self.old.used.index) I.Key.Ord.cmp
-            change.now.marks (I.marks_at self.old.used.index) store.now.objects steps.old
-            steps.new) }
+        ensures steps { OnOk result ((held : ObjectMap) → Standing I.Key.Ord.cmp I.users I.stands
+            held self.old.used.index self.old.used.by_key self.old.by_id
+            → FollowCost (I.filter self.old.used.index) I.Key.Ord.cmp
+            (has_ids I.Key.Ord.cmp self.old.used.by_key) change.now.marks held
+            store.now.objects steps.old steps.new) }
         ensures filter { I.filter self.new.used.index ≡ I.filter self.old.used.index }
         ensures keys { self.new.by_id ≡ self.old.by_id }
     {

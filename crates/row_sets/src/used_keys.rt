@@ -7,7 +7,7 @@ ghost use Rattle.mark_graph.specs.RowMarks.{AddsRow, AllHaveRows, RemovesRow};
 ghost use Rattle.mark_rules.specs.Reads.{cost};
 ghost use Rattle.row_table.specs.IndexRows.{has_key};
 ghost use Rattle.row_views.specs.Ids.{OneMoreUnless, has_ids};
-ghost use Rattle.row_sets.specs.Standing.{InUse, is_left_out, open_cost};
+ghost use Rattle.row_sets.specs.Standing.{EntersWithin, InUse, is_left_out, open_cost};
 
 use mark_graph::by_mark::{put_one, take_one};
 use mesh_base::copied::Copied;
@@ -62,6 +62,9 @@ where
         ensures steps { AllHaveRows I.Key.Ord.cmp self.old.by_key → steps.new ≤ steps.old
             + open_cost (I.filter self.old.index) store.now.objects
             (has_ids I.Key.Ord.cmp self.old.by_key) keys.now }
+        ensures entered { OnOk result (AllHaveRows I.Key.Ord.cmp self.old.by_key → EntersWithin
+            (I.filter self.old.index) store.now.objects I.Key.Ord.cmp
+            (has_ids I.Key.Ord.cmp self.old.by_key) keys.now steps.old steps.new) }
         ensures filter { I.filter self.new.index ≡ I.filter self.old.index }
     {
         for key in keys {

@@ -52,7 +52,7 @@ module _ {Key : Type 0} (cmp : Key → Key → Ordering) (total : IsTotalOrder c
 
   -- ---- keys that have ids
 
-  has_one : (by_key : ByKey) → AllHaveRows cmp by_key → (k : Key) → has_ids cmp by_key k ≡ true → (r : ℕ) × (row_at cmp by_key k r ≡ true)
+  pub has_one : (by_key : ByKey) → AllHaveRows cmp by_key → (k : Key) → has_ids cmp by_key k ≡ true → (r : ℕ) × (row_at cmp by_key k r ≡ true)
   has_one by_key each k is = by (tree.get cmp by_key k) refl
     where
       by : (o : Option (BTreeSet ℕ)) → tree.get cmp by_key k ≡ o → (r : ℕ) × (row_at cmp by_key k r ≡ true)
@@ -66,7 +66,7 @@ module _ {Key : Type 0} (cmp : Key → Key → Ordering) (total : IsTotalOrder c
       by None e = absurd (false≢true (sym (ap (some_row r) e) ∙ is))
       by (Some s) e = ap is_some e
 
-  has_alike : (old new : ByKey) → AllHaveRows cmp old → AllHaveRows cmp new → (k : Key) → ((r : ℕ) → row_at cmp new k r ≡ row_at cmp old k r) → has_ids cmp new k ≡ has_ids cmp old k
+  pub has_alike : (old new : ByKey) → AllHaveRows cmp old → AllHaveRows cmp new → (k : Key) → ((r : ℕ) → row_at cmp new k r ≡ row_at cmp old k r) → has_ids cmp new k ≡ has_ids cmp old k
   has_alike old new each other k same = by (has_ids cmp new k) (has_ids cmp old k) refl refl
     where
       by : (n o : Bool) → has_ids cmp new k ≡ n → has_ids cmp old k ≡ o → n ≡ o

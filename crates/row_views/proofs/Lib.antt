@@ -1,3 +1,4 @@
-mod Ids
+pub mod Costs
+pub mod Ids
 pub mod Standing
 pub mod Truncated

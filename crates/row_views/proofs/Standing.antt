@@ -18,7 +18,7 @@ use Rattle.row_table.specs.IndexRows.{AreMet, Filter, IsCurrent, OneLess}
 use Rattle.row_table.proofs.Keys.{flipped}
 use Rattle.row_table.proofs.MarkLists.{meets_same, same_any}
 use Rattle.row_views.specs.Ids.{OneMoreUnless, SetsAt, has_ids, is_key, key_at}
-use Rattle.row_views.specs.Standing.{Standing, is_met}
+use Rattle.row_views.specs.Standing.{AreKept, Standing, is_met}
 use Rattle.row_views.proofs.Ids.{id_there, less_users, more_users, put_alike, put_there, put_tied, same_users, take_alike, take_tied}
 
 pub if_then : {A E : Type 0} {P R : A → Type 0} (r : Result A E) → IfOk r P → ((a : A) → P a → R a) → IfOk r R
@@ -115,3 +115,8 @@ module _ {Index Key : Type 0} (cmp : Key → Key → Ordering) (total : IsTotalO
             same_any (λ key. eq_by_cmp cmp key k) (eq_by_cmp cmp k) (λ key. flipped cmp total exact key k) keys
             ∙ met.each k
             ∙ meets_same (marks_in index k) (filter.reads held k) changed ((current st.rows k).used (used n k is)).1
+
+-- rows of an index that is this one
+pub moved_kept : {Index Key Row : Type 0} {cmp : Key → Key → Ordering} {users : Index → Key → ℕ} {stand : Index → ObjectMap → Type 0} {filter_of : Index → Filter Key Row} {filter : Filter Key Row} {held : ObjectMap}
+    {index new : Index} {by_key : BTreeMap Key (BTreeSet ℕ)} {by_id : BTreeMap ℕ Key} → new ≡ index → Standing cmp users stand held index by_key by_id → filter_of index ≡ filter → AreKept cmp users stand filter_of filter held new by_key by_id
+moved_kept {cmp} {users} {stand} {filter_of} {held} {by_key} {by_id} same rows filtered = record { rows = subst (λ it. Standing cmp users stand held it by_key by_id) (sym same) rows; filtered = ap filter_of same ∙ filtered }

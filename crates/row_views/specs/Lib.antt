@@ -1,3 +1,4 @@
+pub mod Costs
 pub mod Ids
 pub mod Queries
 pub mod Standing

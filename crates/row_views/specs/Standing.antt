@@ -1,14 +1,15 @@
 -- When the rows of ids stand for the objects held.
-use Rattle.std.specs.Prelude.{◌≡◌, ◌≤◌, ◌+◌, ℕ, Bool, false, List, Option, Some, None, if◌then◌else◌}
+use Rattle.std.specs.Prelude.{◌≡◌, ◌≤◌, ◌+◌, ℕ, Bool, true, false, List, Option, Some, None, if◌then◌else◌}
 use Rattle.std.specs.BTreeMap.{BTreeMap}
 use Rattle.std.specs.BTreeSet.{BTreeSet}
-use Rattle.std.specs.List.{sum_by}
+use Rattle.std.specs.List.{AllByRecursion, IsDistinct, sum_by}
+use Rattle.std.specs.Ordering.{eq_by_cmp}
 use Rattle.std.specs.declared.cmp.Ordering.{Ordering}
 use Rattle.view_types.specs.Objects.{ObjectMap}
 use Rattle.view_types.specs.declared.mark.Mark.{Mark}
 use Rattle.mark_rules.specs.Marks.{meets}
 use Rattle.mark_rules.specs.Reads.{cost}
-use Rattle.row_table.specs.IndexRows.{AreMet, Filter}
+use Rattle.row_table.specs.IndexRows.{Filter}
 use Rattle.row_views.specs.Ids.{AreTied, has_ids}
 
 -- The index stands for the objects held, and the keys with users are those that ids are open with.
@@ -23,8 +24,15 @@ module _ {Key Row : Type 0} (filter : Filter Key Row) where
   is_met held changed None = false
   is_met held changed (Some key) = meets (filter.reads held key) changed
 
-  -- what is looked up, at most, where the rows of some keys follow a change: what each of those reads that read a mark of it
-  pub record FollowCost (cmp : Key → Key → Ordering) (changed : List Mark) (marks_at : Key → List Mark) (held : ObjectMap) (before after : ℕ) : Type 0 where
+  -- Keys that are used and read a mark of a change, each once, read all that is looked up as their rows follow it.
+  pub record FollowCost (cmp : Key → Key → Ordering) (used : Key → Bool) (changed : List Mark) (before after : ObjectMap) (old new : ℕ) : Type 0 where
     pub keys : List Key
-    pub met : AreMet cmp changed marks_at keys
-    pub most : after ≤ before + sum_by (λ key. cost held (filter.reads held key)) keys
+    pub each : AllByRecursion (λ key. (used key ≡ true) × (meets (filter.reads before key) changed ≡ true)) keys
+    pub once : IsDistinct (eq_by_cmp cmp) keys
+    pub most : new ≤ old + sum_by (λ key. cost after (filter.reads after key)) keys
+
+-- The rows stand for the objects held, and are those of this filter.
+pub record AreKept {Index Key Row : Type 0} (cmp : Key → Key → Ordering) (users : Index → Key → ℕ) (stand : Index → ObjectMap → Type 0) (filter_of : Index → Filter Key Row) (filter : Filter Key Row)
+    (held : ObjectMap) (index : Index) (by_key : BTreeMap Key (BTreeSet ℕ)) (by_id : BTreeMap ℕ Key) : Type 0 where
+  pub rows : Standing cmp users stand held index by_key by_id
+  pub filtered : filter_of index ≡ filter

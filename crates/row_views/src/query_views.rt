@@ -1,13 +1,15 @@
 // The views of queries, kept for the ids of subscriptions.
-ghost use Rattle.std.specs.Prelude.{◌≡◌, ℕ, Option, None, IfOk, OnErr, OnOk};
-ghost use Rattle.view_types.specs.Objects.{ObjectMap};
+ghost use Rattle.std.specs.Prelude.{◌≡◌, ◌≤◌, ◌+◌, ℕ, Option, None, IfOk, OnErr, OnOk, is_some};
+ghost use Rattle.view_types.specs.Objects.{AtKeys, ObjectMap};
 ghost use Rattle.view_types.specs.declared.config.Config.{Config};
 ghost use Rattle.view_types.specs.declared.query.Query.{Query as TheQuery};
 ghost use Rattle.view_rules.specs.Fold.{IsOrderlyIfShown};
+ghost use Rattle.view_rules.specs.PolicyLaws.{AreLawful};
 ghost use Rattle.mark_graph.specs.RowMarks.{has_row};
 ghost use Rattle.mark_rules.specs.Changes.{Leads};
+ghost use Rattle.row_views.specs.Costs.{FollowsWithin, open_cost};
 ghost use Rattle.row_views.specs.Ids.{Keeps, SetsAt};
-ghost use Rattle.row_views.specs.Queries.{reads_one, row_query, view_at};
+ghost use Rattle.row_views.specs.Queries.{ShowsSame, reads_one, view_at};
 
 use mesh_base::list::List;
 use mesh_base::memory::Memory;
@@ -20,11 +22,18 @@ use view_types::view::View;
 /// The views of queries, each for the id of a subscription. After Memory nothing is known of the views, but the queries of the ids
 /// stay.
 pub trait QueryViews: Drop {
+    /// A query whose view is kept, as far as its view depends on it. Of all others there is none.
+    ghost kept_query: { TheQuery → Option TheQuery };
+
     /// The query that an id is open with, as far as its view depends on it.
     ghost query_of: { Self → ℕ → Option TheQuery };
 
     /// The views are those over these objects.
     ghost stands: { Self → Config → ObjectMap → Type 0 };
+
+    /// Whether the view of a query is kept.
+    fn keeps(query: &Query) -> bool
+        ensures { result ≡ is_some (kept_query query.now) };
 
     /// Opens an id, which was open with no query, if the view of the query is kept at all.
     fn open<L>(
@@ -36,9 +45,11 @@ pub trait QueryViews: Drop {
     ) -> Result<(), Memory>
         requires free { query_of self.old id ≡ None }
         ensures queries { OnOk result
-            (SetsAt id (row_query query.now) (query_of self.old) (query_of self.new)) }
+            (SetsAt id (kept_query query.now) (query_of self.old) (query_of self.new)) }
         ensures stands { OnOk result ((config : Config) → stands self.old config store.now.objects
             → stands self.new config store.now.objects) }
+        ensures steps { (config : Config) → stands self.old config store.now.objects → steps.new
+            ≤ steps.old + open_cost config store.now.objects (kept_query query.now) }
         ensures kept { OnErr result (Keeps (query_of self.old) (query_of self.new)) };
 
     /// Closes an id, if it is open. It allocates nothing.
@@ -60,13 +71,21 @@ pub trait QueryViews: Drop {
         ensures stands { OnOk result ((config : Config) (held : ObjectMap)
             → stands self.old config held → Leads change.now.marks held store.now.objects
             → stands self.new config store.now.objects) }
+        ensures steps { OnOk result ((config : Config) (held : ObjectMap)
+            → stands self.old config held → Leads change.now.marks held store.now.objects
+            → FollowsWithin config change.now.marks held store.now.objects (query_of self.old)
+            steps.old steps.new) }
         ensures queries { Keeps (query_of self.old) (query_of self.new) };
 
     /// The view of the query that an id is open with.
     fn view(&self, id: u64) -> Result<Option<View>, Memory>
         ensures value { IfOk result (λ view. (config : Config) (held : ObjectMap)
-            → stands self.now config held → view ≡ view_at config held (query_of self.now id)) }
+            → AtKeys held → AreLawful held → stands self.now config held
+            → view ≡ view_at config held (query_of self.now id)) }
         ensures orderly { IfOk result IsOrderlyIfShown };
+
+    /// What is kept of a query tells its view, and what it reads.
+    ghost same: { ShowsSame kept_query };
 
     /// The views stand in one way only, so that a field of a struct may say that they do.
     ghost unique: { (views : Self) (config : Config) (held : ObjectMap)

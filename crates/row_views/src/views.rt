@@ -135,13 +135,23 @@ where
             held self.old.index self.old.by_key self.old.by_id
             → Leads change.now.marks held store.now.objects → Standing I.Key.Ord.cmp I.users
             I.stands store.now.objects self.new.index self.new.by_key self.new.by_id) }
-        ensures steps { OnOk result (FollowCost (I.filter self.old.index) I.Key.Ord.cmp
-            change.now.marks (I.marks_at self.old.index) store.now.objects steps.old steps.new) }
+        ensures steps { OnOk result ((held : ObjectMap) → Standing I.Key.Ord.cmp I.users I.stands
+            held self.old.index self.old.by_key self.old.by_id
+            → FollowCost (I.filter self.old.index) I.Key.Ord.cmp
+            (has_ids I.Key.Ord.cmp self.old.by_key) change.now.marks held store.now.objects
+            steps.old steps.new) }
         ensures filter { I.filter self.new.index ≡ I.filter self.old.index }
         ensures keys { self.new.by_id ≡ self.old.by_id }
     {
         let keys = self.index.on_change(store, change, steps)?;
         ids_at(self.alloc, &self.by_key, keys.as_slice())
+    }
+
+    /// The key that an id is open with.
+    pub fn key(&self, id: u64) -> Option<&I::Key>
+        ensures { option_copied result ≡ key_at self.now.by_id id }
+    {
+        self.by_id.get(&id)
     }
 
     /// The row of the key that an id is open with.

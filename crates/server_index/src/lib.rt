@@ -1,5 +1,4 @@
 //! What the ports of Pods are served by, kept in rows for the clients that ask for them: the protocol, the policy and the Server.
-//! No command uses it yet.
 //!
 //! Stands on row_table for the rows, on mark_rules for what a row is and which marks it reads, on object_store, on policy_rows
 //! for whether a Server selects a port, and on view_scratch for what holds without a Server. `ServerIndex` is the table of

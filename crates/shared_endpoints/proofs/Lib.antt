@@ -1,3 +1,4 @@
+pub mod Costs
 pub mod ByKey
 pub mod Earlier
 pub mod Freshness

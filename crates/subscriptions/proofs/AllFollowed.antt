@@ -1,7 +1,8 @@
--- What an event leads to, with the streams that it touches.
+-- What an event leads to, once those are due whose views or streams it touches.
 use Rattle.std.proofs.Common.{◌≡◌, ◌&&◌, ◌||◌, ℕ, Bool, true, false, List, Option, Some, None, refl, sym, ap, ◌∙◌, subst}
-use Rattle.std.specs.Prelude.{option_and_then, option_map}
+use Rattle.std.specs.Prelude.{flat_map, option_and_then, option_map}
 use Rattle.std.specs.Option.{is_some}
+use Rattle.std.proofs.Math.Bool.{or-false, or_self}
 use Rattle.std.proofs.lemmas.List.{append-nil}
 use Rattle.view_types.specs.Objects.{ObjectMap}
 use Rattle.view_types.specs.declared.config.Config.{Config}
@@ -12,117 +13,122 @@ use Rattle.view_types.specs.declared.query.Query.TheVariants.{Get, Profile, Port
 use Rattle.mark_graph.specs.RowMarks.{has_row}
 use Rattle.mark_rules.specs.Laws.{EndpointsStay}
 use Rattle.mark_rules.specs.Marks.{meets}
-use Rattle.mark_rules.specs.Reads.{endpoint_reads}
+use Rattle.mark_rules.specs.Reads.{endpoint_reads, query_reads, reads}
 use Rattle.mark_rules.specs.Rows.{endpoint_row}
 use Rattle.mark_rules.specs.declared.keys.EndpointKey.{EndpointKey}
+use Rattle.mark_rules.specs.declared.keys.RowKey.{RowKey}
 use Rattle.mark_rules.proofs.MarkTests.{neither_first, neither_second}
 use Rattle.endpoint_streams.specs.Streams.{is_met}
 use Rattle.row_views.specs.Ids.{Keeps}
-use Rattle.row_views.specs.Queries.{reads_one, row_query}
+use Rattle.row_views.specs.Queries.{ShowsSame, reads_one}
 use Rattle.watch_events.specs.declared.event.Event.{Event}
+use Rattle.event_laws.specs.Laws.{UntouchedQueriesStay}
 use Rattle.feed_history.specs.Due.{is_touched, marks_of_event}
 use Rattle.feed_history.specs.Events.{objects_after}
 use Rattle.subscriptions.specs.DueIds.{is_among}
-use Rattle.subscriptions.specs.Live.{LiveSubscription, endpoint_key, key_at, query_at, row_query_at, sub_at}
-use Rattle.subscriptions.specs.Standing.{AreDueIfKept, AreStreamed, IsAfter, IsFollowed, MakesDue, Stands}
-use Rattle.subscriptions.specs.Watched.{is_reached, read_by, watched}
-use Rattle.subscriptions.specs.declared.watchers.Watchers.{Watchers}
+use Rattle.subscriptions.specs.Live.{Covers, LiveSubscription, endpoint_key, kept_at, key_at, query_at, sub_at}
+use Rattle.subscriptions.specs.Standing.{AreStreamed, IsAfter, MakesDue, Stands}
+use Rattle.subscriptions.specs.declared.roster.Roster.{Roster}
+use Rattle.subscriptions.proofs.AllKept.{kept_where}
 
--- more that are due
-module _ (config : Config) (held : ObjectMap) (test : ℕ → Bool) (old new : Watchers) (st : Stands config held old) (made : MakesDue test old new) (subs : new.subs ≡ old.subs) (watching : new.watching ≡ old.watching) where
-  pub made_stands : Stands config held new
-  made_stands = record {
-    going = ap (λ w. w.graph.spent) watching ∙ st.going;
-    watch = λ n mark. ap (λ w. watched w n mark) watching ∙ st.watch n mark ∙ ap (λ now. read_by config held (query_at n now) mark) (sym subs);
-    live = λ n among. ap (λ now. is_some (sub_at n now)) subs
-        ∙ elim (is_some (sub_at n old.subs)) as (λ b. ((b && test n) || is_among n old.due) ≡ true → (is_among n old.due ≡ true → b ≡ true) → b ≡ true) [
-          | true ↦ λ _ _. refl
-          | false ↦ λ due live. live due
-        ] (sym (made.each n) ∙ among) (st.live n);
-    current = λ n sub there other undue. st.current n sub (ap (sub_at n) (sym subs) ∙ there) other (neither_second _ _ (sym (made.each n) ∙ undue));
-  }
+abbrev query_in : Option LiveSubscription → Option Query
+query_in found = option_map (λ (sub : LiveSubscription). sub.query) found
 
--- those whose views are kept, once their ids are due
-module _ (config : Config) (before : ObjectMap) (event : Event) (marks : List Mark) (marked : marks ≡ marks_of_event before event) (old first : Watchers)
-    (viewed : List ℕ) (read : (n : ℕ) → has_row n viewed ≡ reads_one config before marks (row_query_at n old.subs)) (made : MakesDue (λ n. has_row n viewed) old first) (same : first.subs ≡ old.subs) where
-  kept_missed : (q : Query) → is_some (row_query q) ≡ true → reads_one config before (marks_of_event before event) (row_query q) ≡ false → is_touched config before event (Some q) ≡ false
-  kept_missed (Get ns name port ctx) some misses = absurd (cc some)
-  kept_missed (Profile target ctx) some misses = misses
-  kept_missed (Port ns pod port) some misses = absurd (cc some)
-  kept_missed (Traffic target) some misses = absurd (cc some)
+-- ---- who is told of a change
 
-  pub due_if_kept : AreDueIfKept config before event first
-  due_if_kept n sub there some undue =
-      let found : sub_at n old.subs ≡ Some sub = ap (sub_at n) (sym same) ∙ there in
-      let none : (is_some (sub_at n old.subs) && has_row n viewed) ≡ false = neither_first _ _ (sym (made.each n) ∙ undue) in
-      let unread : has_row n viewed ≡ false = sym (ap (λ (one : Option LiveSubscription). is_some one && has_row n viewed) found) ∙ none in
-      kept_missed sub.query some
-      (sym (read n ∙ (λ i. reads_one config before (marked i) (option_and_then row_query (option_map (λ (s : LiveSubscription). s.query) (found i))))) ∙ unread)
+-- a query of endpoints reads what these do
+streamed_reads : (config : Config) (held : ObjectMap) (q : Query) (key : EndpointKey) → endpoint_key q ≡ Some key → query_reads config held q ≡ endpoint_reads held key
+streamed_reads config held (Get ns name port ctx) key is =
+    let same : record { ns = ns; name = name; port = port } ≡ key = cc is in
+    append-nil (endpoint_reads held (record { ns = ns; name = name; port = port })) ∙ ap (endpoint_reads held) same
+streamed_reads config held (Profile target ctx) key is = absurd (cc is)
+streamed_reads config held (Port ns pod port) key is = absurd (cc is)
+streamed_reads config held (Traffic target) key is = absurd (cc is)
 
-module _ (stay : EndpointsStay) (config : Config) (before held : ObjectMap) (marks : List Mark) (event : Event) (is : IsAfter before held marks event)
-    (keys then_keys : ℕ → Option EndpointKey) (shown then_shown : ℕ → Option EndpointView) (old first mid new : Watchers) (st : AreStreamed config before keys shown old)
-    (viewed : List ℕ) (read : (n : ℕ) → has_row n viewed ≡ reads_one config before marks (row_query_at n old.subs)) (made_first : MakesDue (λ n. has_row n viewed) old first)
-    (done : IsFollowed config before event first mid) (ids : List ℕ) (touched : (n : ℕ) → has_row n ids ≡ is_met before marks (keys n)) (made : MakesDue (λ n. has_row n ids) mid new)
-    (first_subs : first.subs ≡ old.subs) (mid_subs : mid.subs ≡ first.subs) (new_subs : new.subs ≡ mid.subs) (keeps : Keeps keys then_keys) (stays : Keeps shown then_shown) where
+module _ (kept_query : Query → Option Query) (covers : Covers kept_query) (same : ShowsSame kept_query) (config : Config) (before : ObjectMap) (changed : List Mark) where
+  -- a query has a view that is kept or a stream, and each of these reads what the query does
+  told : (q : Query) → (reads_one config before changed (kept_query q) || is_met before changed (endpoint_key q)) ≡ meets (query_reads config before q) changed
+  told q = by (kept_query q) (endpoint_key q) refl refl
+    where
+      as_kept : (asked : Query) → kept_query q ≡ Some asked → meets (query_reads config before asked) changed ≡ meets (query_reads config before q) changed
+      as_kept asked is = ap (λ (keys : List RowKey). meets (flat_map (reads config before) keys) changed) (same q asked is config before).1
+
+      as_streamed : (key : EndpointKey) → endpoint_key q ≡ Some key → meets (endpoint_reads before key) changed ≡ meets (query_reads config before q) changed
+      as_streamed key asks = ap (λ (reads : List Mark). meets reads changed) (sym (streamed_reads config before q key asks))
+
+      by : (kept : Option Query) (key : Option EndpointKey) → kept_query q ≡ kept → endpoint_key q ≡ key → (reads_one config before changed kept || is_met before changed key) ≡ meets (query_reads config before q) changed
+      by (Some asked) None is other = or-false (meets (query_reads config before asked) changed) ∙ as_kept asked is
+      by (Some asked) (Some key) is asks = (λ i. as_kept asked is i || as_streamed key asks i) ∙ or_self (meets (query_reads config before q) changed)
+      by None (Some key) is asks = as_streamed key asks
+      by None None is other = absurd (cc (sym (ap is_some is) ∙ kept_where kept_query covers q other))
+
+  told_in : (found : Option LiveSubscription) → (is_some found && (reads_one config before changed (option_and_then kept_query (query_in found)) || is_met before changed (option_and_then endpoint_key (query_in found))))
+      ≡ reads_one config before changed (query_in found)
+  told_in None = refl
+  told_in (Some sub) = told sub.query
+
+-- ---- what stands after an event
+
+-- those are due that an event touches, and the others were shown their views and endpoints over the objects after it
+pub record IsFollowed (config : Config) (before : ObjectMap) (event : Event) (keys : ℕ → Option EndpointKey) (shown : ℕ → Option EndpointView) (old new : Roster) : Type 0 where
+  pub due : (n : ℕ) → is_among n new.due ≡ (is_touched config before event (query_at n old.subs) || is_among n old.due)
+  pub live : Stands config (objects_after before event) new
+  pub streamed : AreStreamed config (objects_after before event) keys shown new
+
+module _ (stay : EndpointsStay) (untouched : UntouchedQueriesStay) (kept_query : Query → Option Query) (covers : Covers kept_query) (same : ShowsSame kept_query)
+    (config : Config) (before held : ObjectMap) (marks : List Mark) (event : Event) (is : IsAfter before held marks event) (old new : Roster) (standing : Stands config before old)
+    (keys then_keys : ℕ → Option EndpointKey) (shown then_shown : ℕ → Option EndpointView) (st : AreStreamed config before keys shown old) (keeps : Keeps keys then_keys) (stays : Keeps shown then_shown)
+    (viewed streamed : List ℕ) (read : (n : ℕ) → has_row n viewed ≡ reads_one config before marks (kept_at kept_query n old.subs)) (touched : (n : ℕ) → has_row n streamed ≡ is_met before marks (keys n))
+    (made : MakesDue (λ n. has_row n viewed || has_row n streamed) old new) (subs : new.subs ≡ old.subs) where
   abbrev changed : List Mark
   changed = marks_of_event before event
 
-  abbrev query_in : Option LiveSubscription → Option Query
-  query_in found = option_map (λ (s : LiveSubscription). s.query) found
+  -- who is due
+  by_reads : (n : ℕ) → (has_row n viewed || has_row n streamed) ≡ (reads_one config before changed (kept_at kept_query n old.subs) || is_met before changed (key_at n old.subs))
+  by_reads n = (λ i. (read n ∙ ap (λ (ms : List Mark). reads_one config before ms (kept_at kept_query n old.subs)) is.is_marked) i || (touched n ∙ (λ j. is_met before (is.is_marked j) (st.opened n j))) i)
 
-  by_query : (q : Query) (due : Bool)
-      → (is_met before changed (endpoint_key q) || (is_reached config before event (Some q) || (reads_one config before changed (row_query q) || due))) ≡ (is_touched config before event (Some q) || due)
-  by_query (Get ns name port ctx) due = ap (λ (reads : List Mark). meets reads changed || due) (sym (append-nil (endpoint_reads before (record { ns = ns; name = name; port = port }))))
-  by_query (Profile target ctx) due = refl
-  by_query (Port ns pod port) due = refl
-  by_query (Traffic target) due = refl
+  as_touched : (query : Option Query) → reads_one config before changed query ≡ is_touched config before event query
+  as_touched None = refl
+  as_touched (Some q) = refl
 
-  by_found : (found : Option LiveSubscription) (due : Bool)
-      → ((is_some found && is_met before changed (option_and_then endpoint_key (query_in found)))
-      || (is_reached config before event (query_in found) || ((is_some found && reads_one config before changed (option_and_then row_query (query_in found))) || due))) ≡ (is_touched config before event (query_in found) || due)
-  by_found None due = refl
-  by_found (Some sub) due = by_query sub.query due
-
-  met_is : (n : ℕ) → has_row n ids ≡ is_met before changed (key_at n old.subs)
-  met_is n = touched n ∙ (λ i. is_met before (is.is_marked i) (st.opened n i))
-
-  read_is : (n : ℕ) → has_row n viewed ≡ reads_one config before changed (row_query_at n old.subs)
-  read_is n = read n ∙ ap (λ (marks : List Mark). reads_one config before marks (row_query_at n old.subs)) is.is_marked
-
-  first_is : (n : ℕ) → is_among n first.due ≡ ((is_some (sub_at n old.subs) && reads_one config before changed (row_query_at n old.subs)) || is_among n old.due)
-  first_is n = made_first.each n ∙ ap (λ (b : Bool). (is_some (sub_at n old.subs) && b) || is_among n old.due) (read_is n)
-
-  pub all_due : (n : ℕ) → is_among n new.due ≡ (is_touched config before event (query_at n old.subs) || is_among n old.due)
+  all_due : (n : ℕ) → is_among n new.due ≡ (is_touched config before event (query_at n old.subs) || is_among n old.due)
   all_due n =
       made.each n
-      ∙ (λ i. (is_some (sub_at n ((mid_subs ∙ first_subs) i)) && met_is n i) || (done.due n ∙ (λ j. is_reached config before event (query_at n (first_subs j)) || first_is n j)) i)
-      ∙ by_found (sub_at n old.subs) (is_among n old.due)
+      ∙ ap (λ (b : Bool). b || is_among n old.due)
+      (ap (λ (b : Bool). is_some (sub_at n old.subs) && b) (by_reads n) ∙ told_in kept_query covers same config before changed (sub_at n old.subs) ∙ as_touched (query_at n old.subs))
 
-  -- what an event doesn't touch stays
-  missed : (q : Query) (key : EndpointKey) → endpoint_key q ≡ Some key → is_touched config before event (Some q) ≡ false → meets (endpoint_reads before key) changed ≡ false
-  missed (Get ns name port ctx) key is misses =
-      let same : record { ns = ns; name = name; port = port } ≡ key = cc is in
-      ap (λ (k : EndpointKey). meets (endpoint_reads before k) changed) (sym same)
-      ∙ ap (λ (reads : List Mark). meets reads changed) (sym (append-nil (endpoint_reads before (record { ns = ns; name = name; port = port }))))
-      ∙ misses
-  missed (Profile target ctx) key is misses = absurd (cc is)
-  missed (Port ns pod port) key is misses = absurd (cc is)
-  missed (Traffic target) key is misses = absurd (cc is)
+  -- what is shown to those that aren't
+  calm : (n : ℕ) (sub : LiveSubscription) → sub_at n old.subs ≡ Some sub → is_among n new.due ≡ false → (is_touched config before event (Some sub.query) || is_among n old.due) ≡ false
+  calm n sub found undue = sym (all_due n ∙ ap (λ (one : Option LiveSubscription). is_touched config before event (query_in one) || is_among n old.due) found) ∙ undue
 
-  missed_at : (query : Option Query) (key : EndpointKey) → option_and_then endpoint_key query ≡ Some key → is_touched config before event query ≡ false → meets (endpoint_reads before key) changed ≡ false
-  missed_at None key is misses = absurd (cc is)
-  missed_at (Some q) key is misses = missed q key is misses
+  still_live : (n : ℕ) (found : Option LiveSubscription) → sub_at n old.subs ≡ found → (is_touched config before event (query_in found) || is_among n old.due) ≡ true → is_some found ≡ true
+  still_live n None here due = ap is_some (sym here) ∙ standing.live n due
+  still_live n (Some sub) here due = refl
 
-  subs : new.subs ≡ old.subs
-  subs = new_subs ∙ mid_subs ∙ first_subs
+  still_stands : Stands config (objects_after before event) new
+  still_stands = record {
+    live = λ n among. ap (λ now. is_some (sub_at n now)) subs ∙ still_live n (sub_at n old.subs) refl (sym (all_due n) ∙ among);
+    current = λ n sub there other undue.
+        let found : sub_at n old.subs ≡ Some sub = ap (sub_at n) (sym subs) ∙ there in
+        let neither = calm n sub found undue in
+        standing.current n sub found other (neither_second _ _ neither)
+        ∙ ap Some (sym (untouched config before is.leads.at_keys is.lawful event is.right sub.query (neither_first _ _ neither)).view);
+  }
+
+  missed : (query : Option Query) (key : EndpointKey) → option_and_then endpoint_key query ≡ Some key → is_touched config before event query ≡ false → meets (endpoint_reads before key) changed ≡ false
+  missed None key asks misses = absurd (cc asks)
+  missed (Some q) key asks misses = ap (λ (reads : List Mark). meets reads changed) (sym (streamed_reads config before q key asks)) ∙ misses
 
   current_is : (n : ℕ) (key : EndpointKey) → key_at n old.subs ≡ Some key → (is_touched config before event (query_at n old.subs) || is_among n old.due) ≡ false → then_shown n ≡ Some (endpoint_row config held key)
   current_is n key asked undue =
-      let misses : meets (endpoint_reads before key) marks ≡ false = ap (meets (endpoint_reads before key)) is.is_marked ∙ missed_at (query_at n old.subs) key asked (neither_first _ _ undue) in
+      let misses : meets (endpoint_reads before key) marks ≡ false = ap (meets (endpoint_reads before key)) is.is_marked ∙ missed (query_at n old.subs) key asked (neither_first _ _ undue) in
       stays n ∙ st.current n key asked (neither_second _ _ undue) ∙ ap Some (sym (stay config key marks before held is.leads misses).0)
 
-  pub all_streamed : AreStreamed config (objects_after before event) then_keys then_shown new
+  all_streamed : AreStreamed config (objects_after before event) then_keys then_shown new
   all_streamed = subst (λ (now : ObjectMap). AreStreamed config now then_keys then_shown new) is.objects (record {
     opened = λ n. keeps n ∙ st.opened n ∙ ap (key_at n) (sym subs);
     current = λ n key there undue. current_is n key (ap (key_at n) (sym subs) ∙ there) (sym (all_due n) ∙ undue);
   })
+
+  pub followed : IsFollowed config before event then_keys then_shown old new
+  followed = record { due = all_due; live = still_stands; streamed = all_streamed }

@@ -24,7 +24,7 @@ use Rattle.feed_history.proofs.Placed.{found_has_id}
 use Rattle.subscriptions.specs.DueIds.{is_among}
 use Rattle.subscriptions.specs.Live.{IdsRise, LiveSubscription, PutsAt, endpoint_key, id_of, key_at, showing, shown_by, shown_in_place, sub_at, subs_of, with_endpoints}
 use Rattle.subscriptions.specs.Standing.{AreStreamed, OpensAt, Stands, new_sub}
-use Rattle.subscriptions.specs.declared.watchers.Watchers.{Watchers}
+use Rattle.subscriptions.specs.declared.roster.Roster.{Roster}
 use Rattle.subscriptions.proofs.Asked.{asked_in, asked_put, asked_still}
 use Rattle.subscriptions.proofs.Streamed.{drained_shown, elsewhere, key_found, opened_elsewhere, seen_at, there}
 
@@ -35,13 +35,13 @@ abbrev Shown : Type 0
 Shown = ℕ → Option EndpointView
 
 module _ (config : Config) (held : ObjectMap) where
-  pub new_streamed : (keys : Keys) (shown : Shown) (all : Watchers) → all.subs ≡ [] → ((id : ℕ) → keys id ≡ None) → AreStreamed config held keys shown all
+  pub new_streamed : (keys : Keys) (shown : Shown) (all : Roster) → all.subs ≡ [] → ((id : ℕ) → keys id ≡ None) → AreStreamed config held keys shown all
   new_streamed keys shown all no_subs free = record {
     opened = λ id. free id ∙ sym (ap (key_at id) no_subs);
     current = λ id key is undue. absurd (cc (sym (ap (key_at id) no_subs) ∙ is));
   }
 
-  module _ (keys : Keys) (shown : Shown) (old : Watchers) (st : AreStreamed config held keys shown old) (after : Keys) (then : Shown) (new : Watchers) where
+  module _ (keys : Keys) (shown : Shown) (old : Roster) (st : AreStreamed config held keys shown old) (after : Keys) (then : Shown) (new : Roster) where
     abbrev IsNow : ℕ → EndpointKey → Type 0
     IsNow n key = then n ≡ Some (endpoint_row config held key)
 
@@ -95,13 +95,13 @@ module _ (config : Config) (held : ObjectMap) where
 
     pub kept_streamed : Keeps keys after → Keeps shown then → new ≡ old → AreStreamed config held after then new
     kept_streamed keeps stays same = record {
-      opened = λ n. keeps n ∙ st.opened n ∙ ap (λ (all : Watchers). key_at n all.subs) (sym same);
-      current = λ n key is undue. stays n ∙ st.current n key (ap (λ (all : Watchers). key_at n all.subs) (sym same) ∙ is) (ap (λ (all : Watchers). is_among n all.due) (sym same) ∙ undue);
+      opened = λ n. keeps n ∙ st.opened n ∙ ap (λ (all : Roster). key_at n all.subs) (sym same);
+      current = λ n key is undue. stays n ∙ st.current n key (ap (λ (all : Roster). key_at n all.subs) (sym same) ∙ is) (ap (λ (all : Roster). is_among n all.due) (sym same) ∙ undue);
     }
 
   -- ---- one that was shown a view that isn't of endpoints
 
-  module _ (keys : Keys) (shown : Shown) (old new : Watchers) (st : AreStreamed config held keys shown old) (id : ℕ) (view : View) (other : key_at id old.subs ≡ None)
+  module _ (keys : Keys) (shown : Shown) (old new : Roster) (st : AreStreamed config held keys shown old) (id : ℕ) (view : View) (other : key_at id old.subs ≡ None)
       (at : PutsAt id (option_map (showing view) (sub_at id old.subs)) old.subs new.subs) (due : (n : ℕ) → is_among n new.due ≡ (not (nat_eq n id) && is_among n old.due)) where
     keys_same : (n : ℕ) → key_at n new.subs ≡ key_at n old.subs
     keys_same = asked_still endpoint_key id view old.subs new.subs at
@@ -136,7 +136,7 @@ module _ (config : Config) (held : ObjectMap) where
   view_is (Port ns pod port) key is = absurd (cc is)
   view_is (Traffic target) key is = absurd (cc is)
 
-  module _ (keys : Keys) (shown : Shown) (all : Watchers) (st : AreStreamed config held keys shown all) (id : ℕ) (asks : is_some (key_at id all.subs) ≡ true) (sub : LiveSubscription)
+  module _ (keys : Keys) (shown : Shown) (all : Roster) (st : AreStreamed config held keys shown all) (id : ℕ) (asks : is_some (key_at id all.subs) ≡ true) (sub : LiveSubscription)
       (found : sub_at id (subs_of shown all.subs) ≡ Some sub) where
     record IsKept : Type 0 where
       kept : LiveSubscription
@@ -180,7 +180,7 @@ module _ (config : Config) (held : ObjectMap) where
 
   -- ---- who isn't due was shown its view
 
-  module _ (keys : Keys) (shown : Shown) (all : Watchers) (live : Stands config held all) (st : AreStreamed config held keys shown all) (id : ℕ) (undue : is_among id all.due ≡ false) where
+  module _ (keys : Keys) (shown : Shown) (all : Roster) (live : Stands config held all) (st : AreStreamed config held keys shown all) (id : ℕ) (undue : is_among id all.due ≡ false) where
     still_shown : (kept : LiveSubscription) → sub_at id all.subs ≡ Some kept → (key : Option EndpointKey) → endpoint_key kept.query ≡ key → (with_endpoints shown kept).shown ≡ Some (view_of config held kept.query)
     still_shown kept found None is = ap (λ (k : Option EndpointKey). shown_by k (shown (id_of kept)) kept.shown) is ∙ live.current id kept found is undue
     still_shown kept found (Some key) is =

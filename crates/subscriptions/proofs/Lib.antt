@@ -1,13 +1,13 @@
+mod Costs
 mod AllFollowed
 mod AllKept
 pub mod AllStanding
 mod Asked
-mod ByCmp
 mod ById
 mod DueIds
 mod Front
+mod MadeDue
 pub mod Mapped
-mod Refreshed
 mod Shown
 mod Standing
 pub mod Streamed

@@ -16,8 +16,7 @@ use Rattle.view_types.specs.declared.view.View.TheVariants.{Endpoints}
 use Rattle.mark_rules.specs.declared.keys.EndpointKey.{EndpointKey}
 use Rattle.row_views.specs.Ids.{SetsAt}
 use Rattle.feed_history.specs.Ids.{ended, in_place}
-use Rattle.row_views.specs.Queries.{row_query}
-use Rattle.subscriptions.specs.Live.{AreBelow, IdsRise, LiveSubscription, endpoint_key, id_of, key_at, row_query_at, showing, shown_by, shown_in_place, sub_at, subs_of, with_endpoints}
+use Rattle.subscriptions.specs.Live.{AreBelow, IdsRise, LiveSubscription, endpoint_key, id_of, kept_at, key_at, showing, shown_by, shown_in_place, sub_at, subs_of, with_endpoints}
 use Rattle.subscriptions.specs.Standing.{OpensAt, new_sub}
 use Rattle.subscriptions.proofs.ById.{eqb_back}
 use Rattle.subscriptions.proofs.Mapped.{found_mapped, mapped_in_place}
@@ -62,11 +61,11 @@ pub none_below : (id : ℕ) (subs : List LiveSubscription) → AreBelow id subs 
 none_below id [] below = refl
 none_below id (s ∷ ss) below = ap (λ (b : Bool). cond b (Some s) (sub_at id ss)) (not_below (id_of s) id below.0) ∙ none_below id ss below.1
 
+pub no_kept_below : (kept : Query → Option Query) (id : ℕ) (subs : List LiveSubscription) → AreBelow id subs → kept_at kept id subs ≡ None
+no_kept_below kept id subs below = ap (λ (one : Option LiveSubscription). option_and_then kept (option_map (λ (s : LiveSubscription). s.query) one)) (none_below id subs below)
+
 pub no_key_below : (id : ℕ) (subs : List LiveSubscription) → AreBelow id subs → key_at id subs ≡ None
 no_key_below id subs below = ap (λ (one : Option LiveSubscription). option_and_then endpoint_key (option_map (λ (s : LiveSubscription). s.query) one)) (none_below id subs below)
-
-pub no_row_below : (id : ℕ) (subs : List LiveSubscription) → AreBelow id subs → row_query_at id subs ≡ None
-no_row_below id subs below = ap (λ (one : Option LiveSubscription). option_and_then row_query (option_map (λ (s : LiveSubscription). s.query) one)) (none_below id subs below)
 
 -- one that asks for no endpoints is as it is kept
 pub plain_same : (f : Shown) (s : LiveSubscription) → endpoint_key s.query ≡ None → with_endpoints f s ≡ s

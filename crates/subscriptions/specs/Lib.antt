@@ -1,6 +1,6 @@
+pub mod Costs
 pub mod ById
 pub mod DueIds
 pub mod Live
 pub mod Standing
 pub mod Unique
-pub mod Watched

@@ -1,5 +1,5 @@
 -- Live subscriptions, as contracts see them, and what is live under an id.
-use Rattle.std.specs.Prelude.{◌≡◌, ◌<◌, ℕ, nat_eq, List, ◌∷◌, [], Option, Some, None, if◌then◌else◌, map, option_and_then, option_map}
+use Rattle.std.specs.Prelude.{◌≡◌, ◌<◌, ℕ, nat_eq, not, List, ◌∷◌, [], Option, Some, None, is_some, if◌then◌else◌, map, option_and_then, option_map}
 use Rattle.std.specs.List.{AllByRecursion}
 use Rattle.std.specs.List.Sorted.{IsStrictlySortedBy}
 use Rattle.std.specs.Ordering.{nat_cmp}
@@ -10,7 +10,6 @@ use Rattle.view_types.specs.declared.query.Query.TheVariants.{Get}
 use Rattle.view_types.specs.declared.view.View.{View}
 use Rattle.view_types.specs.declared.view.View.TheVariants.{Endpoints}
 use Rattle.mark_rules.specs.declared.keys.EndpointKey.{EndpointKey}
-use Rattle.row_views.specs.Queries.{row_query}
 use Rattle.feed_history.specs.Ids.{at_id}
 
 -- its id, its query, and the view that its subscriber was last shown, if it was drained
@@ -75,6 +74,10 @@ subs_of endpoints subs = map (with_endpoints endpoints) subs
 
 -- ---- subscriptions whose views are kept
 
+-- Of each query the view is kept, unless it asks for endpoints.
+abbrev pub Covers : (Query → Option Query) → Type 0
+Covers kept = (query : Query) → is_some (kept query) ≡ not (is_some (endpoint_key query))
+
 -- the query under an id as far as its view depends on it, if its view is kept
-abbrev pub row_query_at : ℕ → List LiveSubscription → Option Query
-row_query_at id subs = option_and_then row_query (query_at id subs)
+abbrev pub kept_at : (Query → Option Query) → ℕ → List LiveSubscription → Option Query
+kept_at kept id subs = option_and_then kept (query_at id subs)

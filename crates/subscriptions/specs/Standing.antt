@@ -1,5 +1,5 @@
--- Who watches what, and who is due: what holds of the live subscriptions over the objects held, and what an event changes of it.
-use Rattle.std.specs.Prelude.{◌≡◌, ◌&&◌, ◌||◌, ℕ, Bool, true, false, List, Option, Some, None, is_some, if◌then◌else◌}
+-- Who is live, and who is due: what holds of the live subscriptions over the objects held, and what an event changes of it.
+use Rattle.std.specs.Prelude.{◌≡◌, ◌&&◌, ◌||◌, ℕ, Bool, true, false, List, Option, Some, None, is_some}
 use Rattle.mesh_base.specs.declared.limits.Limits.{Limits}
 use Rattle.mesh_base.specs.declared.sub_id.SubId.{SubId}
 use Rattle.view_types.specs.Objects.{ObjectMap}
@@ -16,14 +16,12 @@ use Rattle.mark_rules.specs.declared.keys.EndpointKey.{EndpointKey}
 use Rattle.watch_events.specs.Lawful.{IsLawfulEvent}
 use Rattle.watch_events.specs.declared.event.Event.{Event}
 use Rattle.row_views.specs.Ids.{Keeps, SetsAt}
-use Rattle.row_views.specs.Queries.{row_query}
 use Rattle.feed_history.specs.Due.{is_touched, marks_of_event}
 use Rattle.feed_history.specs.Events.{objects_after}
+use Rattle.subscriptions.specs.declared.roster.Roster.{Roster}
 use Rattle.subscriptions.specs.declared.subscribers.Subscribers.{Subscribers}
-use Rattle.subscriptions.specs.declared.watchers.Watchers.{Watchers}
 use Rattle.subscriptions.specs.DueIds.{is_among}
-use Rattle.subscriptions.specs.Live.{LiveSubscription, endpoint_key, key_at, query_at, row_query_at, sub_at, subs_of}
-use Rattle.subscriptions.specs.Watched.{is_reached, read_by, watched}
+use Rattle.subscriptions.specs.Live.{LiveSubscription, endpoint_key, kept_at, key_at, query_at, sub_at, subs_of}
 
 -- the subscription of an id that was not drained yet
 abbrev pub new_sub : SubId → Query → LiveSubscription
@@ -31,19 +29,15 @@ new_sub id query = record { id = id; query = query; shown = None }
 
 -- ---- what holds over the objects held
 
--- Each live subscription watches what its query reads over the objects held, unless it asks for endpoints or its view is kept, and no
--- other id watches anything. Ids that are due are live. A live one that isn't due, and asks for no endpoints, was shown its view over
--- the objects held.
-pub record Stands (config : Config) (held : ObjectMap) (all : Watchers) : Type 0 where
-  pub going : all.watching.graph.spent ≡ false
-  pub watch : (id : ℕ) (mark : Mark) → watched all.watching id mark ≡ read_by config held (query_at id all.subs) mark
+-- Ids that are due are live. A live one that isn't due, and asks for no endpoints, was shown its view over the objects held.
+pub record Stands (config : Config) (held : ObjectMap) (all : Roster) : Type 0 where
   pub live : (id : ℕ) → is_among id all.due ≡ true → is_some (sub_at id all.subs) ≡ true
   pub current : (id : ℕ) (sub : LiveSubscription) → sub_at id all.subs ≡ Some sub → endpoint_key sub.query ≡ None → is_among id all.due ≡ false
       → sub.shown ≡ Some (view_of config held sub.query)
 
 -- The open streams are those of the live subscriptions that ask for endpoints. One that isn't due was shown its endpoints over the
 -- objects held.
-pub record AreStreamed (config : Config) (held : ObjectMap) (keys : ℕ → Option EndpointKey) (endpoints : ℕ → Option EndpointView) (all : Watchers) : Type 0 where
+pub record AreStreamed (config : Config) (held : ObjectMap) (keys : ℕ → Option EndpointKey) (endpoints : ℕ → Option EndpointView) (all : Roster) : Type 0 where
   pub opened : (id : ℕ) → keys id ≡ key_at id all.subs
   pub current : (id : ℕ) (key : EndpointKey) → key_at id all.subs ≡ Some key → is_among id all.due ≡ false → endpoints id ≡ Some (endpoint_row config held key)
 
@@ -54,26 +48,12 @@ IsShownNow config held view sub = (found : LiveSubscription) → sub ≡ Some fo
 -- ---- what changes
 
 -- the id is live, and passes
-abbrev pub is_one : (ℕ → Bool) → Watchers → ℕ → Bool
+abbrev pub is_one : (ℕ → Bool) → Roster → ℕ → Bool
 is_one test all id = is_some (sub_at id all.subs) && test id
 
 -- The live ids that pass become due, and others stay as they were.
-pub record MakesDue (test : ℕ → Bool) (old new : Watchers) : Type 0 where
+pub record MakesDue (test : ℕ → Bool) (old new : Roster) : Type 0 where
   pub each : (id : ℕ) → is_among id new.due ≡ (is_one test old id || is_among id old.due)
-
--- The live ids that pass become due and watch what their queries read over these objects. Others stay.
-pub record IsRefreshed (config : Config) (held : ObjectMap) (test : ℕ → Bool) (old new : Watchers) : Type 0 where
-  pub going : old.watching.graph.spent ≡ false → new.watching.graph.spent ≡ false
-  pub due : MakesDue test old new
-  pub watch : (id : ℕ) (mark : Mark) → watched new.watching id mark ≡ (if is_one test old id then read_by config held (query_at id old.subs) mark else watched old.watching id mark)
-
-abbrev pub Refreshes : Config → ObjectMap → (ℕ → Bool) → Watchers → Watchers → Type 0
-Refreshes config held test old new = AreLawful held → IsRefreshed config held test old new
-
--- Over the objects after an event, those become due that watch a mark of it before it.
-pub record IsFollowed (config : Config) (before : ObjectMap) (event : Event) (old new : Watchers) : Type 0 where
-  pub due : (id : ℕ) → is_among id new.due ≡ (is_reached config before event (query_at id old.subs) || is_among id old.due)
-  pub stands : Stands config (objects_after before event) new
 
 -- a lawful event led from the objects before it to these, by these marks
 pub record IsAfter (before held : ObjectMap) (marks : List Mark) (event : Event) : Type 0 where
@@ -83,13 +63,6 @@ pub record IsAfter (before held : ObjectMap) (marks : List Mark) (event : Event)
   pub is_marked : marks ≡ marks_of_event before event
   pub leads : Leads marks before held
 
--- Those whose views are kept are due already where their queries read a mark of the event.
-abbrev pub AreDueIfKept : Config → ObjectMap → Event → Watchers → Type 0
-AreDueIfKept config before event all = (id : ℕ) (sub : LiveSubscription) → sub_at id all.subs ≡ Some sub → is_some (row_query sub.query) ≡ true → is_among id all.due ≡ false → is_touched config before event (Some sub.query) ≡ false
-
-abbrev pub Follows : Config → ObjectMap → List Mark → Watchers → Watchers → Type 0
-Follows config held marks old new = (before : ObjectMap) (event : Event) → IsAfter before held marks event → Stands config before old → AreDueIfKept config before event old → IsFollowed config before event old new
-
 -- ---- the live subscriptions with their streams
 
 -- The stream of the key, if there is one, is opened under the id: its subscriber was shown nothing. All others were shown what they were.
@@ -98,15 +71,16 @@ OpensAt id None old new = Keeps old new
 OpensAt id (Some key) old new = SetsAt id None old new
 
 -- The views that are kept are those of the live subscriptions with such queries.
-abbrev pub AreKept : (ℕ → Option Query) → Watchers → Type 0
-AreKept queries all = (id : ℕ) → queries id ≡ row_query_at id all.subs
+abbrev pub AreKept : (Query → Option Query) → (ℕ → Option Query) → Roster → Type 0
+AreKept kept_query queries all = (id : ℕ) → queries id ≡ kept_at kept_query id all.subs
 
-module _ {E V : Type 0} (key_of : E → ℕ → Option EndpointKey) (shown_to : E → ℕ → Option EndpointView) (stand : E → Config → Limits → ObjectMap → Type 0) (query_of : V → ℕ → Option Query) (viewed : V → Config → ObjectMap → Type 0) where
+module _ {E V : Type 0} (key_of : E → ℕ → Option EndpointKey) (shown_to : E → ℕ → Option EndpointView) (stand : E → Config → Limits → ObjectMap → Type 0)
+    (kept_query : Query → Option Query) (query_of : V → ℕ → Option Query) (viewed : V → Config → ObjectMap → Type 0) where
   pub record AllStand (config : Config) (limits : Limits) (held : ObjectMap) (all : Subscribers E V) : Type 0 where
     pub live : Stands config held all.live
     pub streamed : AreStreamed config held (key_of all.endpoints) (shown_to all.endpoints) all.live
     pub endpoints : stand all.endpoints config limits held
-    pub kept : AreKept (query_of all.views) all.live
+    pub kept : AreKept kept_query (query_of all.views) all.live
     pub views : viewed all.views config held
 
   -- Over the objects after an event, those become due whose queries read a mark of it before it, and nobody was shown anything.

@@ -6,6 +6,7 @@ ghost use Rattle.feed_history.specs.Ids.{ended, in_place};
 ghost use Rattle.subscriptions.specs.ById.{ShowsAt};
 ghost use Rattle.subscriptions.specs.Live.{AreBelow, IdsRise, PutsAt, id_of, shown_in_place, showing, sub_at};
 
+use crate::boxed_view::BoxedView;
 use mesh_base::memory::Memory;
 use mesh_base::sub_id::SubId;
 use std::alloc::Global;
@@ -20,7 +21,7 @@ pub struct Subscription {
     pub id: SubId,
     pub query: Query,
     /// The view that its subscriber was last shown, if it was drained. Its rows are in order. Of endpoints their stream knows it.
-    pub shown: Option<View>,
+    shown: Option<BoxedView>,
 }
 
 impl Model for Subscription {
@@ -51,8 +52,19 @@ impl Subscription {
         }
     }
 
+    /// The view that its subscriber was last shown.
+    pub fn shown(&self) -> Option<&View>
+        ensures value { option_copied result ≡ self.now.shown }
+        ensures orderly { IsOrderlyIfShown self.now.shown }
+    {
+        match &self.shown {
+            Some(view) => Some(view.get()),
+            None => None,
+        }
+    }
+
     // Notes the view that its subscriber was shown.
-    fn show(&mut self, view: View)
+    fn show(&mut self, view: BoxedView)
         requires { IsOrderlyIfShown (Some view) }
         ensures { self.new ≡ showing view self.old }
     {
@@ -135,7 +147,7 @@ impl Subscriptions {
     }
 
     /// Notes the view that the subscriber of the id was shown.
-    pub fn show(&mut self, id: u64, view: View)
+    pub fn show(&mut self, id: u64, view: BoxedView)
         requires { IsOrderlyIfShown (Some view) }
         ensures shown { self.new ≡ in_place id_of id (shown_in_place view) self.old }
         ensures at { PutsAt id (option_map (showing view) (sub_at id self.old)) self.old self.new }
@@ -144,7 +156,7 @@ impl Subscriptions {
     }
 }
 
-fn show_at(by_id: &mut BTreeMap<u64, Subscription>, id: u64, view: View)
+fn show_at(by_id: &mut BTreeMap<u64, Subscription>, id: u64, view: BoxedView)
     requires { IsOrderlyIfShown (Some view) }
     ensures { ShowsAt id view by_id.old by_id.new }
 {

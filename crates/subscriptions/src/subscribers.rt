@@ -1,9 +1,10 @@
-// The live subscriptions, with the streams of those that ask for endpoints, and the views of others that are kept.
-ghost use Rattle.std.specs.Prelude.{◌≡◌, ◌&&◌, ◌||◌, ◌++◌, ◌∷◌, [], ℕ, nat_eq, not, false, true, None, IfOk, OnErr, OnOk, is_some, length, Some};
+// The live subscriptions, with the streams of those that ask for endpoints, and the views of the others.
+ghost use Rattle.std.specs.Prelude.{◌≡◌, ◌≤◌, ◌+◌, ◌&&◌, ◌||◌, ◌++◌, ◌∷◌, [], ℕ, nat_eq, not, true, None, IfOk, OnErr, OnOk, is_some, length, Some};
 ghost use Rattle.std.specs.Option.{option_copied};
 ghost use Rattle.mesh_base.specs.declared.limits.Limits.{Limits};
-ghost use Rattle.view_types.specs.Objects.{ObjectMap};
+ghost use Rattle.view_types.specs.Objects.{AtKeys, ObjectMap};
 ghost use Rattle.view_types.specs.declared.config.Config.{Config};
+ghost use Rattle.view_types.specs.declared.query.Query.{Query as TheQuery};
 ghost use Rattle.view_rules.specs.Batch.{batch};
 ghost use Rattle.view_rules.specs.Fold.{IsOrderlyIfShown};
 ghost use Rattle.view_rules.specs.PolicyLaws.{AreLawful};
@@ -11,17 +12,21 @@ ghost use Rattle.view_rules.specs.Views.{view_of};
 ghost use Rattle.feed_history.specs.Drains.{IsOrMemory, frames_within};
 ghost use Rattle.feed_history.specs.Ids.{ended, in_place};
 ghost use Rattle.watch_events.specs.declared.event.Event.{Event};
-ghost use Rattle.row_views.specs.Ids.{SetsAt};
-ghost use Rattle.row_views.specs.Queries.{view_at};
+ghost use Rattle.mark_rules.specs.Rows.{rows};
+ghost use Rattle.row_views.specs.Costs.{FollowsWithin, cost_of};
+ghost use Rattle.row_views.specs.Ids.{Keeps, SetsAt};
+ghost use Rattle.subscriptions.specs.Costs.{stream_cost};
 ghost use Rattle.subscriptions.specs.DueIds.{Rises, is_among};
-ghost use Rattle.subscriptions.specs.Live.{AreBelow, LiveSubscription, endpoint_key, id_of, key_at, row_query_at, shown_in_place, sub_at, subs_of};
+ghost use Rattle.subscriptions.specs.Live.{AreBelow, Covers, LiveSubscription, endpoint_key, id_of, key_at, query_at, shown_in_place, sub_at, subs_of};
 ghost use Rattle.subscriptions.specs.Standing.{AllFollow, AllStand, IsAfter, IsShownNow, OpensAt, new_sub};
 
+use crate::boxed_view::BoxedView;
 use crate::live::Subscription;
-use crate::queries::{endpoint_key, watched_reads};
-use crate::watchers::Watchers;
+use crate::queries::endpoint_key;
+use crate::roster::Roster;
 use bytes::Bytes;
 use endpoint_streams::streams::EndpointStreams;
+use event_laws::laws::untouched_queries_stay;
 use feed_history::refusal::HubFault;
 use mark_rules::laws::endpoints_stay;
 use mesh_base::list::List;
@@ -29,17 +34,20 @@ use mesh_base::memory::Memory;
 use mesh_base::steps::Steps;
 use mesh_base::sub_id::SubId;
 use object_store::change::Change;
-use row_reads::at_mark::Reader;
+use object_store::store::Store;
 use row_views::query_views::QueryViews;
 use std::alloc::Global;
 use view_types::query::Query;
 use view_types::view::View;
 
-/// The live subscriptions, some of which are due. Those that ask for endpoints have a stream each, those whose views are kept share
-/// these, and the others watch the marks that their queries read.
+// The id under which a view is peeked at. It is above those of all subscriptions.
+const PEEK_ID: u64 = 4_294_967_296;
+
+/// The live subscriptions, some of which are due. Those that ask for endpoints have a stream each, and the others share the views
+/// that are kept.
 #[derive(Drop)]
 pub struct Subscribers<E: EndpointStreams, V: QueryViews> {
-    live: Watchers,
+    live: Roster,
     endpoints: E,
     views: V,
 }
@@ -53,10 +61,11 @@ impl<E: EndpointStreams, V: QueryViews> Subscribers<E, V> {
         ensures due { result.live.due ≡ [] }
         ensures stands { (config : Config) (limits : Limits) (held : ObjectMap)
             → E.stands endpoints config limits held → V.stands views config held
-            → AllStand E.key_of E.shown_to E.stands V.query_of V.stands config limits held result }
+            → AllStand E.key_of E.shown_to E.stands V.kept_query V.query_of V.stands
+            config limits held result }
     {
         Subscribers {
-            live: Watchers::new(alloc),
+            live: Roster::new(alloc),
             endpoints,
             views,
         }
@@ -94,7 +103,7 @@ impl<E: EndpointStreams, V: QueryViews> Subscribers<E, V> {
     /// Makes a subscription live, whose id is above those of all others. It is due.
     pub fn add<L>(
         &mut self,
-        reader: &Reader,
+        store: &Store,
         id: SubId,
         query: Query,
         steps: &mut Steps<L>,
@@ -107,21 +116,23 @@ impl<E: EndpointStreams, V: QueryViews> Subscribers<E, V> {
         ensures due { OnOk result ((n : ℕ)
             → is_among n self.new.live.due ≡ (nat_eq n id.0 || is_among n self.old.live.due)) }
         ensures shown { OnOk result ((config : Config) (limits : Limits)
-            → E.stands self.old.endpoints config limits reader.now.store.now.objects
+            → E.stands self.old.endpoints config limits store.now.objects
             → subs_of (E.shown_to self.new.endpoints) self.new.live.subs
             ≡ subs_of (E.shown_to self.old.endpoints) self.old.live.subs ++ new_sub id query ∷ []) }
-        ensures stands { reader.now.store.now.spent ≡ false → OnOk result ((limits : Limits)
-            → AreLawful reader.now.store.now.objects
-            → AllStand E.key_of E.shown_to E.stands V.query_of V.stands reader.now.config.now limits
-            reader.now.store.now.objects self.old
-            → AllStand E.key_of E.shown_to E.stands V.query_of V.stands reader.now.config.now limits
-            reader.now.store.now.objects self.new) }
+        ensures stands { OnOk result ((config : Config) (limits : Limits)
+            → AllStand E.key_of E.shown_to E.stands V.kept_query V.query_of V.stands
+            config limits store.now.objects self.old
+            → AllStand E.key_of E.shown_to E.stands V.kept_query V.query_of V.stands
+            config limits store.now.objects self.new) }
+        ensures steps { (config : Config) (limits : Limits) → Covers V.kept_query
+            → AllStand E.key_of E.shown_to E.stands V.kept_query V.query_of V.stands
+            config limits store.now.objects self.old → steps.new ≤ steps.old
+            + cost_of config store.now.objects (rows config store.now.objects query) }
         ensures err { OnErr result (self.new.live.subs ≡ self.old.live.subs) }
     {
-        let marks = watched_reads(reader, &query, steps)?;
-        open_stream(&mut self.endpoints, reader, id, &query, steps)?;
-        self.views.open(reader.store, id.0 as u64, &query, steps)?;
-        self.live.add(id, query, marks)?;
+        open_stream(&mut self.endpoints, store, id, &query, steps)?;
+        self.views.open(store, id.0 as u64, &query, steps)?;
+        self.live.add(id, query)?;
         Ok(())
     }
 
@@ -134,11 +145,13 @@ impl<E: EndpointStreams, V: QueryViews> Subscribers<E, V> {
         ensures shown { (config : Config) (limits : Limits) (held : ObjectMap)
             → E.stands self.old.endpoints config limits held
             → subs_of (E.shown_to self.new.endpoints) self.new.live.subs
-            ≡ in_place id_of id.0 ended (subs_of (E.shown_to self.old.endpoints) self.old.live.subs) }
+            ≡ in_place id_of id.0 ended
+            (subs_of (E.shown_to self.old.endpoints) self.old.live.subs) }
         ensures stands { (config : Config) (limits : Limits) (held : ObjectMap)
-            → AllStand E.key_of E.shown_to E.stands V.query_of V.stands config limits held self.old
-            → AllStand E.key_of E.shown_to E.stands
-            V.query_of V.stands config limits held self.new }
+            → AllStand E.key_of E.shown_to E.stands V.kept_query V.query_of V.stands
+            config limits held self.old
+            → AllStand E.key_of E.shown_to E.stands V.kept_query V.query_of V.stands
+            config limits held self.new }
     {
         self.endpoints.close(id.0 as u64);
         self.views.close(id.0 as u64);
@@ -148,16 +161,53 @@ impl<E: EndpointStreams, V: QueryViews> Subscribers<E, V> {
     /// The view of the query under the id, if it is kept. It is a copy.
     pub fn view(&self, id: SubId) -> Result<Option<View>, Memory>
         ensures value { IfOk result (λ view. (config : Config) (limits : Limits)
-            (held : ObjectMap)
-            → AllStand E.key_of E.shown_to E.stands V.query_of V.stands config limits held self.now
-            → view ≡ view_at config held (row_query_at id.0 self.now.live.subs)) }
+            (held : ObjectMap) → AtKeys held → AreLawful held → Covers V.kept_query
+            → AllStand E.key_of E.shown_to E.stands V.kept_query V.query_of V.stands
+            config limits held self.now
+            → (query : TheQuery) → query_at id.0 self.now.live.subs ≡ Some query
+            → endpoint_key query ≡ None → view ≡ Some (view_of config held query)) }
         ensures orderly { IfOk result IsOrderlyIfShown }
     {
         self.views.view(id.0 as u64)
     }
 
+    /// The view of a query that nobody subscribed to, if it is kept. It is kept for this call only.
+    pub fn peek<L>(
+        &mut self,
+        store: &Store,
+        query: &Query,
+        steps: &mut Steps<L>,
+    ) -> Result<Option<View>, Memory>
+        requires below { AreBelow 4294967296 self.old.live.subs }
+        requires unkept { V.query_of self.old.views 4294967296 ≡ None }
+        ensures value { IfOk result (λ view. (config : Config) (limits : Limits)
+            → AtKeys store.now.objects → AreLawful store.now.objects → Covers V.kept_query
+            → AllStand E.key_of E.shown_to E.stands V.kept_query V.query_of V.stands
+            config limits store.now.objects self.old
+            → endpoint_key query.now ≡ None
+            → view ≡ Some (view_of config store.now.objects query.now)) }
+        ensures orderly { IfOk result IsOrderlyIfShown }
+        ensures steps { (config : Config) (limits : Limits) → Covers V.kept_query
+            → AllStand E.key_of E.shown_to E.stands V.kept_query V.query_of V.stands
+            config limits store.now.objects self.old → steps.new ≤ steps.old
+            + cost_of config store.now.objects (rows config store.now.objects query.now) }
+        ensures live { self.new.live ≡ self.old.live }
+        ensures endpoints { self.new.endpoints ≡ self.old.endpoints }
+        ensures queries { Keeps (V.query_of self.old.views) (V.query_of self.new.views) }
+        ensures stands { OnOk result ((config : Config) (limits : Limits)
+            → AllStand E.key_of E.shown_to E.stands V.kept_query V.query_of V.stands
+            config limits store.now.objects self.old
+            → AllStand E.key_of E.shown_to E.stands V.kept_query V.query_of V.stands
+            config limits store.now.objects self.new) }
+    {
+        self.views.open(store, PEEK_ID, query, steps)?;
+        let view = self.views.view(PEEK_ID);
+        self.views.close(PEEK_ID);
+        view
+    }
+
     /// Notes the view that the subscriber of the id was shown, which asks for no endpoints. It is due no more.
-    pub fn show(&mut self, id: SubId, view: View)
+    pub fn show(&mut self, id: SubId, view: BoxedView)
         requires orderly { IsOrderlyIfShown (Some view) }
         requires other { key_at id.0 self.old.live.subs ≡ None }
         ensures subs { self.new.live.subs
@@ -169,9 +219,10 @@ impl<E: EndpointStreams, V: QueryViews> Subscribers<E, V> {
             (subs_of (E.shown_to self.old.endpoints) self.old.live.subs) }
         ensures stands { (config : Config) (limits : Limits) (held : ObjectMap)
             → IsShownNow config held view (sub_at id.0 self.old.live.subs)
-            → AllStand E.key_of E.shown_to E.stands V.query_of V.stands config limits held self.old
-            → AllStand E.key_of E.shown_to E.stands
-            V.query_of V.stands config limits held self.new }
+            → AllStand E.key_of E.shown_to E.stands V.kept_query V.query_of V.stands
+            config limits held self.old
+            → AllStand E.key_of E.shown_to E.stands V.kept_query V.query_of V.stands
+            config limits held self.new }
     {
         self.live.show(id, view);
     }
@@ -183,15 +234,17 @@ impl<E: EndpointStreams, V: QueryViews> Subscribers<E, V> {
             × E.stands self.old.endpoints config limits held }
         requires streamed { is_some (key_at id.0 self.old.live.subs) ≡ true }
         ensures frames { (config : Config) (limits : Limits) (held : ObjectMap)
-            → AllStand E.key_of E.shown_to E.stands V.query_of V.stands config limits held self.old
+            → AllStand E.key_of E.shown_to E.stands V.kept_query V.query_of V.stands
+            config limits held self.old
             → (sub : LiveSubscription)
             → sub_at id.0 (subs_of (E.shown_to self.old.endpoints) self.old.live.subs) ≡ Some sub
             → IsOrMemory (frames_within limits.message
             (batch sub.shown (view_of config held sub.query) limits)) result }
-        ensures due { OnOk result ((n : ℕ)
-            → is_among n self.new.live.due ≡ (not (nat_eq n id.0) && is_among n self.old.live.due)) }
+        ensures due { OnOk result ((n : ℕ) → is_among n self.new.live.due
+            ≡ (not (nat_eq n id.0) && is_among n self.old.live.due)) }
         ensures shown { OnOk result ((config : Config) (limits : Limits) (held : ObjectMap)
-            → AllStand E.key_of E.shown_to E.stands V.query_of V.stands config limits held self.old
+            → AllStand E.key_of E.shown_to E.stands V.kept_query V.query_of V.stands
+            config limits held self.old
             → (sub : LiveSubscription)
             → sub_at id.0 (subs_of (E.shown_to self.old.endpoints) self.old.live.subs) ≡ Some sub
             → subs_of (E.shown_to self.new.endpoints) self.new.live.subs
@@ -199,9 +252,10 @@ impl<E: EndpointStreams, V: QueryViews> Subscribers<E, V> {
             (subs_of (E.shown_to self.old.endpoints) self.old.live.subs)) }
         ensures subs { self.new.live.subs ≡ self.old.live.subs }
         ensures stands { (config : Config) (limits : Limits) (held : ObjectMap)
-            → AllStand E.key_of E.shown_to E.stands V.query_of V.stands config limits held self.old
-            → AllStand E.key_of E.shown_to E.stands
-            V.query_of V.stands config limits held self.new }
+            → AllStand E.key_of E.shown_to E.stands V.kept_query V.query_of V.stands
+            config limits held self.old
+            → AllStand E.key_of E.shown_to E.stands V.kept_query V.query_of V.stands
+            config limits held self.new }
         ensures undue { OnErr result (self.new.live.due ≡ self.old.live.due) }
         ensures kept { OnErr result (subs_of (E.shown_to self.new.endpoints) self.new.live.subs
             ≡ subs_of (E.shown_to self.old.endpoints) self.old.live.subs) }
@@ -219,25 +273,31 @@ impl<E: EndpointStreams, V: QueryViews> Subscribers<E, V> {
     /// Makes those due whose queries read a mark of this change of the store, which is that of an event.
     pub fn follow<L>(
         &mut self,
-        reader: &Reader,
+        store: &Store,
         change: &Change,
         steps: &mut Steps<L>,
     ) -> Result<(), Memory>
         ensures subs { self.new.live.subs ≡ self.old.live.subs }
-        ensures follows { reader.now.store.now.spent ≡ false → OnOk result
-            ((limits : Limits) (before : ObjectMap) (event : Event)
-            → IsAfter before reader.now.store.now.objects change.now.marks event
-            → AllStand E.key_of E.shown_to E.stands
-            V.query_of V.stands reader.now.config.now limits before self.old
-            → AllFollow E.key_of E.shown_to E.stands
-            V.query_of V.stands reader.now.config.now limits before event
-            self.old self.new) }
+        ensures follows { OnOk result ((config : Config) (limits : Limits)
+            (before : ObjectMap) (event : Event) → Covers V.kept_query
+            → IsAfter before store.now.objects change.now.marks event
+            → AllStand E.key_of E.shown_to E.stands V.kept_query V.query_of V.stands
+            config limits before self.old
+            → AllFollow E.key_of E.shown_to E.stands V.kept_query V.query_of V.stands
+            config limits before event self.old self.new) }
+        ensures steps { OnOk result ((config : Config) (limits : Limits)
+            (before : ObjectMap) (event : Event) → Covers V.kept_query
+            → IsAfter before store.now.objects change.now.marks event
+            → AllStand E.key_of E.shown_to E.stands V.kept_query V.query_of V.stands
+            config limits before self.old
+            → FollowsWithin config change.now.marks before store.now.objects
+            (λ id. query_at id self.old.live.subs) steps.old steps.new) }
     {
         endpoints_stay();
-        let viewed = self.views.follow(reader.store, change, steps)?;
-        let streamed = self.endpoints.follow(reader.store, change, steps)?;
+        untouched_queries_stay();
+        let viewed = self.views.follow(store, change, steps)?;
+        let streamed = self.endpoints.follow(store, change, steps)?;
         self.live.make_due(viewed.as_slice())?;
-        self.live.follow(reader, change.marks.as_slice(), steps)?;
         self.live.make_due(streamed.as_slice())?;
         Ok(())
     }
@@ -246,7 +306,7 @@ impl<E: EndpointStreams, V: QueryViews> Subscribers<E, V> {
 // Opens a stream for a subscription that asks for endpoints.
 fn open_stream<E: EndpointStreams, L>(
     endpoints: &mut E,
-    reader: &Reader,
+    store: &Store,
     id: SubId,
     query: &Query,
     steps: &mut Steps<L>,
@@ -255,15 +315,17 @@ fn open_stream<E: EndpointStreams, L>(
     ensures keys { OnOk result
         (SetsAt id.0 (endpoint_key query.now) (E.key_of endpoints.old) (E.key_of endpoints.new)) }
     ensures shown { OnOk result ((config : Config) (limits : Limits)
-        → E.stands endpoints.old config limits reader.now.store.now.objects
+        → E.stands endpoints.old config limits store.now.objects
         → OpensAt id.0 (endpoint_key query.now) (E.shown_to endpoints.old)
         (E.shown_to endpoints.new)) }
     ensures stands { OnOk result ((config : Config) (limits : Limits)
-        → E.stands endpoints.old config limits reader.now.store.now.objects
-        → E.stands endpoints.new config limits reader.now.store.now.objects) }
+        → E.stands endpoints.old config limits store.now.objects
+        → E.stands endpoints.new config limits store.now.objects) }
+    ensures steps { steps.new ≤ steps.old
+        + stream_cost store.now.objects (endpoint_key query.now) }
 {
     match endpoint_key(query)? {
-        Some(key) => endpoints.open(reader.store, id.0 as u64, key, steps),
+        Some(key) => endpoints.open(store, id.0 as u64, key, steps),
         None => Ok(()),
     }
 }

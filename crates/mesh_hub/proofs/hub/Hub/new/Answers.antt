@@ -8,5 +8,5 @@ invariant_of-result c = record {
   room = ap (λ held. held.limit) c.new-3.ensures;
   up_to = subst (AreUpTo None) (sym c.new-4.ensures.subs) refl;
   going = λ _. ap (λ held. held.spent) c.new-3.ensures;
-  stands = λ _. c.new-4.ensures.stands c.args.config c.args.limits c.new-3.result.objects (c.in_ok-endpoints.ensures.stands c.new-3.result.objects) (c.in_ok-profiles.ensures.stands c.new-3.result.objects);
+  stands = λ _. c.new-4.ensures.stands c.args.config c.args.limits c.new-3.result.objects (c.in_ok-endpoints.ensures.stands c.new-3.result.objects) (c.in_ok-views.ensures.stands c.new-3.result.objects);
 }

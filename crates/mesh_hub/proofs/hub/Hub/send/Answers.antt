@@ -45,6 +45,9 @@ returns-then-asks_for_endpoints-clause-sends c = λ sub found.
           (λ kept. going_live self.spent c.drain.new.self c.requires.going ∙ kept ∙ sym (going_live self.spent self.subscribers c.requires.going));
     }
 
+pub next_batch-requires-clause-other : goal.next_batch-requires-clause-other
+next_batch-requires-clause-other c = ap (λ (s : LiveSubscription). endpoint_key s.query) (sym c.sub.view_is) ∙ none_of (endpoint_key c.sub.inside.query) (sym c.if-asks_for_endpoints.ensures)
+
 pub invariant_of-self-in-Ok : goal.invariant_of-self-in-Ok
 invariant_of-self-in-Ok c =
     let self = c.args.self.now in

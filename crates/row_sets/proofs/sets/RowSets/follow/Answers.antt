@@ -1,6 +1,8 @@
 use Rattle.std.proofs.Common.{ap, ◌∙◌}
 use Rattle.std.specs.List.{list_any}
 use Rattle.mark_graph.specs.RowMarks.{row_at}
+use Rattle.row_views.specs.Ids.{has_ids}
+use Rattle.row_views.proofs.Costs.{met_cost}
 use Rattle.row_views.proofs.Standing.{if_then, on_any}
 use Rattle.row_sets.proofs.Standing.{followed_stand, ids_touched}
 use Rattle.row_sets.proofs.sets.RowSets.follow.Goals as goal
@@ -23,4 +25,8 @@ returns-clause-stands g c =
     c.in_ok-keys.ensures.users (c.in_ok-keys.ensures.stands held st.in_use.rows leads) st)
 
 pub returns-clause-steps : goal.returns-clause-steps
-returns-clause-steps g c = on_any c.ids_at.result (record { keys = c.in_ok-keys.keys; met = c.in_ok-keys.ensures.keys; most = c.in_ok-keys.ensures.steps })
+returns-clause-steps g c =
+    let self = c.args.self.now in
+    on_any c.ids_at.result (λ held st.
+    met_cost g.I.Key.Ord.cmp g.met.I.Key.Ord.total g.met.I.RowIndex.exact g.I.RowIndex.users (g.I.RowIndex.filter self.used.index) g.I.RowIndex.row_at g.I.RowIndex.marks_at held c.args.store.now.objects c.args.change.now.marks self.used.index
+    (g.met.I.RowIndex.current self.used.index held st.in_use.rows) (has_ids g.I.Key.Ord.cmp self.used.by_key) st.in_use.one_user c.in_ok-keys.keys c.in_ok-keys.ensures.keys c.args.steps.now c.on_change.new.steps c.in_ok-keys.ensures.steps)

@@ -8,7 +8,9 @@ use Rattle.shared_endpoints.specs.Sharing.{ChangesAt, has_at}
 use Rattle.shared_endpoints.proofs.ByKey.{if_then, key_exact, key_total, ok_then}
 use Rattle.shared_endpoints.proofs.Sharing.{changed_have}
 use Rattle.shared_endpoints.proofs.Standing.{follow_keeps, follow_stands, follow_touches}
+use Rattle.row_views.proofs.Standing.{on_any}
 use Rattle.row_views.proofs.Truncated.{map_truncated, same_tests}
+use Rattle.shared_endpoints.proofs.Costs.{rows_followed}
 use Rattle.shared_endpoints.proofs.Truncated.{same_views}
 use Rattle.shared_endpoints.proofs.shared.SharedEndpointsEndpointStreams.follow.Goals as goal
 
@@ -51,3 +53,7 @@ returns-clause-touched g c =
     c.in_ok-keys.ensures.keys c.in_ok-keys.ensures.users (c.in_ok-keys.ensures.stands held s.stands.indexed.stands leads) c.in_ok-keys.ensures.filter (c.in_ok-keys.ensures.before held s.stands.indexed.stands leads)
     (subst (λ (ks : List EndpointKey). ChangesAt key_cmp (has_key key_cmp ks) (notes_at next) (streams_at self.by_key) (streams_at new)) c.as_slice.ensures changes)
     ids (λ m. subst (λ (ks : List EndpointKey). list_any (nat_eq m) ids ≡ list_any (λ key. has_at (streams_at self.by_key key) m) ks) c.as_slice.ensures (are m)) n))
+
+pub returns-clause-steps : goal.returns-clause-steps
+returns-clause-steps g c = on_any c.change_all.result (λ config limits held old leads. map_truncated old (λ s.
+    rows_followed config limits held c.args.store.now.objects c.args.change.now.marks c.args.self.now s c.in_ok-keys.keys c.in_ok-keys.ensures.keys c.args.steps.now c.follow_change.new.steps c.in_ok-keys.ensures.steps))

@@ -30,7 +30,7 @@ returns-in-Ok-clause-stands g c = λ config limits held all. record {
       (g.E.EndpointStreams.key_of c.drain.new.self) (g.E.EndpointStreams.shown_to c.drain.new.self) c.show_endpoints.new.self c.args.id.0 c.show_endpoints.ensures.subs c.show_endpoints.ensures.due
       c.in-Ok.ensures.keys (c.in-Ok.ensures.shown config limits held all.endpoints);
   endpoints = c.in-Ok.ensures.stands config limits held all.endpoints;
-  kept = still_kept (g.V.QueryViews.query_of c.args.self.now.views) (g.V.QueryViews.query_of c.args.self.now.views) c.args.self.now.live c.show_endpoints.new.self all.kept c.show_endpoints.ensures.subs (λ id. refl);
+  kept = still_kept g.V.QueryViews.kept_query (g.V.QueryViews.query_of c.args.self.now.views) (g.V.QueryViews.query_of c.args.self.now.views) c.args.self.now.live c.show_endpoints.new.self all.kept c.show_endpoints.ensures.subs (λ id. refl);
   views = all.views;
 }
 

@@ -20,6 +20,6 @@ returns-clause-stands g c = λ config limits held all. record {
       (g.E.EndpointStreams.key_of c.close.new.self) (g.E.EndpointStreams.shown_to c.close.new.self) c.end.new.self c.args.id.0 c.end.ensures.at c.end.ensures.due c.close.ensures.keys
       (c.close.ensures.shown config limits held all.endpoints);
   endpoints = c.close.ensures.stands config limits held all.endpoints;
-  kept = ended_kept (g.V.QueryViews.query_of c.args.self.now.views) (g.V.QueryViews.query_of c.close-2.new.self) c.args.self.now.live c.end.new.self all.kept c.args.id.0 c.end.ensures.at c.close-2.ensures.queries;
+  kept = ended_kept g.V.QueryViews.kept_query (g.V.QueryViews.query_of c.args.self.now.views) (g.V.QueryViews.query_of c.close-2.new.self) c.args.self.now.live c.end.new.self all.kept c.args.id.0 c.end.ensures.at c.close-2.ensures.queries;
   views = c.close-2.ensures.stands config held all.views;
 }

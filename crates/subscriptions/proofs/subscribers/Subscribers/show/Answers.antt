@@ -16,6 +16,6 @@ returns-clause-stands g c = λ config limits held is all. record {
   streamed = viewed_streamed config held (g.E.EndpointStreams.key_of c.args.self.now.endpoints) (g.E.EndpointStreams.shown_to c.args.self.now.endpoints) c.args.self.now.live c.show.new.self all.streamed
       c.args.id.0 c.args.view c.requires.other c.show.ensures.at c.show.ensures.due;
   endpoints = all.endpoints;
-  kept = shown_kept (g.V.QueryViews.query_of c.args.self.now.views) (g.V.QueryViews.query_of c.args.self.now.views) c.args.self.now.live c.show.new.self all.kept c.args.id.0 c.args.view c.show.ensures.at (λ id. refl);
+  kept = shown_kept g.V.QueryViews.kept_query (g.V.QueryViews.query_of c.args.self.now.views) (g.V.QueryViews.query_of c.args.self.now.views) c.args.self.now.live c.show.new.self all.kept c.args.id.0 c.args.view c.show.ensures.at (λ id. refl);
   views = all.views;
 }

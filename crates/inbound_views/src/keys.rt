@@ -1,0 +1,109 @@
+// The keys of the rows behind ports.
+ghost use Rattle.std.specs.Prelude.{◌≡◌, ◌↔◌, ◌++◌, IfOk, IsTrue, OnOk, map, option_map};
+ghost use Rattle.std.specs.Option.{option_copied};
+ghost use Rattle.view_rules.specs.PolicyLaws.{server_key};
+ghost use Rattle.mark_rules.specs.Rows.{key_of_row, name_in};
+ghost use Rattle.inbound_views.specs.PortRows.{listed, port_query, query_for};
+
+use mark_rules::keys::{RouteKey, ServerKey};
+use mesh_base::key::{Kind, ObjKey};
+use mesh_base::list::List;
+use mesh_base::memory::Memory;
+use mesh_base::same::Same;
+use mesh_base::text::Text;
+use std::alloc::Global;
+use view_types::policy::{Policy, Protocol};
+use view_types::query::Query;
+use view_types::server_view::RouteRow;
+
+/// The key of the port that a query asks for, if it asks for one.
+pub(crate) fn port_key(query: &Query) -> Result<Option<ServerKey>, Memory>
+    ensures { IfOk result (λ key. option_map query_for key ≡ port_query query.now) }
+{
+    match query {
+        Query::Port { ns, pod, port } => Ok(Some(ServerKey {
+            ns: ns.copy()?,
+            pod: pod.copy()?,
+            port: *port,
+        })),
+        _ => Ok(None),
+    }
+}
+
+/// What a port is served by: its protocol, its policy, and the name of its Server if there is one.
+pub(crate) type ServerPart = (Protocol, Policy, Option<Text>);
+
+/// The name of the Server that a port is served by, if it is by one.
+pub(crate) fn name_in(part: &Option<ServerPart>) -> Option<&Text>
+    ensures { option_copied result ≡ name_in part.now }
+{
+    match part {
+        Some((_, _, Some(name))) => Some(name),
+        _ => None,
+    }
+}
+
+/// The key of the routes of a Server, if there is one.
+pub(crate) fn listed(
+    alloc: Global,
+    ns: &Text,
+    name: Option<&Text>,
+) -> Result<List<RouteKey>, Memory>
+    ensures { IfOk result (λ keys. keys ≡ listed ns.now (option_copied name.entry)) }
+{
+    let mut keys = List::new(alloc);
+    if let Some(name) = name {
+        keys.add(RouteKey {
+            ns: ns.copy()?,
+            server: name.copy()?,
+        })?;
+    }
+    Ok(keys)
+}
+
+/// Whether this is the key of the routes of a Server, if there is one.
+pub(crate) fn are_listed(keys: &[RouteKey], ns: &Text, name: Option<&Text>) -> bool
+    ensures { IsTrue result ↔ (keys.now ≡ listed ns.now (option_copied name.entry)) }
+{
+    match (keys, name) {
+        ([], None) => true,
+        ([key], Some(name)) => key.ns.is_same(ns) && key.server.is_same(name),
+        _ => false,
+    }
+}
+
+/// The key of a Server.
+pub(crate) fn server_key(ns: &Text, name: &Text) -> Result<ObjKey, Memory>
+    ensures { IfOk result (λ key. key ≡ server_key ns.now name.now) }
+{
+    Ok(ObjKey {
+        kind: Kind::Server,
+        ns: ns.copy()?,
+        name: name.copy()?,
+    })
+}
+
+/// The key of the route that a row is of.
+pub(crate) fn key_of_row(ns: &Text, route: &RouteRow) -> Result<ObjKey, Memory>
+    ensures { IfOk result (λ key. key ≡ key_of_row ns.now route.now) }
+{
+    Ok(ObjKey {
+        kind: route.kind,
+        ns: ns.copy()?,
+        name: route.name.copy()?,
+    })
+}
+
+/// Puts the keys of these routes at the end of a list.
+pub(crate) fn add_routes(
+    keys: &mut List<ObjKey>,
+    ns: &Text,
+    routes: &[RouteRow],
+) -> Result<(), Memory>
+    ensures { OnOk result (keys.new ≡ keys.old ++ map (key_of_row ns.now) routes.now) }
+{
+    for route in routes {
+        keys.add(key_of_row(ns, route)?)?;
+    }
+    Ok(())
+}

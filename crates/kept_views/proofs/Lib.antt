@@ -1,0 +1,2 @@
+mod Costs
+mod Parts

@@ -1,0 +1,2 @@
+pub mod KeptQueries
+pub mod Parts

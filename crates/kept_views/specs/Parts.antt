@@ -1,0 +1,25 @@
+-- Views that are kept in three parts.
+use Rattle.std.specs.Prelude.{◌≡◌, ℕ, Option, Some, None}
+use Rattle.std.specs.Coded.{codes}
+use Rattle.std.specs.Option.{option_or}
+use Rattle.view_types.specs.contracts.query.Query as the_query
+use Rattle.view_types.specs.declared.query.Query.{Query}
+
+-- what the first part has, or else the second, or else the third
+abbrev pub first_of : {X : Type 0} → Option X → Option X → Option X → Option X
+first_of first second third = option_or first (option_or second third)
+
+-- no id is open in both
+abbrev pub AreApart : (ℕ → Option Query) → (ℕ → Option Query) → Type 0
+AreApart asked others = (id : ℕ) (query : Query) → asked id ≡ Some query → others id ≡ None
+
+-- Each part stands, and an id is open in one of them at most.
+pub record PartsStand (Profiles Ports Outbound : Type 0) (of_profiles of_ports of_outbound : ℕ → Option Query) : Type 0 where
+  pub profiles : Profiles
+  pub ports : Ports
+  pub outbound : Outbound
+  pub profiles_apart : AreApart of_profiles (λ id. option_or (of_ports id) (of_outbound id))
+  pub ports_apart : AreApart of_ports of_outbound
+
+pub PartsStand-prop : {Profiles Ports Outbound : Type 0} {of_profiles of_ports of_outbound : ℕ → Option Query} → IsProp Profiles → IsProp Ports → IsProp Outbound → IsProp (PartsStand Profiles Ports Outbound of_profiles of_ports of_outbound)
+PartsStand-prop first second third = hlevel (first, second, third, codes, the_query.the_row.coded)

@@ -1,0 +1,133 @@
+// The views of the queries that subscribers ask for, each in the part for its kind.
+ghost use Rattle.std.specs.Prelude.{◌≡◌, ◌++◌, IfOk};
+
+use inbound_views::views::InboundViews;
+use mesh_base::list::List;
+use mesh_base::memory::Memory;
+use mesh_base::steps::Steps;
+use object_store::change::Change;
+use object_store::store::Store;
+use outbound_views::views::OutboundViews;
+use profile_views::views::ProfileViews;
+use row_views::query_views::QueryViews;
+use std::alloc::Global;
+use view_types::config::Config;
+use view_types::query::Query;
+use view_types::view::View;
+
+/// The views of all queries but those of endpoints. An id is open in one of the parts at most.
+#[derive(Drop)]
+pub struct KeptViews {
+    profiles: ProfileViews,
+    ports: InboundViews,
+    outbound: OutboundViews,
+}
+
+impl KeptViews {
+    ghost use Rattle.std.specs.Prelude.{◌≡◌, ℕ, None, IfOk};
+    ghost use Rattle.view_types.specs.Objects.{ObjectMap};
+
+    /// No views, under a configuration.
+    pub fn new(alloc: Global, config: &Config) -> Result<KeptViews, Memory>
+        ensures queries { IfOk result (λ views. (id : ℕ)
+            → ⟦<KeptViews as QueryViews>⟧.query_of views id ≡ None) }
+        ensures stands { IfOk result (λ views. (held : ObjectMap)
+            → ⟦<KeptViews as QueryViews>⟧.stands views config.now held) }
+    {
+        let profiles = ProfileViews::new(alloc, config)?;
+        let ports = InboundViews::new(alloc, config)?;
+        let outbound = OutboundViews::new(alloc, config)?;
+        Ok(KeptViews {
+            profiles,
+            ports,
+            outbound,
+        })
+    }
+}
+
+impl QueryViews for KeptViews {
+    ghost use Rattle.inbound_views.specs.contracts.views.InboundViewsQueryViews.TheImpl.Laws.{unique-law as ports_unique};
+    ghost use Rattle.outbound_views.specs.contracts.views.OutboundViewsQueryViews.TheImpl.Laws.{unique-law as outbound_unique};
+    ghost use Rattle.profile_views.specs.contracts.views.ProfileViewsQueryViews.TheImpl.Laws.{unique-law as profiles_unique};
+    ghost use Rattle.kept_views.specs.KeptQueries.{kept_query, kept_same};
+    ghost use Rattle.kept_views.specs.Parts.{PartsStand, PartsStand-prop, first_of};
+
+    ghost kept_query = { kept_query };
+
+    ghost query_of = { λ s id. first_of (⟦<ProfileViews as QueryViews>⟧.query_of s.profiles id)
+        (⟦<InboundViews as QueryViews>⟧.query_of s.ports id)
+        (⟦<OutboundViews as QueryViews>⟧.query_of s.outbound id) };
+
+    ghost stands = { λ s config held. PartsStand
+        (⟦<ProfileViews as QueryViews>⟧.stands s.profiles config held)
+        (⟦<InboundViews as QueryViews>⟧.stands s.ports config held)
+        (⟦<OutboundViews as QueryViews>⟧.stands s.outbound config held)
+        (⟦<ProfileViews as QueryViews>⟧.query_of s.profiles)
+        (⟦<InboundViews as QueryViews>⟧.query_of s.ports)
+        (⟦<OutboundViews as QueryViews>⟧.query_of s.outbound) };
+
+    fn keeps(query: &Query) -> bool {
+        match query {
+            Query::Profile { .. } | Query::Port { .. } | Query::Traffic { .. } => true,
+            Query::Get { .. } => false,
+        }
+    }
+
+    fn open<L>(
+        &mut self,
+        store: &Store,
+        id: u64,
+        query: &Query,
+        steps: &mut Steps<L>,
+    ) -> Result<(), Memory> {
+        match query {
+            Query::Profile { .. } => self.profiles.open(store, id, query, steps),
+            Query::Port { .. } => self.ports.open(store, id, query, steps),
+            Query::Traffic { .. } => self.outbound.open(store, id, query, steps),
+            Query::Get { .. } => Ok(()),
+        }
+    }
+
+    fn close(&mut self, id: u64) {
+        self.profiles.close(id);
+        self.ports.close(id);
+        self.outbound.close(id);
+    }
+
+    fn follow<L>(
+        &mut self,
+        store: &Store,
+        change: &Change,
+        steps: &mut Steps<L>,
+    ) -> Result<List<u64>, Memory> {
+        let profiles = self.profiles.follow(store, change, steps)?;
+        let ports = self.ports.follow(store, change, steps)?;
+        let outbound = self.outbound.follow(store, change, steps)?;
+        joined(joined(profiles, ports)?, outbound)
+    }
+
+    fn view(&self, id: u64) -> Result<Option<View>, Memory> {
+        match self.profiles.view(id)? {
+            Some(view) => Ok(Some(view)),
+            None => match self.ports.view(id)? {
+                Some(view) => Ok(Some(view)),
+                None => self.outbound.view(id),
+            },
+        }
+    }
+
+    ghost same = { kept_same };
+
+    ghost unique = { λ s config held. PartsStand-prop (profiles_unique s.profiles config held)
+        (ports_unique s.ports config held) (outbound_unique s.outbound config held) };
+}
+
+// The ids of one list, and then those of another.
+fn joined(ids: List<u64>, others: List<u64>) -> Result<List<u64>, Memory>
+    ensures { IfOk result (λ all. all ≡ ids ++ others) }
+{
+    let mut all = ids.into_vec();
+    let mut more = others.into_vec();
+    all.append(&mut more)?;
+    Ok(List::from_vec(all))
+}

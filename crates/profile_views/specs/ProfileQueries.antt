@@ -1,0 +1,26 @@
+-- The queries of profiles, and their keys.
+use Rattle.std.proofs.Common.{◌≡◌, Option, Some, None, sym, ap}
+use Rattle.view_types.specs.Objects.{ObjectMap}
+use Rattle.view_types.specs.declared.config.Config.{Config}
+use Rattle.view_types.specs.declared.query.Query.{Query}
+use Rattle.view_types.specs.declared.query.Query.TheVariants.{Profile}
+use Rattle.view_rules.specs.Views.{view_of}
+use Rattle.mark_rules.specs.Rows.{rows}
+use Rattle.mark_rules.specs.declared.keys.ProfileKey.{ProfileKey}
+use Rattle.row_views.specs.Queries.{ShowsSame}
+
+-- a query of a profile, as far as its view depends on it
+abbrev pub profile_query : Query → Option Query
+profile_query (Profile target ctx) = Some (Profile target (record { ns = ctx.ns; node = None }))
+profile_query _ = None
+
+-- the query of a key
+abbrev pub query_for : ProfileKey → Query
+query_for key = Profile key.target (record { ns = key.client; node = None })
+
+-- the node of a client counts for nothing
+pub profiles_same : ShowsSame profile_query
+profiles_same (Profile target ctx) asked is config held =
+    let same : Profile target (record { ns = ctx.ns; node = None }) ≡ asked = cc is in
+    (ap (view_of config held) (sym same), ap (rows config held) (sym same))
+profiles_same _ asked is config held = absurd (cc is)

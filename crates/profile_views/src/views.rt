@@ -1,0 +1,126 @@
+// The profiles of the queries that subscribers ask for.
+ghost use Rattle.std.specs.Prelude.{◌≡◌, IfOk, option_map};
+ghost use Rattle.profile_views.specs.ProfileQueries.{profile_query, query_for};
+
+use mark_rules::keys::ProfileKey;
+use mesh_base::copied::Copied;
+use mesh_base::list::List;
+use mesh_base::memory::Memory;
+use mesh_base::steps::Steps;
+use object_store::change::Change;
+use object_store::store::Store;
+use profile_index::finder::ProfileFinder;
+use profile_index::index::new_index;
+use row_table::plain_row::FindAnew;
+use row_table::row_index::RowIndex;
+use row_table::table::RowTable;
+use row_views::query_views::QueryViews;
+use row_views::views::RowViews;
+use std::alloc::Global;
+use view_types::config::Config;
+use view_types::query::Query;
+use view_types::view::View;
+
+/// The profiles of queries, each row kept once for all subscriptions of its key.
+#[derive(Drop)]
+pub struct ProfileViews {
+    rows: RowViews<RowTable<FindAnew<ProfileFinder>>>,
+    alloc: Global,
+}
+
+impl ProfileViews {
+    ghost use Rattle.std.specs.Prelude.{◌≡◌, ℕ, None, IfOk};
+    ghost use Rattle.view_types.specs.Objects.{ObjectMap};
+
+    /// No views, under a configuration.
+    pub fn new(alloc: Global, config: &Config) -> Result<ProfileViews, Memory>
+        ensures queries { IfOk result (λ views. (id : ℕ)
+            → ⟦<ProfileViews as QueryViews>⟧.query_of views id ≡ None) }
+        ensures stands { IfOk result (λ views. (held : ObjectMap)
+            → ⟦<ProfileViews as QueryViews>⟧.stands views config.now held) }
+    {
+        let index = new_index(alloc, config)?;
+        Ok(ProfileViews {
+            rows: RowViews::new(alloc, index),
+            alloc,
+        })
+    }
+}
+
+impl QueryViews for ProfileViews {
+    ghost use Rattle.std.proofs.Math.Logic.{∥∥₁_prop};
+    ghost use Rattle.std.specs.Prelude.{option_map};
+    ghost use Rattle.mark_rules.specs.Reads.{profile_reads};
+    ghost use Rattle.mark_rules.specs.Rows.{profile_row};
+    ghost use Rattle.row_views.specs.Ids.{key_at};
+    ghost use Rattle.row_views.specs.Standing.{AreKept};
+    ghost use Rattle.profile_views.specs.ProfileQueries.{profile_query, profiles_same, query_for};
+
+    ghost kept_query = { profile_query };
+
+    ghost query_of = { λ s id. option_map query_for (key_at s.rows.by_id id) };
+
+    ghost stands = { λ s config held. ∥ AreKept ⟦<ProfileKey as Ord>⟧.cmp
+        ⟦<RowTable<FindAnew<ProfileFinder>> as RowIndex>⟧.users
+        ⟦<RowTable<FindAnew<ProfileFinder>> as RowIndex>⟧.stands
+        ⟦<RowTable<FindAnew<ProfileFinder>> as RowIndex>⟧.filter
+        (record { row_of = profile_row config; reads = profile_reads config }) held s.rows.index
+        s.rows.by_key s.rows.by_id ∥₁ };
+
+    fn keeps(query: &Query) -> bool {
+        match query {
+            Query::Profile { .. } => true,
+            _ => false,
+        }
+    }
+
+    fn open<L>(
+        &mut self,
+        store: &Store,
+        id: u64,
+        query: &Query,
+        steps: &mut Steps<L>,
+    ) -> Result<(), Memory> {
+        match profile_key(self.alloc, query)? {
+            Some(key) => self.rows.open(store, id, key, steps),
+            None => Ok(()),
+        }
+    }
+
+    fn close(&mut self, id: u64) {
+        self.rows.close(id);
+    }
+
+    fn follow<L>(
+        &mut self,
+        store: &Store,
+        change: &Change,
+        steps: &mut Steps<L>,
+    ) -> Result<List<u64>, Memory> {
+        self.rows.follow(store, change, steps)
+    }
+
+    fn view(&self, id: u64) -> Result<Option<View>, Memory> {
+        match self.rows.row(id) {
+            Some(row) => Ok(Some(View::Profile(row.copy(self.alloc)?))),
+            None => Ok(None),
+        }
+    }
+
+    ghost same = { profiles_same };
+
+    ghost unique = { λ s config held. ∥∥₁_prop };
+}
+
+// The key of the profile that a query asks for, if it asks for one.
+fn profile_key(alloc: Global, query: &Query) -> Result<Option<ProfileKey>, Memory>
+    ensures { IfOk result (λ key. option_map query_for key ≡ profile_query query.now) }
+{
+    match query {
+        Query::Profile { target, ctx } => Ok(Some(ProfileKey {
+            target: target.copy(alloc)?,
+            client: ctx.ns.copy(alloc)?,
+        })),
+        _ => Ok(None),
+    }
+}
