@@ -135,11 +135,5 @@ fn rows_follow_their_objects(rt: HostRuntime) -> Result<(), Fail> {
     let alloc = rt.alloc();
     let config = Config::usual(alloc)?;
     let index = new_index(alloc, &config)?;
-    let mut trial = Trial::new(alloc, OBJECTS, config, index);
-    for row in ROWS.lines() {
-        let (words, expected) = row.split_once(" => ").ok_or("a row expects nothing")?;
-        let shown = trial.step(&Views, words)?;
-        assert_eq!(rt; shown.as_str(), expected, "at {row}");
-    }
-    Ok(())
+    Trial::new(alloc, OBJECTS, config, index).check(&rt, &Views, ROWS)
 }

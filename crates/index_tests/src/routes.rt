@@ -98,11 +98,5 @@ fn digit(count: usize) -> Result<&'static str, Fail> {
 fn rows_follow_their_objects(rt: HostRuntime) -> Result<(), Fail> {
     let alloc = rt.alloc();
     let config = Config::usual(alloc)?;
-    let mut trial = Trial::new(alloc, OBJECTS, config, new_index(alloc));
-    for row in ROWS.lines() {
-        let (words, expected) = row.split_once(" => ").ok_or("a row expects nothing")?;
-        let shown = trial.step(&Routes, words)?;
-        assert_eq!(rt; shown.as_str(), expected, "at {row}");
-    }
-    Ok(())
+    Trial::new(alloc, OBJECTS, config, new_index(alloc)).check(&rt, &Routes, ROWS)
 }

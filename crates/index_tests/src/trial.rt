@@ -6,6 +6,7 @@ use object_store::store::Store;
 use row_table::row_index::RowIndex;
 use std::alloc::Global;
 use std::cmp::Ordering;
+use std::process::Abort;
 use std::test::Fail;
 use view_types::config::Config;
 use watch_events::event::Event;
@@ -50,9 +51,24 @@ where
         }
     }
 
-    /// Does what the words say: `enter` or `leave` and the letter of a key, `set` or `remove` and the name of an object. It
-    /// tells the letters of the keys that the index answers, and what is shown of each row with the number of its marks.
-    pub(crate) fn step<W: Writing<I::Key, I::Row>>(
+    /// Does the step of each row, `WORDS => EXPECTED`, and compares what it tells with what the row expects.
+    pub(crate) fn check<R: Abort, W: Writing<I::Key, I::Row>>(
+        &mut self,
+        rt: &R,
+        writing: &W,
+        rows: &'static str,
+    ) -> Result<(), Fail> {
+        for row in rows.lines() {
+            let (words, expected) = row.split_once(" => ").ok_or("a row expects nothing")?;
+            let shown = self.step(writing, words)?;
+            assert_eq!(rt; shown.as_str(), expected, "at {row}");
+        }
+        Ok(())
+    }
+
+    // Does what the words say: `enter` or `leave` and the letter of a key, `set` or `remove` and the name of an object. It
+    // tells the letters of the keys that the index answers, and what is shown of each row with the number of its marks.
+    fn step<W: Writing<I::Key, I::Row>>(
         &mut self,
         writing: &W,
         words: &str,
