@@ -6,28 +6,19 @@
     bench/rows.py --rows few,shared             these rows alone: few, cluster, shared, wide, slices, annotated, folds, given
     bench/rows.py --instructions                instructions as valgrind counts them, which don't depend on what else runs
 
-Each row is one measurement of `replay`, or of `fold`: the least of TIMES runs, of which each is ended after LIMIT seconds of processor
-time. The time of a change is that of a run less that of a run over the same feed without the changes. Instructions are those of one
-run, with a tenth of the changes. A run that doesn't write as many lines as it should ends the measurement."""
-import argparse
+Each row is one measurement of `replay`, or of `fold`, as compare.py says. The time of a change is that of a run less that of a run
+over the same feed without the changes."""
 import json
 import os
 import random
-import re
-import resource
-import signal
 import subprocess
-import sys
-import tempfile
 
+from compare import Bench, less, main
 from due import bookmark_line, changes, joined, services
 from feed import drain_line, endpoint, pod_line, service_line, slice_line, subscribe_line
 from folds import lines as fold_lines
-from measure import PROGRAM
 from slices import LINES, by_key
 
-TIMES = 3
-LIMIT = 300
 FEW = 10_000       # changes of one slice, each with a drain
 CHANGES = 50_000
 FOLDED = 10_000
@@ -35,134 +26,6 @@ BOOKMARKS = 200_000
 ANNOTATED, ANNOTATION = 50, 250_000  # Pods with an annotation, and its bytes
 CHANGES_BESIDE = 100  # changes of a slice beside them
 WIDE = 2_000, 100  # changes of a Service in many slices: with the program, and with the older one
-
-
-class Run:
-    """The cost of a run and its peak MB; without either where it took too long."""
-
-    def __init__(self, cost=None, memory=None):
-        self.cost, self.memory = cost, memory
-
-    def less(self, other):
-        return Run() if None in (self.cost, other.cost) else Run(self.cost - other.cost, self.memory)
-
-    def scaled(self, factor):
-        return Run(self.cost and self.cost * factor, self.memory)
-
-
-class Clock:
-    """Costs in processor seconds: the least of TIMES runs. Two runs of one feed may differ by `noise`."""
-
-    times, share, limit, noise = TIMES, 1, LIMIT, 0.005
-
-    def command(self, words):
-        return words
-
-    def run(self, usage, _):
-        return Run(usage.ru_utime + usage.ru_stime, usage.ru_maxrss / 1024)
-
-    def shown(self, cost, count):
-        return f"{cost:9.3f} s" if count is None else f"{cost / count * 1e6:9.1f} us"
-
-
-class Counter:
-    """Costs in instructions: one run under valgrind, with a tenth of the changes."""
-
-    times, share, limit, noise = 1, 10, 10 * LIMIT, 10_000
-
-    def command(self, words):
-        return ["valgrind", "--tool=cachegrind", "--cache-sim=no", "--cachegrind-out-file=/dev/null", *words]
-
-    def run(self, _, told):
-        return Run(int(re.search(rb"I +refs: +([0-9,]+)", told)[1].replace(b",", b"")))
-
-    def shown(self, cost, count):
-        return f"{cost / 1e6:9,.0f} M" if count is None else f"{cost / count:11,.0f}"
-
-
-class Bench:
-    """The programs, the newer one first, what is measured of their runs, and a folder for feeds."""
-
-    def __init__(self, programs, meter, folder):
-        self.programs, self.meter, self.folder = programs, meter, folder
-
-    def some(self, count):
-        """So many changes, or the share of them that is measured."""
-        return count // self.meter.share
-
-    def write(self, name, lines):
-        path = os.path.join(self.folder, name)
-        with open(path, "w") as out:
-            out.writelines(line + "\n" for line in lines)
-        return path
-
-    def replays(self, lines, wanted):
-        """A run of `replay` of each program."""
-        path = self.write("feed.jsonl", lines)
-        return self.each([[program, "replay"] for program in self.programs], path, wanted)
-
-    def folds(self, slices, width, count):
-        """A run of `fold` of each program over what the newest one writes for so many changes."""
-        feed, frames = self.write("feed.jsonl", fold_lines(slices, width, count)), os.path.join(self.folder, "frames.txt")
-        with open(feed, "rb") as source, open(frames, "wb") as sink:
-            subprocess.run([self.programs[0], "replay"], stdin=source, stdout=sink, stderr=subprocess.DEVNULL, check=True)
-        wanted = -(-slices * width // 1_000)
-        return self.each([[program, "fold", "--id", "1", "--method", "Get"] for program in self.programs], frames, wanted)
-
-    def each(self, commands, path, wanted):
-        """The least of some runs of each command, in turn."""
-        found = [[] for _ in commands]
-        for _ in range(self.meter.times):
-            for place, words in enumerate(commands):
-                if not found[place] or found[place][-1].cost is not None:
-                    found[place].append(self.run_once(words, path, wanted))
-        return [min(it, key=lambda run: run.cost) if it[-1].cost is not None else Run() for it in found]
-
-    def run_once(self, words, path, wanted):
-        """A run over a file that writes so many lines."""
-        limit = self.meter.limit
-        with open(path, "rb") as source, tempfile.TemporaryFile() as sink, tempfile.TemporaryFile() as told:
-            child = subprocess.Popen(self.meter.command(words), stdin=source, stdout=sink, stderr=told,
-                                     preexec_fn=lambda: resource.setrlimit(resource.RLIMIT_CPU, (limit, limit + 1)))
-            _, status, usage = os.wait4(child.pid, 0)
-            child.returncode = status
-            if os.WIFSIGNALED(status) and os.WTERMSIG(status) in (signal.SIGXCPU, signal.SIGKILL):
-                return Run()
-            sink.seek(0)
-            told.seek(0)
-            found = sum(1 for _ in sink)
-            if status or found != wanted:
-                sys.exit(f"{words[0]}: status {os.waitstatus_to_exitcode(status)}, {found} lines written in place of {wanted}")
-            return self.meter.run(usage, told.read())
-
-    def is_told(self, run):
-        return run.cost is not None and run.cost >= self.meter.noise
-
-    def shown(self, run, count):
-        if run.cost is None:
-            return f"over {self.meter.limit} s"
-        return self.meter.shown(run.cost, count) if self.is_told(run) else "   as nothing"
-
-    def tell(self, title, runs, count=None, with_memory=False):
-        """Prints a row: the cost of each program, for each of `count` if it is given, and the ratios of the older to the newer."""
-        has_memory = with_memory and all(run.memory for run in runs)
-        cells = [self.shown(run, count) + (f" {run.memory:6.0f} MB" if has_memory else "") for run in runs]
-        if len(runs) == 2 and all(self.is_told(run) for run in runs):
-            cells.append(f"1/{runs[1].cost / runs[0].cost:.1f}")
-            if has_memory:
-                cells.append(f"memory 1/{runs[1].memory / runs[0].memory:.1f}")
-        print(f"{title:64} " + "   ".join(cells), flush=True)
-        return runs
-
-    def ratio(self, title, wide, narrow):
-        """Prints how much more one row takes than another, for each program."""
-        pairs = zip(wide, narrow)
-        cells = [f"{a.cost / b.cost:9.2f}   " if self.is_told(a) and self.is_told(b) else "        -   " for a, b in pairs]
-        print(f"  {title:62} " + "   ".join(cells), flush=True)
-
-
-def less(after, before):
-    return [run.less(other) for run, other in zip(after, before)]
 
 
 # ------------------------------------------------------------------------------------------------ rows
@@ -270,10 +133,19 @@ def annotated(bench):
     bench.tell(f"a slice changes beside {ANNOTATED} Pods with annotations of {ANNOTATION // 1_000} KB, drained", less(after, before), changed)
 
 
+def folded(bench, slices, width, count):
+    """A run of `fold` of each program over what the newest one writes for so many changes."""
+    feed, frames = bench.write("feed.jsonl", fold_lines(slices, width, count)), os.path.join(bench.folder, "frames.txt")
+    with open(feed, "rb") as source, open(frames, "wb") as sink:
+        subprocess.run([bench.programs[0], "replay"], stdin=source, stdout=sink, stderr=subprocess.DEVNULL, check=True)
+    wanted = -(-slices * width // 1_000)
+    return bench.each([[program, "fold", "--id", "1", "--method", "Get"] for program in bench.programs], frames, wanted)
+
+
 def folds(bench):
     rows, changed = [], bench.some(FOLDED)
     for count, width in ((1, 10), (1_000, 10)):
-        found = less(bench.folds(count, width, changed), bench.folds(count, width, 0))
+        found = less(folded(bench, count, width, changed), folded(bench, count, width, 0))
         rows.append(bench.tell(f"fold of a change of a view of {count * width:,} endpoints", found, changed))
     bench.ratio("10,000 to 10 endpoints (to reach: 3)", rows[1], rows[0])
 
@@ -289,26 +161,5 @@ def given(bench):
 ROWS = {"few": few, "cluster": cluster, "shared": shared, "wide": wide, "slices": slices, "annotated": annotated, "folds": folds, "given": given}
 
 
-def main():
-    words = argparse.ArgumentParser(description=__doc__.splitlines()[0])
-    words.add_argument("--program", default=PROGRAM, metavar="FILE", help="the program (default: the proved one)")
-    words.add_argument("--old", metavar="FILE", help="an older program to compare it with")
-    words.add_argument("--rows", default=",".join(ROWS), metavar="ROW,..", help="these rows alone")
-    words.add_argument("--instructions", action="store_true", help="count instructions with valgrind in place of processor time")
-    arguments = words.parse_args()
-    programs = [os.path.abspath(it) for it in (arguments.program, arguments.old) if it]
-    for program in programs:
-        if not os.access(program, os.X_OK):
-            sys.exit(f"there is no program {program}: run tools/prove first")
-    unknown = set(arguments.rows.split(",")) - set(ROWS)
-    if unknown:
-        sys.exit(f"there is no row {', '.join(sorted(unknown))}; the rows are {', '.join(ROWS)}")
-    print(f"{'':64} {'the program':>11}" + ("     the older one" if arguments.old else ""))
-    with tempfile.TemporaryDirectory() as folder:
-        bench = Bench(programs, Counter() if arguments.instructions else Clock(), folder)
-        for name in arguments.rows.split(","):
-            ROWS[name](bench)
-
-
 if __name__ == "__main__":
-    main()
+    main(__doc__, ROWS)

@@ -15,6 +15,10 @@ AUTHORIZATIONS = 50
 TRUST = "serviceaccount.identity.linkerd.cluster.local"
 
 
+def line(value):
+    return json.dumps(value, separators=(",", ":"))
+
+
 def added(group, kind, name, spec, **meta):
     return {"type": "ADDED", "object": {"apiVersion": group, "kind": kind, "metadata": {"name": name, "namespace": "app", **meta}, "spec": spec}}
 
@@ -55,10 +59,10 @@ def write(path, simulations):
         lines = [pod(), server(), *(route(number) for number in range(ROUTES))]
         for number in range(AUTHORIZATIONS):
             lines.extend(authorizations(number))
-        for line in lines:
-            feed.write(json.dumps(line, separators=(",", ":")) + "\n")
+        for it in lines:
+            feed.write(line(it) + "\n")
         for _ in range(simulations):
-            feed.write(json.dumps(simulation(), separators=(",", ":")) + "\n")
+            feed.write(line(simulation()) + "\n")
 
 
 def main():
