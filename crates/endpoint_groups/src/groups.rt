@@ -62,6 +62,7 @@ impl<F: Drop> EndpointGroups<F> {
             → AreEncoded encode now self.old.groups.items
             → AreEncoded encode now self.new.groups.items }
         ensures err { OnErr result (Same self.old.groups.items self.new.groups.items) }
+        ensures current { self.new.current ≡ self.old.current }
         ensures spent { self.new.spent ≡ self.old.spent }
         ensures refused { self.old.spent ≡ true → IsErr result }
     {
@@ -79,6 +80,7 @@ impl<F: Drop> EndpointGroups<F> {
         ensures encoded { (encode : Option TheView → Option F) (now : TheView)
             → AreEncoded encode now self.old.groups.items
             → AreEncoded encode now self.new.groups.items }
+        ensures current { self.new.current ≡ self.old.current }
         ensures spent { self.new.spent ≡ self.old.spent }
     {
         leave_at(&mut self.groups, number);
@@ -94,6 +96,7 @@ impl<F: Drop> EndpointGroups<F> {
         ensures shown { OnOk result
             (KeepsShown before.now self.old.groups.items self.new.groups.items) }
         ensures encoding { OnOk result ((n : ℕ) → encoding_at self.new.groups.items n ≡ None) }
+        ensures current { self.new.current ≡ self.old.current }
         ensures going { OnOk result (self.new.spent ≡ false) }
         ensures err { OnErr result (self.new.spent ≡ true) }
         ensures refused { self.old.spent ≡ true → IsErr result }
@@ -142,6 +145,7 @@ impl<F: Drop> EndpointGroups<F> {
             → encode (shown_at self.old.groups.items number now) ≡ Some encoding
             → AreEncoded encode now self.old.groups.items
             → AreEncoded encode now self.new.groups.items }
+        ensures current { self.new.current ≡ self.old.current }
         ensures spent { self.new.spent ≡ self.old.spent }
     {
         keep_at(&mut self.groups, number, encoding);
@@ -163,6 +167,7 @@ impl<F: Drop> EndpointGroups<F> {
             → AreEncoded encode now self.old.groups.items
             → AreEncoded encode now self.new.groups.items }
         ensures err { OnErr result (Same self.old.groups.items self.new.groups.items) }
+        ensures err_current { OnErr result (self.new.current ≡ self.old.current) }
         ensures spent { self.new.spent ≡ self.old.spent }
         ensures refused { self.old.spent ≡ true → IsErr result }
     {
