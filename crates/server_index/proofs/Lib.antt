@@ -1,4 +1,5 @@
 mod Followed
+mod Held
 mod Names
 mod Noted
 mod Outside

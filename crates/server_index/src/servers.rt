@@ -1,5 +1,5 @@
 // The Servers that match a port, found among all of the namespace, or brought up to a change.
-ghost use Rattle.std.specs.Prelude.{◌≡◌, ◌≤◌, ◌+◌, ◌||◌, ◌↔◌, false, if◌then◌else◌, IfOk, OnOk, IsTrue, count_by, length};
+ghost use Rattle.std.specs.Prelude.{◌≡◌, ◌≤◌, ◌+◌, ◌||◌, ◌↔◌, false, if◌then◌else◌, IfOk, IfSome, OnOk, IsTrue, Some, count_by, length};
 ghost use Rattle.std.specs.FinMap.{get};
 ghost use Rattle.std.specs.Option.{option_copied};
 ghost use Rattle.key_lists.specs.Keys.{has_key, is_key};
@@ -20,8 +20,11 @@ use mesh_base::memory::Memory;
 use mesh_base::same::Same;
 use mesh_base::steps::Steps;
 use mesh_base::text::Text;
-use policy_rows::server::is_for_port;
+use object_store::store::Store;
+use policy_rows::server::{is_for_port, server_found};
+use std::cmp::Ordering;
 use view_types::mark::Mark;
+use view_types::object::Object;
 use view_types::policy::{Policy, Protocol};
 use view_types::server::ServerSpec;
 
@@ -52,16 +55,33 @@ fn add_servers<L>(
         port.now.pod.now (λ k. has_key k keys.now) servers.old servers.new) }
     ensures steps { steps.new ≤ steps.old + length keys.now }
 {
+    let mut place = first_place(port.from.store, keys);
     for key in keys {
-        add_server(port, key, servers, steps)?;
+        add_server(port, key, place, servers, steps)?;
+        place = place.saturating_add(1);
     }
     Ok(())
 }
 
-/// Puts the Server at a key in where it matches.
+/// Where the object at the first of these keys stands among those held, or would stand. Objects at keys that follow one another stand
+/// side by side.
+fn first_place(store: &Store, keys: &[ObjKey]) -> usize {
+    let Some(first) = keys.first() else {
+        return 0;
+    };
+    match store
+        .all()
+        .binary_search_by(|object| object.compare_key(first))
+    {
+        Ok(place) | Err(place) => place,
+    }
+}
+
+/// Puts the Server at a key in where it matches. It is looked for at this place first.
 fn add_server<L>(
     port: &PodPort,
     key: &ObjKey,
+    place: usize,
     servers: &mut Matching,
     steps: &mut Steps<L>,
 ) -> Result<bool, Memory>
@@ -72,8 +92,38 @@ fn add_server<L>(
     if !is_server_in(key, &port.key.ns) {
         return Ok(false);
     }
-    let server = server_at(port.from.store, key, steps);
+    let server = server_near(port.from.store, key, place, steps);
     put_server(port, key, server, servers)
+}
+
+/// The Server at the key, looked for at this place first.
+fn server_near<'a, L>(
+    store: &'a Store,
+    key: &ObjKey,
+    place: usize,
+    steps: &mut Steps<L>,
+) -> Option<&'a ServerSpec>
+    ensures value { option_copied result ≡ server_found (get store.now.objects key.now) }
+    ensures steps { steps.new ≤ steps.old + 1 }
+{
+    match object_at(store, key, place) {
+        Some(object) => {
+            steps.tick();
+            server_found(Some(object))
+        }
+        None => server_at(store, key, steps),
+    }
+}
+
+/// The object at this place among those held, if it is at the key.
+fn object_at<'a>(store: &'a Store, key: &ObjKey, place: usize) -> Option<&'a Object>
+    ensures { IfSome result (λ o. get store.now.objects key.now ≡ Some o.now) }
+{
+    let object = store.all().get(place)?;
+    match object.compare_key(key) {
+        Ordering::Equal => Some(object),
+        _ => None,
+    }
 }
 
 /// Brings the Servers that match up to a change with these marks. Tells whether any differs.
