@@ -6,10 +6,12 @@ ghost use Rattle.mark_graph.specs.RowMarks.{has_row};
 ghost use Rattle.mark_rules.specs.Changes.{Leads};
 ghost use Rattle.mark_rules.specs.Reads.{cost, endpoint_reads};
 ghost use Rattle.mark_rules.specs.declared.keys.EndpointKey.{EndpointKey as TheKey};
+ghost use Rattle.mark_rules.specs.declared.keys.RowKey.{RowKey};
 ghost use Rattle.mesh_base.specs.declared.limits.Limits.{Limits};
 ghost use Rattle.feed_history.specs.Drains.{IsOrMemory};
 ghost use Rattle.row_views.specs.Ids.{Keeps, SetsAt};
 ghost use Rattle.row_views.specs.Costs.{FollowsWithin};
+ghost use Rattle.row_views.specs.InUse.{AreInUse};
 ghost use Rattle.endpoint_streams.specs.Streams.{endpoints_at, frames_to, is_met, query_for};
 
 use bytes::Bytes;
@@ -32,6 +34,9 @@ pub trait EndpointStreams: Drop {
 
     /// The streams show the endpoints over these objects, in frames within these limits.
     ghost stands: { Self → Config → Limits → ObjectMap → Type 0 };
+
+    /// How many users the row of a key has in the index of endpoints. Rows of other kinds have none.
+    ghost users: { Self → RowKey → ℕ };
 
     /// Opens a stream under an id that has none. Its subscriber was shown nothing.
     fn open<L>(
@@ -105,6 +110,11 @@ pub trait EndpointStreams: Drop {
         ensures stands { (config : Config) (limits : Limits) (held : ObjectMap)
             → stands self.old config limits held → stands self.new config limits held }
         ensures keys { Keeps (key_of self.old) (key_of self.new) };
+
+    /// The rows that have users are exactly those of the keys of the streams that are open.
+    ghost in_use: { (streams : Self) (config : Config) (limits : Limits) (held : ObjectMap)
+        → stands streams config limits held
+        → AreInUse config held (λ id. option_map query_for (key_of streams id)) (users streams) };
 
     /// The streams stand in one way only, so that a field of a struct may say that they do.
     ghost unique: { (streams : Self) (config : Config) (limits : Limits) (held : ObjectMap)

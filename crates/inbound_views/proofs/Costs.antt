@@ -1,5 +1,5 @@
 -- What is looked up as the rows behind ports follow a change, in terms of the rows of queries.
-use Rattle.std.proofs.Common.{◌≡◌, ◌≤◌, ◌+◌, ◌⊎◌, ◌||◌, ◌++◌, inl, inr, ℕ, Bool, true, false, cond, List, [], ◌∷◌, map, Option, Some, None, refl, sym, ap, subst, ◌∙◌, arith}
+use Rattle.std.proofs.Common.{◌≡◌, ◌≤◌, ◌+◌, ◌⊎◌, ◌++◌, inl, inr, ℕ, Bool, true, false, cond, List, [], ◌∷◌, map, Option, Some, None, refl, sym, ap, subst, ◌∙◌, arith}
 use Rattle.std.proofs.lemmas.Bool.{false≢true}
 use Rattle.std.proofs.lemmas.List.Sums.{sum_by-append, sum_by-cons}
 use Rattle.std.specs.Cmp.{IsTotalOrder}
@@ -15,7 +15,6 @@ use Rattle.view_types.specs.declared.mark.Mark.{Mark}
 use Rattle.view_types.specs.declared.query.Query.{Query}
 use Rattle.view_types.specs.declared.server_view.RouteRow.{RouteRow}
 use Rattle.view_rules.specs.PolicyLaws.{server_key}
-use Rattle.view_rules.proofs.Among.{Among, among_found, among_from, contained, from_found}
 use Rattle.mark_rules.specs.Marks.{meets}
 use Rattle.mark_rules.specs.Reads.{authz_reads, cost, reads, route_reads, server_reads}
 use Rattle.mark_rules.specs.Rows.{ServerPart, keys_behind, name_in, server_part, server_routes}
@@ -27,16 +26,18 @@ use Rattle.mark_rules.specs.declared.keys.RowKey.{RowKey}
 use Rattle.mark_rules.specs.declared.keys.RowKey.TheVariants as row
 use Rattle.mark_rules.specs.declared.keys.ServerKey.{ServerKey}
 use Rattle.row_table.specs.IndexRows.{Filter, has_key}
-use Rattle.row_table.proofs.Keys.{is_itself, is_same}
-use Rattle.row_views.specs.Costs.{AreApart, FollowedRows, IsFollowed, IsInUse, cost_of, open_cost}
+use Rattle.row_views.specs.Costs.{AreApart, FollowedRows, IsFollowed, cost_of, open_cost}
 use Rattle.row_views.specs.Ids.{AreTied}
+use Rattle.row_views.specs.InUse.{IsInUse}
 use Rattle.row_views.specs.Queries.{rows_at}
 use Rattle.row_views.specs.Standing.{FollowCost}
-use Rattle.row_views.proofs.Costs.{all_joined, all_of, in_use, rows_apart}
+use Rattle.row_views.proofs.Costs.{all_joined, all_of, apart_joined, in_use, rows_apart, total_of}
+use Rattle.row_views.proofs.InUse.{key_there, row_there}
 use Rattle.authz_index.specs.AuthzKeys.{authz_keys_exact}
 use Rattle.route_index.specs.RouteKeys.{route_keys_exact}
 use Rattle.server_index.specs.ServerKeys.{server_keys_exact}
 use Rattle.inbound_views.specs.Costs.{AllEnter, RowsFollow, cost_of_authz, cost_of_routes}
+use Rattle.inbound_views.specs.InUse.{authz_row_is, route_row_is}
 use Rattle.inbound_views.specs.PortRows.{authz_key, authz_keys, authz_rows, query_for, route_key, route_keys, route_rows, server_rows}
 use Rattle.inbound_views.specs.Standing.{AreJoined, authz_of, query_at, routes_of, uses_authz, uses_routes, uses_server}
 use Rattle.inbound_views.specs.declared.views.InboundViews.{InboundViews}
@@ -46,61 +47,19 @@ use Rattle.inbound_views.proofs.Rows.{no_routes, route_authz}
 abbrev pub server_cmp : ServerKey → ServerKey → Ordering
 server_cmp = server_order.TheImpl.cmp-value.it
 
--- ---- keys of lists
-
-module _ {Key : Type 0} (cmp : Key → Key → Ordering) (total : IsTotalOrder cmp) (exact : IsAntisymmetric cmp) where
-  pub has_among : (keys : List Key) (key : Key) → Among key keys → has_key cmp keys key ≡ true
-  has_among [] key at = absurd at
-  has_among (k ∷ ks) key at = elim at [
-    | inl same ↦ ap (λ b. b || has_key cmp ks key) (ap (eq_by_cmp cmp key) same ∙ is_itself cmp total exact key)
-    | inr rest ↦ ap (λ b. eq_by_cmp cmp key k || b) (has_among ks key rest) ∙ or_true (eq_by_cmp cmp key k)
-  ]
-    where
-      or_true : (b : Bool) → (b || true) ≡ true
-      or_true true = refl
-      or_true false = refl
-
-  pub among_has : (keys : List Key) (key : Key) → has_key cmp keys key ≡ true → Among key keys
-  among_has [] key has = absurd (false≢true has)
-  among_has (k ∷ ks) key has = by (eq_by_cmp cmp key k) refl (among_has ks key)
-    where
-      by : (b : Bool) → eq_by_cmp cmp key k ≡ b → (has_key cmp ks key ≡ true → Among key ks) → Among key (k ∷ ks)
-      by true is rest = inl (sym (is_same cmp total exact key k is))
-      by false is rest = inr (rest (sym (ap (λ b. b || has_key cmp ks key) is) ∙ has))
-
 -- ---- the rows of a query, by their kinds
 
-route_is : (of : RowKey) (key : RouteKey) → route_key of ≡ Some key → of ≡ row.Route key
-route_is (row.Route k) key is = ap row.Route (cc is)
-route_is (row.Endpoint k) key is = absurd (cc is)
-route_is (row.Profile k) key is = absurd (cc is)
-route_is (row.Server k) key is = absurd (cc is)
-route_is (row.Authz k) key is = absurd (cc is)
-route_is (row.Outbound k) key is = absurd (cc is)
+row_of_route : (rows : List RowKey) (key : RouteKey) → has_key route_cmp (filter_map route_key rows) key ≡ true → Contains rows (row.Route key)
+row_of_route = row_there route_cmp route_laws.total-law route_keys_exact route_key row.Route route_row_is
 
-authz_is_row : (of : RowKey) (key : ObjKey) → authz_key of ≡ Some key → of ≡ row.Authz key
-authz_is_row (row.Authz k) key is = ap row.Authz (cc is)
-authz_is_row (row.Endpoint k) key is = absurd (cc is)
-authz_is_row (row.Profile k) key is = absurd (cc is)
-authz_is_row (row.Server k) key is = absurd (cc is)
-authz_is_row (row.Route k) key is = absurd (cc is)
-authz_is_row (row.Outbound k) key is = absurd (cc is)
+row_of_authz : (rows : List RowKey) (key : ObjKey) → has_key key_cmp (filter_map authz_key rows) key ≡ true → Contains rows (row.Authz key)
+row_of_authz = row_there key_cmp key_laws.total-law authz_keys_exact authz_key row.Authz authz_row_is
 
-pub row_of_route : (rows : List RowKey) (key : RouteKey) → has_key route_cmp (filter_map route_key rows) key ≡ true → Contains rows (row.Route key)
-row_of_route rows key has =
-    let found = from_found route_key rows key (among_has route_cmp route_laws.total-law route_keys_exact (filter_map route_key rows) key has) in
-    contained rows (row.Route key) (subst (λ (of : RowKey). Among of rows) (route_is found.0 key found.2) found.1)
+route_of_row : (rows : List RowKey) (key : RouteKey) → Contains rows (row.Route key) → has_key route_cmp (filter_map route_key rows) key ≡ true
+route_of_row = key_there route_cmp route_laws.total-law route_keys_exact route_key row.Route (λ key. refl)
 
-pub row_of_authz : (rows : List RowKey) (key : ObjKey) → has_key key_cmp (filter_map authz_key rows) key ≡ true → Contains rows (row.Authz key)
-row_of_authz rows key has =
-    let found = from_found authz_key rows key (among_has key_cmp key_laws.total-law authz_keys_exact (filter_map authz_key rows) key has) in
-    contained rows (row.Authz key) (subst (λ (of : RowKey). Among of rows) (authz_is_row found.0 key found.2) found.1)
-
-pub route_of_row : (rows : List RowKey) (key : RouteKey) → Contains rows (row.Route key) → has_key route_cmp (filter_map route_key rows) key ≡ true
-route_of_row rows key has = has_among route_cmp route_laws.total-law route_keys_exact (filter_map route_key rows) key (among_found route_key rows (row.Route key) key (among_from rows (row.Route key) has) refl)
-
-pub authz_of_row : (rows : List RowKey) (key : ObjKey) → Contains rows (row.Authz key) → has_key key_cmp (filter_map authz_key rows) key ≡ true
-authz_of_row rows key has = has_among key_cmp key_laws.total-law authz_keys_exact (filter_map authz_key rows) key (among_found authz_key rows (row.Authz key) key (among_from rows (row.Authz key) has) refl)
+authz_of_row : (rows : List RowKey) (key : ObjKey) → Contains rows (row.Authz key) → has_key key_cmp (filter_map authz_key rows) key ≡ true
+authz_of_row = key_there key_cmp key_laws.total-law authz_keys_exact authz_key row.Authz (λ key. refl)
 
 -- ---- what a port costs
 
@@ -155,20 +114,11 @@ module _ (config : Config) (after : ObjectMap) where
     pub most : new ≤ old + cost_of config after keys
 
   module _ (P Q : RowKey → Type 0) (disjoint : (key : RowKey) → P key → Q key → ⊥) where
-    differ : (key : RowKey) → P key → (others : List RowKey) → AllByRecursion Q others → AllByRecursion (λ other. key ≡ other → ⊥) others
-    differ key is [] all = tt
-    differ key is (k ∷ ks) all = ((λ same. disjoint key is (subst Q (sym same) all.0)), differ key is ks all.1)
-
-    apart_joined : (keys others : List RowKey) → AreApart keys → AreApart others → AllByRecursion P keys → AllByRecursion Q others → AreApart (keys ++ others)
-    apart_joined [] others first second these those = second
-    apart_joined (key ∷ keys) others first second these those =
-        (all_joined (λ other. key ≡ other → ⊥) keys others first.0 (differ key these.0 others those), apart_joined keys others first.1 second these.1 those)
-
     read_both : (old mid new : ℕ) → Reading P old mid → Reading Q mid new → Reading (λ key. P key ⊎ Q key) old new
     read_both old mid new these those = record {
       keys = these.keys ++ those.keys;
       each = all_joined (λ key. P key ⊎ Q key) these.keys those.keys (all_of P (λ key. P key ⊎ Q key) (λ key p. inl p) these.keys these.each) (all_of Q (λ key. P key ⊎ Q key) (λ key q. inr q) those.keys those.each);
-      once = apart_joined these.keys those.keys these.once those.once these.each those.each;
+      once = apart_joined P Q disjoint these.keys those.keys these.once those.once these.each those.each;
       most =
           let first_most = these.most in
           let second_most = those.most in
@@ -178,13 +128,6 @@ module _ (config : Config) (after : ObjectMap) where
 
   module _ {Key Row : Type 0} (cmp : Key → Key → Ordering) (total : IsTotalOrder cmp) (exact : IsAntisymmetric cmp) (row_at : Key → RowKey) (row_exact : (a b : Key) → row_at a ≡ row_at b → a ≡ b) (filter : Filter Key Row)
       (reading : (key : Key) → reads config after (row_at key) ≡ filter.reads after key) (P : RowKey → Type 0) where
-    total_of : (keys : List Key) → cost_of config after (map row_at keys) ≡ sum_by (λ key. cost after (filter.reads after key)) keys
-    total_of [] = refl
-    total_of (key ∷ keys) =
-        sum_by-cons (λ key. cost after (reads config after key)) (row_at key) (map row_at keys)
-        ∙ (λ i. cost after (reading key i) + total_of keys i)
-        ∙ sym (sum_by-cons (λ key. cost after (filter.reads after key)) key keys)
-
     all_rows : (Of : Key → Type 0) → ((key : Key) → Of key → P (row_at key)) → (keys : List Key) → AllByRecursion Of keys → AllByRecursion P (map row_at keys)
     all_rows Of is [] all = tt
     all_rows Of is (key ∷ keys) all = (is key all.0, all_rows Of is keys all.1)
@@ -194,7 +137,7 @@ module _ (config : Config) (after : ObjectMap) where
       keys = map row_at keys;
       each = all_rows Of is keys each;
       once = rows_apart cmp total exact row_at row_exact keys once;
-      most = subst (λ (n : ℕ). new ≤ old + n) (sym (total_of keys)) most;
+      most = subst (λ (n : ℕ). new ≤ old + n) (sym (total_of row_at filter config after reading keys)) most;
     }
 
 -- ---- as the rows follow a change

@@ -1,3 +1,4 @@
 pub mod Costs
+pub mod InUse
 pub mod PortRows
 pub mod Standing

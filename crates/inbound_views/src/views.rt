@@ -171,12 +171,18 @@ impl InboundViews {
 
 impl QueryViews for InboundViews {
     ghost use Rattle.std.proofs.Math.Logic.{∥∥₁_prop};
+    ghost use Rattle.row_views.proofs.InUse.{in_use_of};
+    ghost use Rattle.inbound_views.specs.InUse.{port_users, ports_in_use};
     ghost use Rattle.inbound_views.specs.PortRows.{port_query, ports_same};
     ghost use Rattle.inbound_views.specs.Standing.{AreJoined, query_at};
 
     ghost kept_query = { port_query };
 
     ghost query_of = { query_at };
+
+    ghost users = { λ s. port_users (⟦<ServerIndex as RowIndex>⟧.users s.servers.index)
+        (⟦<RouteIndex as RowIndex>⟧.users s.routes.used.index)
+        (⟦<AuthzIndex as RowIndex>⟧.users s.authz.used.index) };
 
     ghost stands = { λ s config held.
         ∥ AreJoined ⟦<InboundViews as KeepsRows>⟧.stand config held s ∥₁ };
@@ -230,6 +236,10 @@ impl QueryViews for InboundViews {
     ghost same = { ports_same };
 
     ghost unique = { λ s config held. ∥∥₁_prop };
+
+    ghost in_use = { λ s config held stands. in_use_of stands (λ joined.
+        ports_in_use config joined.kept.servers.rows joined.kept.routes.rows
+        joined.kept.authz.rows joined.routes joined.authz) };
 }
 
 // The ids, ascending, each once.

@@ -46,9 +46,11 @@ impl KeptViews {
 }
 
 impl QueryViews for KeptViews {
-    ghost use Rattle.inbound_views.specs.contracts.views.InboundViewsQueryViews.TheImpl.Laws.{unique-law as ports_unique};
-    ghost use Rattle.outbound_views.specs.contracts.views.OutboundViewsQueryViews.TheImpl.Laws.{unique-law as outbound_unique};
-    ghost use Rattle.profile_views.specs.contracts.views.ProfileViewsQueryViews.TheImpl.Laws.{unique-law as profiles_unique};
+    ghost use Rattle.std.specs.Prelude.{◌+◌};
+    ghost use Rattle.inbound_views.specs.contracts.views.InboundViewsQueryViews.TheImpl.Laws.{in_use-law as ports_in_use, unique-law as ports_unique};
+    ghost use Rattle.outbound_views.specs.contracts.views.OutboundViewsQueryViews.TheImpl.Laws.{in_use-law as outbound_in_use, unique-law as outbound_unique};
+    ghost use Rattle.profile_views.specs.contracts.views.ProfileViewsQueryViews.TheImpl.Laws.{in_use-law as profiles_in_use, unique-law as profiles_unique};
+    ghost use Rattle.kept_views.specs.InUse.{parts_in_use};
     ghost use Rattle.kept_views.specs.KeptQueries.{kept_query, kept_same};
     ghost use Rattle.kept_views.specs.Parts.{PartsStand, PartsStand-prop, first_of};
 
@@ -57,6 +59,10 @@ impl QueryViews for KeptViews {
     ghost query_of = { λ s id. first_of (⟦<ProfileViews as QueryViews>⟧.query_of s.profiles id)
         (⟦<InboundViews as QueryViews>⟧.query_of s.ports id)
         (⟦<OutboundViews as QueryViews>⟧.query_of s.outbound id) };
+
+    ghost users = { λ s key. ⟦<ProfileViews as QueryViews>⟧.users s.profiles key
+        + (⟦<InboundViews as QueryViews>⟧.users s.ports key
+        + ⟦<OutboundViews as QueryViews>⟧.users s.outbound key) };
 
     ghost stands = { λ s config held. PartsStand
         (⟦<ProfileViews as QueryViews>⟧.stands s.profiles config held)
@@ -120,6 +126,11 @@ impl QueryViews for KeptViews {
 
     ghost unique = { λ s config held. PartsStand-prop (profiles_unique s.profiles config held)
         (ports_unique s.ports config held) (outbound_unique s.outbound config held) };
+
+    ghost in_use = { λ s config held stands. parts_in_use config held stands
+        (profiles_in_use s.profiles config held stands.profiles)
+        (ports_in_use s.ports config held stands.ports)
+        (outbound_in_use s.outbound config held stands.outbound) };
 }
 
 // The ids of one list, and then those of another.

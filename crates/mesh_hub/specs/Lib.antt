@@ -6,6 +6,7 @@ pub mod Due
 pub mod Greatest
 pub mod Hub
 pub mod HubAfter
+pub mod InUse
 pub mod LiveSubs
 pub mod Replies
 pub mod Scripts

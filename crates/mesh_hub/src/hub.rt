@@ -83,8 +83,10 @@ impl Hub {
     ghost use Rattle.mesh_hub.specs.Costs.{AppliesWithin, FindsWithin};
     ghost use Rattle.mesh_hub.specs.Due.{IdlesUnlessDue, IsUndueUnlessMemory, StaysDue, StaysDueOr, Undue, is_due};
     ghost use Rattle.mesh_hub.specs.Hub.{Answers, Cancels, LiveSubscription, Rests, Simulates, Spends, answer_of, applied, apply_refusal, drained, frames_at, fresh, is_live, new_refusal, state_of, sub_at, subscribed};
+    ghost use Rattle.mesh_hub.specs.InUse.{users_in};
     ghost use Rattle.mesh_hub.specs.Replies.{MayApply, MayDrain, MaySubscribe};
     ghost use Rattle.mesh_hub.specs.Sending.{IsDueOrTooLong, IsSent};
+    ghost use Rattle.row_views.specs.InUse.{AreInUse};
     ghost use Rattle.watch_events.specs.Lawful.{IsLawfulEvent};
 
     /// Nothing is held or asked for.
@@ -279,6 +281,15 @@ impl Hub {
                 Err(Memory)
             }
         }
+    }
+
+    /// After every call, unless memory ran out, the rows that have users in the indexes are exactly those of the queries of the live
+    /// subscriptions. So a row is kept no longer than somebody asks for it, and no simulation leaves one.
+    pub fn rows_in_use_are_those_of_subscriptions(&self)
+        ensures { self.now.spent ≡ false → AreInUse self.now.config self.now.store.objects
+            (λ id. query_at id (state_of self.now).subs) (users_in self.now) }
+    {
+        self.subscribers.rows_in_use_are_those_of_queries();
     }
 
     /// The store of the objects that are held.

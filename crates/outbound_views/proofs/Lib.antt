@@ -1,2 +1,1 @@
 mod OutboundRows
-mod RowQueries

@@ -19,7 +19,7 @@ use Rattle.row_views.specs.Costs.{FollowedRows, open_cost}
 use Rattle.row_views.specs.Ids.{AreTied, has_ids, key_at}
 use Rattle.row_views.specs.Queries.{reads_one, view_at}
 use Rattle.row_views.specs.Standing.{FollowCost, is_met}
-use Rattle.outbound_views.proofs.RowQueries.{followed_as_asked, met_as_asked, opened_as_asked, seen_as_asked}
+use Rattle.row_views.proofs.RowQueries.{followed_as_asked, met_as_asked, opened_as_asked, seen_as_asked}
 use Rattle.profile_index.specs.ProfileKeys.{targets_exact}
 use Rattle.outbound_views.specs.OutboundQueries.{outbound_rows, query_for}
 

@@ -47,12 +47,18 @@ impl QueryViews for OutboundViews {
     ghost use Rattle.std.proofs.Math.Logic.{∥∥₁_prop};
     ghost use Rattle.std.specs.Prelude.{option_map};
     ghost use Rattle.row_views.specs.Ids.{key_at};
+    ghost use Rattle.row_views.specs.InUse.{users_if};
     ghost use Rattle.row_views.specs.Standing.{AreKept};
+    ghost use Rattle.row_views.proofs.InUse.{in_use_of};
+    ghost use Rattle.outbound_views.specs.InUse.{outbound_in_use, target_of};
     ghost use Rattle.outbound_views.specs.OutboundQueries.{outbound_query, outbound_rows, outbound_same, query_for};
 
     ghost kept_query = { outbound_query };
 
     ghost query_of = { λ s id. option_map query_for (key_at s.rows.by_id id) };
+
+    ghost users = { λ s key. users_if (⟦<OutboundIndex as RowIndex>⟧.users s.rows.index)
+        (target_of key) };
 
     ghost stands = { λ s config held. ∥ AreKept ⟦<Target as Ord>⟧.cmp
         ⟦<OutboundIndex as RowIndex>⟧.users ⟦<OutboundIndex as RowIndex>⟧.stands
@@ -102,6 +108,9 @@ impl QueryViews for OutboundViews {
     ghost same = { outbound_same };
 
     ghost unique = { λ s config held. ∥∥₁_prop };
+
+    ghost in_use = { λ s config held stands. in_use_of stands
+        (λ kept. outbound_in_use config kept.rows) };
 }
 
 // The target whose outbound view a query asks for, if it asks for one.

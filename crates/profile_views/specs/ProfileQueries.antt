@@ -1,12 +1,14 @@
--- The queries of profiles, and their keys.
+-- The queries of profiles, and the rows of their keys.
 use Rattle.std.proofs.Common.{◌≡◌, Option, Some, None, sym, ap}
-use Rattle.view_types.specs.Objects.{ObjectMap}
 use Rattle.view_types.specs.declared.config.Config.{Config}
+use Rattle.view_types.specs.declared.outbound.ProfileView.{ProfileView}
 use Rattle.view_types.specs.declared.query.Query.{Query}
 use Rattle.view_types.specs.declared.query.Query.TheVariants.{Profile}
 use Rattle.view_rules.specs.Views.{view_of}
-use Rattle.mark_rules.specs.Rows.{rows}
+use Rattle.mark_rules.specs.Reads.{profile_reads}
+use Rattle.mark_rules.specs.Rows.{profile_row, rows}
 use Rattle.mark_rules.specs.declared.keys.ProfileKey.{ProfileKey}
+use Rattle.row_table.specs.IndexRows.{Filter}
 use Rattle.row_views.specs.Queries.{ShowsSame}
 
 -- a query of a profile, as far as its view depends on it
@@ -17,6 +19,10 @@ profile_query _ = None
 -- the query of a key
 abbrev pub query_for : ProfileKey → Query
 query_for key = Profile key.target (record { ns = key.client; node = None })
+
+-- the rows of keys, and what each reads
+abbrev pub profile_rows : Config → Filter ProfileKey ProfileView
+profile_rows config = record { row_of = profile_row config; reads = profile_reads config }
 
 -- the node of a client counts for nothing
 pub profiles_same : ShowsSame profile_query

@@ -50,22 +50,25 @@ impl ProfileViews {
 impl QueryViews for ProfileViews {
     ghost use Rattle.std.proofs.Math.Logic.{∥∥₁_prop};
     ghost use Rattle.std.specs.Prelude.{option_map};
-    ghost use Rattle.mark_rules.specs.Reads.{profile_reads};
-    ghost use Rattle.mark_rules.specs.Rows.{profile_row};
     ghost use Rattle.row_views.specs.Ids.{key_at};
+    ghost use Rattle.row_views.specs.InUse.{users_if};
     ghost use Rattle.row_views.specs.Standing.{AreKept};
-    ghost use Rattle.profile_views.specs.ProfileQueries.{profile_query, profiles_same, query_for};
+    ghost use Rattle.row_views.proofs.InUse.{in_use_of};
+    ghost use Rattle.profile_views.specs.InUse.{profile_of, profiles_in_use};
+    ghost use Rattle.profile_views.specs.ProfileQueries.{profile_query, profile_rows, profiles_same, query_for};
 
     ghost kept_query = { profile_query };
 
     ghost query_of = { λ s id. option_map query_for (key_at s.rows.by_id id) };
 
+    ghost users = { λ s key. users_if
+        (⟦<RowTable<FindAnew<ProfileFinder>> as RowIndex>⟧.users s.rows.index) (profile_of key) };
+
     ghost stands = { λ s config held. ∥ AreKept ⟦<ProfileKey as Ord>⟧.cmp
         ⟦<RowTable<FindAnew<ProfileFinder>> as RowIndex>⟧.users
         ⟦<RowTable<FindAnew<ProfileFinder>> as RowIndex>⟧.stands
-        ⟦<RowTable<FindAnew<ProfileFinder>> as RowIndex>⟧.filter
-        (record { row_of = profile_row config; reads = profile_reads config }) held s.rows.index
-        s.rows.by_key s.rows.by_id ∥₁ };
+        ⟦<RowTable<FindAnew<ProfileFinder>> as RowIndex>⟧.filter (profile_rows config) held
+        s.rows.index s.rows.by_key s.rows.by_id ∥₁ };
 
     fn keeps(query: &Query) -> bool {
         match query {
@@ -110,6 +113,9 @@ impl QueryViews for ProfileViews {
     ghost same = { profiles_same };
 
     ghost unique = { λ s config held. ∥∥₁_prop };
+
+    ghost in_use = { λ s config held stands. in_use_of stands
+        (λ kept. profiles_in_use config kept.rows) };
 }
 
 // The key of the profile that a query asks for, if it asks for one.

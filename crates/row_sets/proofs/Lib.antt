@@ -1,4 +1,5 @@
 pub mod Costs
 pub mod Entered
+pub mod InUse
 pub mod Standing
 pub mod Used

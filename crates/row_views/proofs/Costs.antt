@@ -1,13 +1,12 @@
 -- What is looked up as the rows of ids follow a change, in terms of the rows of queries.
-use Rattle.std.proofs.Common.{◌≡◌, ◌≤◌, ◌<◌, ◌+◌, ◌||◌, ◌++◌, ◌⊎◌, inl, inr, ℕ, Bool, true, false, cond, nat_eq, List, [], ◌∷◌, map, Option, Some, None, refl, sym, ap, subst, ◌∙◌, arith}
+use Rattle.std.proofs.Common.{◌≡◌, ◌≤◌, ◌<◌, ◌+◌, ◌||◌, ◌++◌, ◌⊎◌, inl, inr, ℕ, Bool, true, false, cond, List, [], ◌∷◌, map, Option, Some, None, refl, sym, ap, subst, ◌∙◌, arith}
 use Rattle.std.proofs.lemmas.Bool.{false≢true}
 use Rattle.std.proofs.lemmas.List.Sums.{sum_by-append, sum_by-cons}
-use Rattle.std.specs.BTreeMap as tree
 use Rattle.std.specs.BTreeMap.{BTreeMap}
 use Rattle.std.specs.BTreeSet.{BTreeSet}
 use Rattle.std.specs.Cmp.{IsTotalOrder}
 use Rattle.std.specs.FinMap.{IsAntisymmetric}
-use Rattle.std.specs.List.{AllByRecursion, Contains, IsDistinct, list_any, sum_by}
+use Rattle.std.specs.List.{AllByRecursion, Contains, IsDistinct, sum_by}
 use Rattle.std.specs.Ordering.{eq_by_cmp}
 use Rattle.std.specs.Prelude.{option_map}
 use Rattle.std.specs.declared.cmp.Ordering.{Ordering}
@@ -23,8 +22,9 @@ use Rattle.mark_rules.specs.declared.keys.RowKey.{RowKey}
 use Rattle.row_table.specs.IndexRows.{AreMet, Filter, IsCurrent, has_key}
 use Rattle.row_table.proofs.Keys.{is_itself, is_same}
 use Rattle.row_table.proofs.MarkLists.{meets_same}
-use Rattle.row_views.specs.Costs.{AreApart, FollowedRows, IsFollowed, IsInUse, cost_of, open_cost}
+use Rattle.row_views.specs.Costs.{AreApart, FollowedRows, IsFollowed, cost_of, open_cost}
 use Rattle.row_views.specs.Ids.{AreTied, has_ids, is_key, key_at}
+use Rattle.row_views.specs.InUse.{IsInUse}
 use Rattle.row_views.specs.Queries.{rows_at}
 use Rattle.row_views.specs.Standing.{FollowCost}
 use Rattle.row_views.proofs.Ids.{has_one}
@@ -44,16 +44,24 @@ none_of f exact x [] apart = tt
 none_of f exact x (y ∷ ys) apart = ((λ same. apart.0 (exact x y same)), none_of f exact x ys apart.1)
 
 module _ {Key : Type 0} (cmp : Key → Key → Ordering) (total : IsTotalOrder cmp) (exact : IsAntisymmetric cmp) where
-  among_has : (keys : List Key) (key : Key) → Among key keys → has_key cmp keys key ≡ true
-  among_has [] key at = absurd at
-  among_has (k ∷ ks) key at = elim at [
+  pub has_among : (keys : List Key) (key : Key) → Among key keys → has_key cmp keys key ≡ true
+  has_among [] key at = absurd at
+  has_among (k ∷ ks) key at = elim at [
     | inl same ↦ ap (λ b. b || has_key cmp ks key) (ap (eq_by_cmp cmp key) same ∙ is_itself cmp total exact key)
-    | inr rest ↦ ap (λ b. eq_by_cmp cmp key k || b) (among_has ks key rest) ∙ or_true (eq_by_cmp cmp key k)
+    | inr rest ↦ ap (λ b. eq_by_cmp cmp key k || b) (has_among ks key rest) ∙ or_true (eq_by_cmp cmp key k)
   ]
     where
       or_true : (b : Bool) → (b || true) ≡ true
       or_true true = refl
       or_true false = refl
+
+  pub among_has : (keys : List Key) (key : Key) → has_key cmp keys key ≡ true → Among key keys
+  among_has [] key has = absurd (false≢true has)
+  among_has (k ∷ ks) key has = by (eq_by_cmp cmp key k) refl (among_has ks key)
+    where
+      by : (b : Bool) → eq_by_cmp cmp key k ≡ b → (has_key cmp ks key ≡ true → Among key ks) → Among key (k ∷ ks)
+      by true is rest = inl (sym (is_same cmp total exact key k is))
+      by false is rest = inr (rest (sym (ap (λ b. b || has_key cmp ks key) is) ∙ has))
 
   -- The keys whose marks share one with a change are used, and read a mark of it.
   module _ {Index Row : Type 0} (users : Index → Key → ℕ) (filter : Filter Key Row) (row_in : Index → Key → Option Row) (marks_in : Index → Key → List Mark) (before after : ObjectMap) (changed : List Mark)
@@ -76,11 +84,20 @@ module _ {Key : Type 0} (cmp : Key → Key → Ordering) (total : IsTotalOrder c
     met_cost keys met old new most = record {
       keys = keys;
       each = all_among (λ key. (used key ≡ true) × (meets (filter.reads before key) changed ≡ true)) keys (λ key at.
-          let meet = sym (met.each key) ∙ among_has keys key at in
+          let meet = sym (met.each key) ∙ has_among keys key at in
           (met_used key meet, is_read key meet));
       once = met.once;
       most = most;
     }
+
+-- what the rows of these keys read, all together
+pub total_of : {Key Row : Type 0} (row : Key → RowKey) (filter : Filter Key Row) (config : Config) (held : ObjectMap) → ((key : Key) → reads config held (row key) ≡ filter.reads held key) → (keys : List Key)
+    → cost_of config held (map row keys) ≡ sum_by (λ key. cost held (filter.reads held key)) keys
+total_of row filter config held reading [] = refl
+total_of row filter config held reading (key ∷ keys) =
+    sum_by-cons (λ key. cost held (reads config held key)) (row key) (map row keys)
+    ∙ (λ i. cost held (reading key i) + total_of row filter config held reading keys i)
+    ∙ sym (sum_by-cons (λ key. cost held (filter.reads held key)) key keys)
 
 module _ {Key : Type 0} (cmp : Key → Key → Ordering) (total : IsTotalOrder cmp) (exact : IsAntisymmetric cmp) (row : Key → RowKey) (row_exact : (a b : Key) → row a ≡ row b → a ≡ b) where
   others : (key : Key) (keys : List Key) → AllByRecursion (λ other. eq_by_cmp cmp key other ≡ false) keys → AllByRecursion (λ other. key ≡ other → ⊥) keys
@@ -95,13 +112,6 @@ module _ {Key : Type 0} (cmp : Key → Key → Ordering) (total : IsTotalOrder c
   -- The rows of keys that are used are those of the queries of ids.
   module _ {Row : Type 0} (filter : Filter Key Row) (config : Config) (reading : (held : ObjectMap) (key : Key) → reads config held (row key) ≡ filter.reads held key) (before after : ObjectMap) (changed : List Mark)
       (queries : ℕ → Option Query) (used : Key → Bool) (in_use : (key : Key) → used key ≡ true → IsInUse config before queries (row key)) where
-    total_of : (keys : List Key) → cost_of config after (map row keys) ≡ sum_by (λ key. cost after (filter.reads after key)) keys
-    total_of [] = refl
-    total_of (key ∷ keys) =
-        sum_by-cons (λ key. cost after (reads config after key)) (row key) (map row keys)
-        ∙ (λ i. cost after (reading after key i) + total_of keys i)
-        ∙ sym (sum_by-cons (λ key. cost after (filter.reads after key)) key keys)
-
     each_row : (keys : List Key) → AllByRecursion (λ key. (used key ≡ true) × (meets (filter.reads before key) changed ≡ true)) keys → AllByRecursion (IsFollowed config changed before after queries) (map row keys)
     each_row [] all = tt
     each_row (key ∷ keys) all = (inl (in_use key all.0.0, ap (λ marks. meets marks changed) (reading before key) ∙ all.0.1), each_row keys all.1)
@@ -111,7 +121,7 @@ module _ {Key : Type 0} (cmp : Key → Key → Ordering) (total : IsTotalOrder c
       keys = map row c.keys;
       each = each_row c.keys c.each;
       once = rows_apart c.keys c.once;
-      most = subst (λ (n : ℕ). new ≤ old + n) (sym (total_of c.keys)) c.most;
+      most = subst (λ (n : ℕ). new ≤ old + n) (sym (total_of row filter config after (reading after) c.keys)) c.most;
     }
 
 -- ---- ids with one key each
@@ -141,13 +151,11 @@ opened_within used config held key query marks old new only same most =
 
 -- ---- rows that are followed in two parts
 
-apart_joined : (part : RowKey → Bool) (keys others : List RowKey) → AreApart keys → AreApart others → AllByRecursion (λ key. part key ≡ true) keys → AllByRecursion (λ key. part key ≡ false) others → AreApart (keys ++ others)
-apart_joined part [] others first second these those = second
-apart_joined part (key ∷ keys) others first second these those = (all_joined (λ other. key ≡ other → ⊥) keys others first.0 (differ others those), apart_joined part keys others first.1 second these.1 those)
-  where
-    differ : (ks : List RowKey) → AllByRecursion (λ key. part key ≡ false) ks → AllByRecursion (λ other. key ≡ other → ⊥) ks
-    differ [] all = tt
-    differ (k ∷ ks) all = ((λ same. false≢true (sym all.0 ∙ ap part (sym same) ∙ these.0)), differ ks all.1)
+module _ (P Q : RowKey → Type 0) (disjoint : (key : RowKey) → P key → Q key → ⊥) where
+  pub apart_joined : (keys others : List RowKey) → AreApart keys → AreApart others → AllByRecursion P keys → AllByRecursion Q others → AreApart (keys ++ others)
+  apart_joined [] others first second these those = second
+  apart_joined (key ∷ keys) others first second these those =
+      (all_joined (λ other. key ≡ other → ⊥) keys others first.0 (all_of Q (λ other. key ≡ other → ⊥) (λ other is same. disjoint key these.0 (subst Q (sym same) is)) others those), apart_joined keys others first.1 second these.1 those)
 
 -- Each row of the whole is one of the first part or of the second, and each of these is one of the whole.
 module _ (config : Config) (whole first second : ℕ → Option Query) (part : RowKey → Bool)
@@ -192,7 +200,7 @@ module _ (config : Config) (whole first second : ℕ → Option Query) (part : R
   joined_rows old mid new these those = record {
     keys = these.keys ++ those.keys;
     each = all_joined (Follows whole) these.keys those.keys (all_of (Follows first) (Follows whole) (λ key f. (by_first key f).1) these.keys these.each) (all_of (Follows second) (Follows whole) (λ key f. (by_second key f).1) those.keys those.each);
-    once = apart_joined part these.keys those.keys these.once those.once (all_of (Follows first) (λ key. part key ≡ true) (λ key f. (by_first key f).0) these.keys these.each)
+    once = apart_joined (λ key. part key ≡ true) (λ key. part key ≡ false) (λ key is out. false≢true (sym out ∙ is)) these.keys those.keys these.once those.once (all_of (Follows first) (λ key. part key ≡ true) (λ key f. (by_first key f).0) these.keys these.each)
         (all_of (Follows second) (λ key. part key ≡ false) (λ key f. (by_second key f).0) those.keys those.each);
     most =
         let first_most = these.most in

@@ -1,4 +1,6 @@
 pub mod Costs
 pub mod Ids
+pub mod InUse
+pub mod RowQueries
 pub mod Standing
 pub mod Truncated

@@ -1,6 +1,6 @@
 -- What is looked up, at most, as ids are opened and as views follow a change.
 use Rattle.std.specs.Prelude.{◌≡◌, ◌≤◌, ◌+◌, ◌⊎◌, ℕ, true, List, [], ◌∷◌, Option}
-use Rattle.std.specs.List.{AllByRecursion, Contains, flat_map, sum_by}
+use Rattle.std.specs.List.{AllByRecursion, sum_by}
 use Rattle.view_types.specs.Objects.{ObjectMap}
 use Rattle.view_types.specs.declared.config.Config.{Config}
 use Rattle.view_types.specs.declared.mark.Mark.{Mark}
@@ -8,6 +8,7 @@ use Rattle.view_types.specs.declared.query.Query.{Query}
 use Rattle.mark_rules.specs.Marks.{meets}
 use Rattle.mark_rules.specs.Reads.{cost, reads}
 use Rattle.mark_rules.specs.declared.keys.RowKey.{RowKey}
+use Rattle.row_views.specs.InUse.{IsInUse}
 use Rattle.row_views.specs.Queries.{rows_at}
 
 -- no row stands twice
@@ -24,15 +25,10 @@ module _ (config : Config) where
   abbrev pub open_cost : ObjectMap → Option Query → ℕ
   open_cost held query = cost_of held (rows_at config held query)
 
-  -- the row is one of those of the query of an id
-  pub record IsInUse (held : ObjectMap) (queries : ℕ → Option Query) (key : RowKey) : Type 0 where
-    pub id : ℕ
-    pub of_query : Contains (rows_at config held (queries id)) key
-
   -- it is in use and reads a mark of a change, or it comes into use by it
   abbrev pub IsFollowed : List Mark → ObjectMap → ObjectMap → (ℕ → Option Query) → RowKey → Type 0
   IsFollowed changed before after queries key =
-      (IsInUse before queries key × (meets (reads config before key) changed ≡ true)) ⊎ ((IsInUse before queries key → ⊥) × IsInUse after queries key)
+      (IsInUse config before queries key × (meets (reads config before key) changed ≡ true)) ⊎ ((IsInUse config before queries key → ⊥) × IsInUse config after queries key)
 
   -- Such rows, each once, which read all that is looked up.
   pub record FollowedRows (changed : List Mark) (before after : ObjectMap) (queries : ℕ → Option Query) (old new : ℕ) : Type 0 where

@@ -1,4 +1,5 @@
 pub mod Costs
 pub mod Ids
+pub mod InUse
 pub mod Queries
 pub mod Standing

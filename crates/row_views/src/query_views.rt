@@ -7,8 +7,10 @@ ghost use Rattle.view_rules.specs.Fold.{IsOrderlyIfShown};
 ghost use Rattle.view_rules.specs.PolicyLaws.{AreLawful};
 ghost use Rattle.mark_graph.specs.RowMarks.{has_row};
 ghost use Rattle.mark_rules.specs.Changes.{Leads};
+ghost use Rattle.mark_rules.specs.declared.keys.RowKey.{RowKey};
 ghost use Rattle.row_views.specs.Costs.{FollowsWithin, open_cost};
 ghost use Rattle.row_views.specs.Ids.{Keeps, SetsAt};
+ghost use Rattle.row_views.specs.InUse.{AreInUse};
 ghost use Rattle.row_views.specs.Queries.{ShowsSame, reads_one, view_at};
 
 use mesh_base::list::List;
@@ -27,6 +29,9 @@ pub trait QueryViews: Drop {
 
     /// The query that an id is open with, as far as its view depends on it.
     ghost query_of: { Self → ℕ → Option TheQuery };
+
+    /// How many users the row of a key has in the index that keeps it. Rows that no index here keeps have none.
+    ghost users: { Self → RowKey → ℕ };
 
     /// The views are those over these objects.
     ghost stands: { Self → Config → ObjectMap → Type 0 };
@@ -90,4 +95,8 @@ pub trait QueryViews: Drop {
     /// The views stand in one way only, so that a field of a struct may say that they do.
     ghost unique: { (views : Self) (config : Config) (held : ObjectMap)
         → IsProp (stands views config held) };
+
+    /// The rows that have users are exactly those of the queries that ids are open with.
+    ghost in_use: { (views : Self) (config : Config) (held : ObjectMap) → stands views config held
+        → AreInUse config held (query_of views) (users views) };
 }

@@ -1,7 +1,9 @@
 // The rows of the keys that ids are open with.
 ghost use Rattle.std.specs.Prelude.{◌≡◌, ◌≤◌, ◌+◌, ℕ, None, Some, IfOk, OnErr, OnOk, if◌then◌else◌, nat_lt, option_map};
 ghost use Rattle.std.specs.List.{list_any};
+ghost use Rattle.std.specs.List.Sorted.{IsStrictlySortedBy};
 ghost use Rattle.std.specs.Option.{option_copied};
+ghost use Rattle.std.specs.Ordering.{nat_cmp};
 ghost use Rattle.view_types.specs.Objects.{ObjectMap};
 ghost use Rattle.mark_graph.specs.RowMarks.{has_row, row_at};
 ghost use Rattle.mark_rules.specs.Changes.{Leads};
@@ -131,6 +133,7 @@ where
             I.stands held self.old.index self.old.by_key self.old.by_id → (id : ℕ)
             → has_row id ids ≡ is_met (I.filter self.old.index) held change.now.marks
             (key_at self.old.by_id id)) }
+        ensures in_order { IfOk result (λ ids. IsStrictlySortedBy nat_cmp ids) }
         ensures stands { OnOk result ((held : ObjectMap) → Standing I.Key.Ord.cmp I.users I.stands
             held self.old.index self.old.by_key self.old.by_id
             → Leads change.now.marks held store.now.objects → Standing I.Key.Ord.cmp I.users
@@ -173,8 +176,9 @@ fn ids_at<K: Ord + Copied>(
     by_key: &BTreeMap<K, BTreeSet<u64>>,
     keys: &[K],
 ) -> Result<List<u64>, Memory>
-    ensures { IfOk result (λ ids. (id : ℕ)
+    ensures ids { IfOk result (λ ids. (id : ℕ)
         → has_row id ids ≡ list_any (λ key. row_at K.cmp by_key.now key id) keys.now) }
+    ensures in_order { IfOk result (λ ids. IsStrictlySortedBy nat_cmp ids) }
 {
     let mut ids = BTreeSet::new(alloc);
     gather_all(by_key, keys, &mut ids)?;

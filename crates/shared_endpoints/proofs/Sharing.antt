@@ -13,13 +13,9 @@ use Rattle.endpoint_groups.proofs.Moving.{same_number}
 use Rattle.key_streams.specs.declared.streams.KeyStreams.{KeyStreams}
 use Rattle.key_streams.specs.Streams.{AreRight, HasSame, SetsShown, has_stream, shown_for}
 use Rattle.row_table.proofs.Keys.{is_itself, tells}
+use Rattle.shared_endpoints.specs.InUse.{has_stream_at}
 use Rattle.shared_endpoints.specs.Sharing.{AreRightAt, AreShared, AreTied, ChangedAt, ChangesAt, HasOneAt, LeftAt, OthersHaveOne, PutsStreams, has_at, shown_at, shown_by}
 use Rattle.row_views.specs.Ids.{is_key}
-
-module _ {F : Type 0} where
-  pub some_at : (o : Option (KeyStreams F)) (id : ℕ) → has_at o id ≡ true → is_some o ≡ true
-  some_at None id has = absurd (false≢true has)
-  some_at (Some streams) id has = refl
 
 module _ {Key F : Type 0} (cmp : Key → Key → Ordering) (total : IsTotalOrder cmp) (exact : IsAntisymmetric cmp) where
   -- the streams at the key that is put, and at another
@@ -55,12 +51,6 @@ module _ {Key F : Type 0} (cmp : Key → Key → Ordering) (total : IsTotalOrder
   -- ---- who has a stream
 
   module _ (streams : Key → Option (KeyStreams F)) (key_of : ℕ → Option Key) (tied : AreTied cmp streams key_of) where
-    pub has_stream_at : (id : ℕ) (key : Key) → key_of id ≡ Some key → has_at (streams key) id ≡ true
-    has_stream_at id key is = tied key id ∙ ap (is_key cmp key) is ∙ is_itself cmp total exact key
-
-    pub has_streams : (id : ℕ) (key : Key) → key_of id ≡ Some key → is_some (streams key) ≡ true
-    has_streams id key is = some_at (streams key) id (has_stream_at id key is)
-
     pub has_none : (id : ℕ) → key_of id ≡ None → (key : Key) → has_at (streams key) id ≡ false
     has_none id is key = tied key id ∙ ap (is_key cmp key) is
 
@@ -114,7 +104,7 @@ module _ {Key F : Type 0} (cmp : Key → Key → Ordering) (total : IsTotalOrder
           by None is = refl
           by (Some k) is =
               shown_put key (Some fresh) old new puts n k (shown_at (old k) n (row k))
-              (λ same. absurd (false≢true (sym (ap (λ o. has_at o n) (ap old same ∙ absent)) ∙ has_stream_at old key_of shared.tied n k is)))
+              (λ same. absurd (false≢true (sym (ap (λ o. has_at o n) (ap old same ∙ absent)) ∙ has_stream_at cmp total exact old key_of shared.tied n k is)))
               (λ apart. refl)
 
     -- ---- an id gets a stream of a key
@@ -217,7 +207,7 @@ module _ {Key F : Type 0} (cmp : Key → Key → Ordering) (total : IsTotalOrder
           other n f (Some k) at =
               shown_put key value old new puts n k (shown_at (old k) n (row k))
               (λ same.
-              let had : has_at (old key) n ≡ true = has_stream_at old key_of shared.tied n key (at ∙ ap Some same) in
+              let had : has_at (old key) n ≡ true = has_stream_at cmp total exact old key_of shared.tied n key (at ∙ ap Some same) in
               let has : has_at value n ≡ true = left.ids n ∙ ap (λ b. not b && has_at (old key) n) f ∙ had in
               left.shown (row key) n has ∙ sym (ap (λ (j : Key). shown_at (old j) n (row j)) same))
               (λ apart. refl)

@@ -37,12 +37,13 @@ use Rattle.endpoint_groups.proofs.Moving.{same_number}
 use Rattle.key_streams.specs.Streams.{AreRight, HasSame, SetsShown, ShowSame, has_stream, shown_for}
 use Rattle.row_views.specs.Ids.{is_key, key_at}
 use Rattle.shared_endpoints.specs.ByKey.{Joined, JoinedAt, JoinsAt, LeavesAt, SetsAt, Streams, key_cmp, streams_at}
+use Rattle.shared_endpoints.specs.InUse.{has_stream_at, has_streams}
 use Rattle.shared_endpoints.specs.Sharing.{AreRightAt, ChangesAt, HasOneAt, LeftAt, OthersHaveOne, encoding, has_at, shown_by}
 use Rattle.shared_endpoints.specs.Standing.{AllHaveOne, HasOneUser, IsIndexed, Standing, StandsExactly, index_stands, key_of_id, row_at, shown_now, shown_of, users}
 use Rattle.shared_endpoints.specs.declared.shared.SharedEndpoints.{SharedEndpoints}
 use Rattle.shared_endpoints.proofs.ByKey.{key_exact, key_total}
 use Rattle.shared_endpoints.proofs.Earlier.{tells_earlier}
-use Rattle.shared_endpoints.proofs.Sharing.{all_have, change_present, change_shared, change_shows, drain_shared, drain_shows, enter_shared, enter_shows, has_none, has_stream_at, has_streams, join_shared, join_shows, leave_shared, leave_shows, others_have}
+use Rattle.shared_endpoints.proofs.Sharing.{all_have, change_present, change_shared, change_shows, drain_shared, drain_shows, enter_shared, enter_shows, has_none, join_shared, join_shows, leave_shared, leave_shows, others_have}
 
 abbrev pub KeyMap : Type 0
 KeyMap = BTreeMap EndpointKey Streams

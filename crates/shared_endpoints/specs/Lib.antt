@@ -1,3 +1,4 @@
 pub mod ByKey
+pub mod InUse
 pub mod Sharing
 pub mod Standing

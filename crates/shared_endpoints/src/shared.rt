@@ -125,6 +125,7 @@ impl SharedEndpoints {
 impl EndpointStreams for SharedEndpoints {
     ghost use Rattle.std.specs.Prelude.{None};
     ghost use Rattle.std.proofs.Math.Logic.{∥∥₁_prop};
+    ghost use Rattle.shared_endpoints.specs.InUse.{all_in_use, row_users};
     ghost use Rattle.shared_endpoints.specs.Standing.{StandsExactly, key_of_id, shown_to_id};
 
     ghost key_of = { key_of_id };
@@ -132,6 +133,10 @@ impl EndpointStreams for SharedEndpoints {
     ghost shown_to = { shown_to_id };
 
     ghost stands = { λ s config limits held. ∥ StandsExactly config limits held s ∥₁ };
+
+    ghost users = { row_users };
+
+    ghost in_use = { λ s config limits held stands. all_in_use config limits held s stands };
 
     ghost unique = { λ s config limits held. ∥∥₁_prop };
 

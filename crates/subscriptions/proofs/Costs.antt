@@ -96,7 +96,7 @@ module _ (kept : Query → Option Query) (covers : Covers kept) (same : ShowsSam
   no_key (Port ns pod port) is = refl
   no_key (Traffic target) is = refl
 
-  of_viewed : (held : ObjectMap) (asked : Option Query) (key : RowKey) → Contains (rows_at config held (viewed_of asked)) key → (is_viewed key ≡ true) × Contains (rows_at config held asked) key
+  pub of_viewed : (held : ObjectMap) (asked : Option Query) (key : RowKey) → Contains (rows_at config held (viewed_of asked)) key → (is_viewed key ≡ true) × Contains (rows_at config held asked) key
   of_viewed held None key at = absurd (among_from [] key at)
   of_viewed held (Some query) key at = by (kept query) refl at
     where
@@ -106,7 +106,7 @@ module _ (kept : Query → Option Query) (covers : Covers kept) (same : ShowsSam
           let there : Contains (rows config held query) key = subst (λ keys. Contains keys key) (same query asked is config held).1 at in
           (viewed_rows held query key (no_key query (ap is_some is)) (among_from (rows config held query) key there), there)
 
-  of_streamed : (held : ObjectMap) (asked : Option Query) (key : RowKey) → Contains (rows_at config held (streamed_of asked)) key → (is_viewed key ≡ false) × Contains (rows_at config held asked) key
+  pub of_streamed : (held : ObjectMap) (asked : Option Query) (key : RowKey) → Contains (rows_at config held (streamed_of asked)) key → (is_viewed key ≡ false) × Contains (rows_at config held asked) key
   of_streamed held None key at = absurd (among_from [] key at)
   of_streamed held (Some (Get ns name port ctx)) key at =
       let asked : RowKey = row.Endpoint (record { ns = ns; name = name; port = port }) in
@@ -122,7 +122,7 @@ module _ (kept : Query → Option Query) (covers : Covers kept) (same : ShowsSam
       by None e none = absurd (false≢true none)
       by (Some asked) e some = subst (λ keys. Contains keys key) (sym (same query asked e config held).1) at
 
-  of_both : (held : ObjectMap) (asked : Option Query) (key : RowKey) → Contains (rows_at config held asked) key → Contains (rows_at config held (viewed_of asked)) key ⊎ Contains (rows_at config held (streamed_of asked)) key
+  pub of_both : (held : ObjectMap) (asked : Option Query) (key : RowKey) → Contains (rows_at config held asked) key → Contains (rows_at config held (viewed_of asked)) key ⊎ Contains (rows_at config held (streamed_of asked)) key
   of_both held None key at = inl at
   of_both held (Some (Get ns name port ctx)) key at = inr at
   of_both held (Some (Profile target ctx)) key at = inl (of_kept held (Profile target ctx) key (covers (Profile target ctx)) at)

@@ -6,6 +6,7 @@ mod Asked
 mod ById
 mod DueIds
 mod Front
+mod InUse
 mod MadeDue
 pub mod Mapped
 mod Shown

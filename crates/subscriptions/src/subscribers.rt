@@ -15,6 +15,7 @@ ghost use Rattle.watch_events.specs.declared.event.Event.{Event};
 ghost use Rattle.mark_rules.specs.Rows.{rows};
 ghost use Rattle.row_views.specs.Costs.{FollowsWithin, cost_of};
 ghost use Rattle.row_views.specs.Ids.{Keeps, SetsAt};
+ghost use Rattle.row_views.specs.InUse.{AreInUse};
 ghost use Rattle.subscriptions.specs.Costs.{stream_cost};
 ghost use Rattle.subscriptions.specs.DueIds.{Rises, is_among};
 ghost use Rattle.subscriptions.specs.Live.{AreBelow, Covers, LiveSubscription, endpoint_key, id_of, key_at, query_at, shown_in_place, sub_at, subs_of};
@@ -99,6 +100,16 @@ impl<E: EndpointStreams, V: QueryViews> Subscribers<E, V> {
     {
         self.live.is_due(id)
     }
+
+    /// The rows that have users, in the indexes of endpoints and of views together, are exactly those of the queries of the live
+    /// subscriptions.
+    pub fn rows_in_use_are_those_of_queries(&self)
+        ensures { (config : Config) (limits : Limits) (held : ObjectMap) → Covers V.kept_query
+            → AllStand E.key_of E.shown_to E.stands V.kept_query V.query_of V.stands
+            config limits held self.now
+            → AreInUse config held (λ id. query_at id self.now.live.subs)
+            (λ key. E.users self.now.endpoints key + V.users self.now.views key) }
+    {}
 
     /// Makes a subscription live, whose id is above those of all others. It is due.
     pub fn add<L>(

@@ -6,8 +6,8 @@ use Rattle.mark_graph.specs.RowMarks.{has_row, row_at}
 use Rattle.mark_graph.proofs.Rows.{gathered, of_rows}
 use Rattle.row_views.proofs.views.ids_at.Goals as goal
 
-pub returns : goal.returns
-returns g c =
+pub returns-clause-ids : goal.returns-clause-ids
+returns-clause-ids g c =
     let cmp = g.K.Ord.cmp in
     of_rows (λ rows. (r : ℕ) → has_row r rows ≡ list_any (λ m. row_at cmp c.args.by_key.now m r) c.args.keys.now) c.gather_all.new.set.keys c.list_of.result c.list_of.ensures.rows
     (λ r. let none : sorted.contains nat_cmp c.new-ids.result r ≡ false = search rules in

@@ -1,26 +1,23 @@
-use Rattle.std.proofs.Common.{ap, ◌∙◌}
+use Rattle.std.proofs.Common.{◌∙◌}
+use Rattle.std.proofs.lemmas.Result.{on_ok_weaker}
 use Rattle.row_views.specs.Ids.{key_at}
-use Rattle.row_views.specs.Standing.{is_met}
 use Rattle.row_views.proofs.Standing.{if_then}
 use Rattle.row_views.proofs.Truncated.{map_truncated, same_tests}
-use Rattle.profile_views.proofs.Costs.{rows_followed}
-use Rattle.profile_views.proofs.Queries.{met_is, ok_map}
+use Rattle.profile_views.proofs.ProfileRows.{followed_is, met_is}
 use Rattle.profile_views.proofs.views.ProfileViewsQueryViews.follow.Goals as goal
 
 pub returns-clause-touched : goal.returns-clause-touched
 returns-clause-touched g c =
-    let by_id = c.args.self.now.rows.by_id in
-    let marks = c.args.change.now.marks in
     if_then c.follow.result c.follow.ensures.touched (λ ids are config held old id.
-    same_tests _ _ old (λ kept. are held kept.rows id ∙ ap (λ filter. is_met filter held marks (key_at by_id id)) kept.filtered ∙ met_is config held marks (key_at by_id id)))
+    same_tests _ _ old (λ kept. are held kept.rows id ∙ met_is config held _ kept.filtered c.args.change.now.marks (key_at c.args.self.now.rows.by_id id)))
 
 pub returns-clause-stands : goal.returns-clause-stands
 returns-clause-stands g c =
-    ok_map c.follow.result c.follow.ensures.stands (λ stands config held old leads.
-    map_truncated old (λ kept. record { rows = stands held kept.rows leads; filtered = c.follow.ensures.filter ∙ kept.filtered }))
+    on_ok_weaker c.follow.result (λ stands config held old leads. map_truncated old (λ kept. record { rows = stands held kept.rows leads; filtered = c.follow.ensures.filter ∙ kept.filtered })) c.follow.ensures.stands
 
 pub returns-clause-steps : goal.returns-clause-steps
 returns-clause-steps g c =
-    let self = c.args.self.now in
-    ok_map c.follow.result c.follow.ensures.steps (λ costs config held old leads. map_truncated old (λ kept.
-    rows_followed config held c.args.store.now.objects c.args.change.now.marks self.rows.by_key self.rows.by_id kept.rows.tied _ kept.filtered c.args.steps.now c.follow.new.steps (costs held kept.rows)))
+    let rows = c.args.self.now.rows in
+    on_ok_weaker c.follow.result (λ most config held old leads. map_truncated old (λ kept.
+    followed_is config held c.args.store.now.objects c.args.change.now.marks rows.by_key rows.by_id kept.rows.tied _ kept.filtered c.args.steps.now c.follow.new.steps (most held kept.rows)))
+    c.follow.ensures.steps

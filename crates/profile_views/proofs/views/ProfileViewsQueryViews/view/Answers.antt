@@ -2,15 +2,15 @@ use Rattle.std.proofs.Common.{Some, None, ap, ◌∙◌}
 use Rattle.view_types.specs.declared.view.View.TheVariants.{Profile}
 use Rattle.row_views.specs.Ids.{key_at}
 use Rattle.row_views.proofs.Truncated.{same_views}
-use Rattle.profile_views.proofs.Queries.{shown}
+use Rattle.profile_views.proofs.ProfileRows.{view_is}
 use Rattle.profile_views.proofs.views.ProfileViewsQueryViews.view.Goals as goal
 
 pub returns-in_ok-copy-in-Some-clause-value : goal.returns-in_ok-copy-in-Some-clause-value
 returns-in_ok-copy-in-Some-clause-value c = λ config held at_keys lawful old.
     same_views _ _ old (λ kept.
     ap (λ row. Some (Profile row)) c.in_ok-copy-in-Some.ensures
-    ∙ shown config held _ (key_at c.args.self.now.rows.by_id c.args.id) (Some c.in-Some.row.now) kept.filtered (c.in-Some.ensures held kept.rows))
+    ∙ view_is config held _ kept.filtered (key_at c.args.self.now.rows.by_id c.args.id) (Some c.in-Some.row.now) (c.in-Some.ensures held kept.rows))
 
 pub returns-in-None-clause-value : goal.returns-in-None-clause-value
 returns-in-None-clause-value c = λ config held at_keys lawful old.
-    same_views _ _ old (λ kept. shown config held _ (key_at c.args.self.now.rows.by_id c.args.id) None kept.filtered (c.in-None.ensures held kept.rows))
+    same_views _ _ old (λ kept. view_is config held _ kept.filtered (key_at c.args.self.now.rows.by_id c.args.id) None (c.in-None.ensures held kept.rows))

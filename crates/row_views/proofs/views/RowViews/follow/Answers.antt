@@ -11,7 +11,7 @@ returns-clause-touched g c =
     let self = c.args.self.now in
     let cmp = g.I.Key.Ord.cmp in
     let keys = c.in_ok-keys.keys in
-    if_then c.ids_at.result c.ids_at.ensures (λ ids are held st.
+    if_then c.ids_at.result c.ids_at.ensures.ids (λ ids are held st.
     ids_touched cmp g.met.I.Key.Ord.total g.met.I.RowIndex.exact g.I.RowIndex.users g.I.RowIndex.stands (g.I.RowIndex.filter self.index) g.I.RowIndex.row_at g.I.RowIndex.marks_at held self.index self.by_key self.by_id
     (g.met.I.RowIndex.current self.index held) st c.args.change.now.marks keys c.in_ok-keys.ensures.keys ids
     (λ n. are n ∙ ap (list_any (λ key. row_at cmp self.by_key key n)) c.as_slice.ensures))
