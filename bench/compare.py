@@ -1,11 +1,13 @@
 """Runs a program beside an older one, row by row, in processor time and peak memory, or in instructions.
 
-The time of a row is the least of TIMES runs, of which each is ended after LIMIT seconds of processor time. Instructions are those of
+The time of a row is the least of TIMES runs, of which each is ended after LIMIT seconds of processor time. Its peak memory is what GNU
+`time` tells: what the kernel tells of a process that Python starts is no less than what Python itself holds. Instructions are those of
 one run, with a tenth of the changes. A run that doesn't write as many lines as it should ends the measurement."""
 import argparse
 import os
 import re
 import resource
+import shutil
 import signal
 import subprocess
 import sys
@@ -36,10 +38,10 @@ class Clock:
     times, share, limit, noise = TIMES, 1, LIMIT, 0.005
 
     def command(self, words):
-        return words
+        return ["time", "-f", "%M", *words]
 
-    def run(self, usage, _):
-        return Run(usage.ru_utime + usage.ru_stime, usage.ru_maxrss / 1024)
+    def run(self, usage, told):
+        return Run(usage.ru_utime + usage.ru_stime, int(told.splitlines()[-1]) / 1024)
 
     def shown(self, cost, count):
         return f"{cost:9.3f} s" if count is None else f"{cost / count * 1e6:9.1f} us"
@@ -68,7 +70,7 @@ class Bench:
 
     def some(self, count):
         """So many changes, or the share of them that is measured."""
-        return count // self.meter.share
+        return max(1, count // self.meter.share)
 
     def write(self, name, lines):
         path = os.path.join(self.folder, name)
@@ -79,15 +81,24 @@ class Bench:
     def replays(self, lines, wanted):
         """A run of `replay` of each program."""
         path = self.write("feed.jsonl", lines)
-        return self.each([[program, "replay"] for program in self.programs], path, wanted)
+        return self.each([([program, "replay"], path, wanted) for program in self.programs])
 
-    def each(self, commands, path, wanted):
-        """The least of some runs of each command, in turn."""
-        found = [[] for _ in commands]
+    def changes(self, counts, feed, wanted):
+        """What so many changes take each program, by its own count of them, and scaled to the first: the runs of `replay` over
+        `feed(count)`, each of which writes `wanted(count)` lines, less those over `feed(0)`. The older program may take long."""
+        counts = [self.some(count) for count in counts[:len(self.programs)]]
+        before = self.replays(feed(0), wanted(0))
+        paths = {count: self.write(f"feed{count}.jsonl", feed(count)) for count in counts}
+        runs = [([program, "replay"], paths[count], wanted(count)) for program, count in zip(self.programs, counts)]
+        return [run.scaled(counts[0] / count) for run, count in zip(less(self.each(runs), before), counts)]
+
+    def each(self, runs):
+        """The least of some runs of each command, in turn: its words, the file that it reads, and how many lines it writes."""
+        found = [[] for _ in runs]
         for _ in range(self.meter.times):
-            for place, words in enumerate(commands):
+            for place, run in enumerate(runs):
                 if not found[place] or found[place][-1].cost is not None:
-                    found[place].append(self.run_once(words, path, wanted))
+                    found[place].append(self.run_once(*run))
         return [min(it, key=lambda run: run.cost) if it[-1].cost is not None else Run() for it in found]
 
     def run_once(self, words, path, wanted):
@@ -98,7 +109,7 @@ class Bench:
                                      preexec_fn=lambda: resource.setrlimit(resource.RLIMIT_CPU, (limit, limit + 1)))
             _, status, usage = os.wait4(child.pid, 0)
             child.returncode = status
-            if os.WIFSIGNALED(status) and os.WTERMSIG(status) in (signal.SIGXCPU, signal.SIGKILL):
+            if is_ended(status):
                 return Run()
             sink.seek(0)
             told.seek(0)
@@ -133,6 +144,12 @@ class Bench:
         print(f"  {title:62} " + "   ".join(cells), flush=True)
 
 
+def is_ended(status):
+    """Whether a command took too long, alone or under `time`, which tells a signal by a status above 128."""
+    number = os.WTERMSIG(status) if os.WIFSIGNALED(status) else os.WEXITSTATUS(status) - 128
+    return number in (signal.SIGXCPU, signal.SIGKILL)
+
+
 def less(after, before):
     return [run.less(other) for run, other in zip(after, before)]
 
@@ -144,6 +161,7 @@ def main(doc, rows):
     words.add_argument("--old", metavar="FILE", help="an older program to compare it with")
     words.add_argument("--rows", default=",".join(rows), metavar="ROW,..", help="these rows alone")
     words.add_argument("--instructions", action="store_true", help="count instructions with valgrind in place of processor time")
+    words.add_argument("--times", type=int, metavar="N", help=f"the least of so many runs (default: {TIMES}, and one of instructions)")
     arguments = words.parse_args()
     programs = [os.path.abspath(it) for it in (arguments.program, arguments.old) if it]
     for program in programs:
@@ -152,8 +170,13 @@ def main(doc, rows):
     unknown = set(arguments.rows.split(",")) - set(rows)
     if unknown:
         sys.exit(f"there is no row {', '.join(sorted(unknown))}; the rows are {', '.join(rows)}")
+    tool = "valgrind" if arguments.instructions else "time"
+    if shutil.which(tool) is None:
+        sys.exit(f"there is no command {tool}: install it first")
     print(f"{'':64} {'the program':>11}" + ("     the older one" if arguments.old else ""))
     with tempfile.TemporaryDirectory() as folder:
-        bench = Bench(programs, Counter() if arguments.instructions else Clock(), folder)
+        meter = Counter() if arguments.instructions else Clock()
+        meter.times = arguments.times or meter.times
+        bench = Bench(programs, meter, folder)
         for name in arguments.rows.split(","):
             rows[name](bench)

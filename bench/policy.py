@@ -11,17 +11,19 @@ without the changes."""
 import json
 import random
 
-from compare import less, main
+from compare import main
 from feed import drain_line, endpoint, slice_line
 from simulations import added, authorizations, line as text_of, pod, route, server, simulation
 
 SERVERS = 5_000       # of one namespace, with a Pod and a WatchPort each
-CHANGES = 100         # of one of these Servers, which all WatchPorts are drained of
-DRAINED = 1_000       # of one of these Servers, which one WatchPort is drained of
+# what is done so often: by the program, and by the older one, which takes long
+CHANGES = 100, 4      # changes of one of these Servers, which all WatchPorts are drained of
+DRAINED = 1_000, 10   # changes of one of these Servers, which one WatchPort is drained of
 LINE = 200            # bytes of a line that does nothing
 LINES = 100_000       # of these
-SIMULATED = 10_000
+SIMULATED = 10_000, 1_000
 MANY = 2_000          # routes of one Server, and authorizations
+MADE = 100, 5         # simulations over these, and views made anew
 OBJECTS, ASKED = 100_000, 10_000
 
 
@@ -127,12 +129,11 @@ def changed(count, times, drained):
 
 
 def servers(bench):
-    for drained, title, times in ((SERVERS, "all", bench.some(CHANGES)), (1, "one", bench.some(DRAINED))):
+    for drained, title, counts in ((SERVERS, "all", CHANGES), (1, "one", DRAINED)):
         # the first change shows what was shown before
-        before = bench.replays(changed(SERVERS, 0, drained), SERVERS)
-        after = bench.replays(changed(SERVERS, times, drained), SERVERS + times - 1)
-        found = bench.tell(f"one of {SERVERS:,} Servers changes, {title} drained", less(after, before), times)
-    lines = bench.some(LINES)
+        found = bench.changes(counts, lambda count: changed(SERVERS, count, drained), lambda count: SERVERS + max(0, count - 1))
+        bench.tell(f"one of {SERVERS:,} Servers changes, {title} drained", found, bench.some(counts[0]))
+    times, lines = bench.some(DRAINED[0]), bench.some(LINES)
     reads = bench.tell(f"a line of {LINE} bytes that does nothing", bench.replays((idle_line() for _ in range(lines)), 0), lines)
     scaled = [run.scaled(SERVERS * times / lines) for run in reads]
     bench.ratio(f"one drained to {SERVERS:,} such lines (to reach: 0.05)", found, scaled)
@@ -154,10 +155,9 @@ def simulated(others, times):
 
 
 def simulations(bench):
-    times = bench.some(SIMULATED)
     for others in (0, 100, 1_000):
-        found = less(bench.replays(simulated(others, times), times), bench.replays(simulated(others, 0), 0))
-        bench.tell(f"a simulation, {others + 1:,} Servers in the namespace", found, times)
+        found = bench.changes(SIMULATED, lambda count: simulated(others, count), lambda count: count)
+        bench.tell(f"a simulation, {others + 1:,} Servers in the namespace", found, bench.some(SIMULATED[0]))
 
 
 # ------------------------------------------------------------------------------------------------ many routes
@@ -196,11 +196,10 @@ def remade(times):
 
 def routes(bench):
     request = {"control": "simulate", "workload": "app:web-1", "port": 8080, "client": "10.0.0.9", "http": {"path": "/items7"}}
-    times = bench.some(100)
-    found = less(bench.replays(routed(times, lambda _: text_of(request)), times), bench.replays(many_routes(MANY), 0))
-    bench.tell(f"a simulation over {MANY:,} routes and {MANY:,} authorizations", found, times)
-    found = less(bench.replays(remade(times), times + 1), bench.replays(remade(0), 1))
-    bench.tell("one of these routes changes, the WatchPort is drained", found, times)
+    found = bench.changes(MADE, lambda count: routed(count, lambda _: text_of(request)), lambda count: count)
+    bench.tell(f"a simulation over {MANY:,} routes and {MANY:,} authorizations", found, bench.some(MADE[0]))
+    found = bench.changes(MADE, remade, lambda count: count + 1)
+    bench.tell("one of these routes changes, the WatchPort is drained", found, bench.some(MADE[0]))
 
 
 # ------------------------------------------------------------------------------------------------ memory

@@ -13,7 +13,7 @@ import os
 import random
 import subprocess
 
-from compare import Bench, less, main
+from compare import less, main
 from due import bookmark_line, changes, joined, services
 from feed import drain_line, endpoint, pod_line, service_line, slice_line, subscribe_line
 from folds import lines as fold_lines
@@ -94,14 +94,9 @@ def sliced(slices, width, count):
 def slices(bench):
     rows = []
     for count in (1, 100):
-        at_once, found = -(-count * 100 // 1_000), []
-        for program, times in zip(bench.programs, map(bench.some, WIDE)):
-            alone = Bench([program], bench.meter, bench.folder)
-            before = alone.replays(sliced(count, 100, 0), at_once)
-            after = alone.replays(sliced(count, 100, times), at_once + 2 * times)
-            [run] = less(after, before)
-            found.append(run.scaled(WIDE[0] / times))
-        rows.append(bench.tell(f"a slice of a Service of {count * 100:,} Pods changes, drained", found, WIDE[0]))
+        at_once = -(-count * 100 // 1_000)
+        found = bench.changes(WIDE, lambda times: sliced(count, 100, times), lambda times: at_once + 2 * times)
+        rows.append(bench.tell(f"a slice of a Service of {count * 100:,} Pods changes, drained", found, bench.some(WIDE[0])))
     bench.ratio("100 slices to one slice (to reach: 3)", rows[1], rows[0])
 
 
@@ -139,7 +134,7 @@ def folded(bench, slices, width, count):
     with open(feed, "rb") as source, open(frames, "wb") as sink:
         subprocess.run([bench.programs[0], "replay"], stdin=source, stdout=sink, stderr=subprocess.DEVNULL, check=True)
     wanted = -(-slices * width // 1_000)
-    return bench.each([[program, "fold", "--id", "1", "--method", "Get"] for program in bench.programs], frames, wanted)
+    return bench.each([([program, "fold", "--id", "1", "--method", "Get"], frames, wanted) for program in bench.programs])
 
 
 def folds(bench):
