@@ -142,6 +142,7 @@ fn pod(alloc: Global, name: &str, mesh: &str, count: u32) -> Result<Object, Fail
         phase: None,
         addrs,
         ports: List::new(alloc),
+        probes: List::new(alloc),
     };
     Ok(Object::Pod(Boxed::new(alloc, pod)?))
 }

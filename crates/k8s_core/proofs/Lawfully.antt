@@ -1,6 +1,6 @@
 -- Each core object that was read is lawful.
 use Rattle.std.proofs.Common.{◌≡◌, ◌++◌, ℕ, Bool, true, false, List, [], ◌∷◌, codes, Option, Some, None, if◌then◌else◌, option_map, option_to_list, refl, subst}
-use Rattle.std.specs.List.{AllByRecursion, fold}
+use Rattle.std.specs.List.{AllByRecursion, flat_map, fold}
 use Rattle.std.specs.Prelude.{unwrap_or}
 use Rattle.std.specs.Str.{IsUtf8}
 use Rattle.std.proofs.lemmas.Option.{none-some}
@@ -12,8 +12,11 @@ use Rattle.net_cidr.proofs.Fits.{each_fits}
 use Rattle.k8s_core.specs.Addresses.{add_once, cluster_ip, has, once}
 use Rattle.k8s_core.specs.NamedPorts.{port_at, slice_port_at}
 use Rattle.k8s_core.specs.Pods.{container_at, pod_at, pod_ip_at}
+use Rattle.k8s_core.specs.Probes.{asked}
 use Rattle.k8s_core.specs.Services.{service_at}
 use Rattle.k8s_core.specs.Slices.{address_at, in_family, point_at, slice_at}
+use Rattle.k8s_core.specs.declared.container.Container.{Container}
+use Rattle.k8s_core.proofs.Paths.{asked_paths, probe_gives}
 use Rattle.k8s_meta.specs.Given.{GivesOnly}
 use Rattle.k8s_meta.specs.Lawful.{IsPort, IsSomePort, IsString}
 use Rattle.k8s_meta.specs.Scalars.{ip, name, number}
@@ -21,12 +24,12 @@ use Rattle.k8s_meta.specs.Words.{filled, some}
 use Rattle.k8s_meta.specs.declared.key.Key.{Key}
 use Rattle.k8s_meta.specs.declared.key.Key.TheVariants as keys
 use Rattle.k8s_meta.proofs.Given.{after, default_gives, filled_gives, last, required_gives, some_gives, unless_gives, valid_value}
-use Rattle.k8s_meta.proofs.GivenLists.{IfThere, all-append, each_gives, each_joined_gives, each_some_gives, one_part}
+use Rattle.k8s_meta.proofs.GivenLists.{IfThere, all-append, each_gives, each_some_gives, one_part}
 use Rattle.k8s_meta.proofs.GivenMeta.{meta_gives}
 use Rattle.k8s_meta.proofs.GivenNets.{ip_gives}
 use Rattle.k8s_meta.proofs.GivenNumbers.{port_gives, some_port_gives}
 use Rattle.k8s_meta.proofs.GivenTexts.{default_utf8, filled_text_gives, name_utf8}
-use Rattle.view_types.specs.Lawful.{AreAddresses, IsLawfulPod, IsLawfulService, IsLawfulSlice}
+use Rattle.view_types.specs.Lawful.{AreAddresses, ArePaths, IsLawfulPod, IsLawfulService, IsLawfulSlice}
 use Rattle.view_types.specs.declared.service.NamedPort.{NamedPort}
 use Rattle.view_types.specs.declared.slice.Family.{Family}
 use Rattle.view_types.specs.declared.slice.Family.TheVariants.{V4, V6, Fqdn}
@@ -83,9 +86,33 @@ unfolding port_at
 named_port_gives key s = after HasPort _ _ (λ p _. after HasPort _ _ (λ name _. after HasPort _ _ (λ port is_port. after HasPort _ _ (λ protocol _.
     last HasPort _ (required_gives IsPort (number 1 65535) port_gives _ port is_port)))))
 
-container_gives : GivesOnly (AllByRecursion HasPort) container_at
+-- the ports of a container have numbers of ports, and its probes have paths
+record IsLawfulContainer (c : Container) : Type 0 where
+  ports : AllByRecursion HasPort c.ports
+  probes : ArePaths c.probes
+
+container_gives : GivesOnly IsLawfulContainer container_at
 unfolding container_at
-container_gives s = after (AllByRecursion HasPort) _ _ (λ c _. each_gives HasPort (port_at keys.ContainerPort) (named_port_gives keys.ContainerPort) _)
+container_gives s =
+    after IsLawfulContainer _ _ (λ c _. after IsLawfulContainer _ _ (λ ports are_ports. after IsLawfulContainer _ _ (λ liveness is_liveness.
+    after IsLawfulContainer _ _ (λ readiness is_readiness. after IsLawfulContainer _ _ (λ startup is_startup. last IsLawfulContainer _ (record {
+      ports = each_gives HasPort (port_at keys.ContainerPort) (named_port_gives keys.ContainerPort) _ ports are_ports;
+      probes = all-append _ (asked ports liveness ++ asked ports readiness) (asked ports startup)
+          (all-append _ (asked ports liveness) (asked ports readiness) (asked_paths ports liveness (probe_gives _ liveness is_liveness))
+          (asked_paths ports readiness (probe_gives _ readiness is_readiness)))
+          (asked_paths ports startup (probe_gives _ startup is_startup));
+    }))))))
+
+abbrev AllContainers : List Container → Type 0
+AllContainers containers = AllByRecursion IsLawfulContainer containers
+
+all_ports : (containers : List Container) → AllContainers containers → AllByRecursion HasPort (flat_map (λ (c : Container). c.ports) containers)
+all_ports [] all = tt
+all_ports (c ∷ cs) (here, all) = all-append HasPort c.ports _ here.ports (all_ports cs all)
+
+all_probes : (containers : List Container) → AllContainers containers → ArePaths (flat_map (λ (c : Container). c.probes) containers)
+all_probes [] all = tt
+all_probes (c ∷ cs) (here, all) = all-append _ c.probes _ here.probes (all_probes cs all)
 
 mapped : (make : ℕ → NamedPort) → ((n : ℕ) → IsPort n → HasPort (make n)) → (port : Option ℕ) → IsSomePort port → IfThere HasPort (option_map make port)
 mapped make each None is = tt
@@ -106,13 +133,14 @@ pub pod_gives : GivesOnly IsLawfulPod pod_at
 unfolding pod_at
 pod_gives s =
     after IsLawfulPod _ _ (λ meta is_meta. after IsLawfulPod _ _ (λ spec _. after IsLawfulPod _ _ (λ account is_account. after IsLawfulPod _ _ (λ host _.
-    after IsLawfulPod _ _ (λ node _. after IsLawfulPod _ _ (λ ports are_ports. after IsLawfulPod _ _ (λ status _. after IsLawfulPod _ _ (λ phase _.
+    after IsLawfulPod _ _ (λ node _. after IsLawfulPod _ _ (λ containers are_containers. after IsLawfulPod _ _ (λ status _. after IsLawfulPod _ _ (λ phase _.
     after IsLawfulPod _ _ (λ first is_first. after IsLawfulPod _ _ (λ others are_others. last IsLawfulPod _ (record {
       meta = meta_gives 253 _ meta is_meta;
       account = or_default account (default_gives IsString None (filled name) tt (filled_text_gives name (name_utf8 253)) _ account is_account);
       addrs = once_lawful first others (default_gives (IfThere FitsIp) None (filled ip) tt filled_ip_gives _ first is_first)
           (each_some_gives FitsIp pod_ip_at pod_ip_gives _ others are_others);
-      ports = each_joined_gives HasPort container_at container_gives _ ports are_ports;
+      ports = all_ports containers (each_gives IsLawfulContainer container_at container_gives _ containers are_containers);
+      probes = all_probes containers (each_gives IsLawfulContainer container_at container_gives _ containers are_containers);
     })))))))))))
 
 pub service_gives : GivesOnly IsLawfulService service_at

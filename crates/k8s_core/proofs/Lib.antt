@@ -1,2 +1,3 @@
 pub mod Lawfully
+pub mod Paths
 pub mod Seen

@@ -1,9 +1,11 @@
 -- The members of a Pod.
-use Rattle.std.specs.Prelude.{codes, ◌++◌, List, Option, None, Result, Ok, false, option_to_list, unwrap_or}
+use Rattle.std.specs.Prelude.{codes, ◌++◌, Option, None, Result, Ok, false, flat_map, option_to_list, unwrap_or}
 use Rattle.net_cidr.specs.declared.ip.Ip.{Ip}
 use Rattle.k8s_core.specs.Addresses.{once}
 use Rattle.k8s_core.specs.NamedPorts.{port_at}
-use Rattle.k8s_meta.specs.Lists.{each, each_joined, each_some}
+use Rattle.k8s_core.specs.Probes.{asked, probe_at}
+use Rattle.k8s_core.specs.declared.container.Container.{Container}
+use Rattle.k8s_meta.specs.Lists.{each, each_some}
 use Rattle.k8s_meta.specs.Metadata.{meta_at}
 use Rattle.k8s_meta.specs.Scalars.{ip, name}
 use Rattle.k8s_meta.specs.Spots.{Spot, ◌·◌, ◌>>=◌}
@@ -11,13 +13,16 @@ use Rattle.k8s_meta.specs.Words.{boolean, default, filled, object, optional, par
 use Rattle.k8s_meta.specs.declared.fault.ReadFault.{ReadFault}
 use Rattle.k8s_meta.specs.declared.key.Key.TheVariants as keys
 use Rattle.view_types.specs.declared.pod.Pod.{Pod}
-use Rattle.view_types.specs.declared.service.NamedPort.{NamedPort}
 
--- the ports of a container
-unfoldable pub container_at : Spot → Result (List NamedPort) ReadFault
+-- the ports of a container, and those that its probes ask
+unfoldable pub container_at : Spot → Result Container ReadFault
 container_at c = do
   c ← object c
-  each (port_at keys.ContainerPort) (c · keys.Ports)
+  ports ← each (port_at keys.ContainerPort) (c · keys.Ports)
+  liveness ← probe_at (c · keys.LivenessProbe)
+  readiness ← probe_at (c · keys.ReadinessProbe)
+  startup ← probe_at (c · keys.StartupProbe)
+  Ok (record { ports = ports; probes = (asked ports liveness ++ asked ports readiness) ++ asked ports startup })
 
 -- an entry of a Pod's addresses
 unfoldable pub pod_ip_at : Spot → Result (Option Ip) ReadFault
@@ -32,9 +37,18 @@ pod_at s = do
   account ← default None (filled name) (spec · keys.ServiceAccountName)
   host_network ← default false boolean (spec · keys.HostNetwork)
   node ← optional text (spec · keys.NodeName)
-  ports ← each_joined container_at (spec · keys.Containers)
+  containers ← each container_at (spec · keys.Containers)
   status ← part (s · keys.Status)
   phase ← optional text (status · keys.Phase)
   first ← default None (filled ip) (status · keys.PodIp)
   others ← each_some pod_ip_at (status · keys.PodIps)
-  Ok (record { meta = meta; account = unwrap_or account (codes "default"); host_network = host_network; node = node; phase = phase; addrs = once (option_to_list first ++ others); ports = ports })
+  Ok (record {
+    meta = meta;
+    account = unwrap_or account (codes "default");
+    host_network = host_network;
+    node = node;
+    phase = phase;
+    addrs = once (option_to_list first ++ others);
+    ports = flat_map (λ (c : Container). c.ports) containers;
+    probes = flat_map (λ (c : Container). c.probes) containers;
+  })

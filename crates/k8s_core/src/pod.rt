@@ -1,25 +1,23 @@
 ghost use Rattle.std.specs.Prelude.{◌≡◌, codes, unwrap_or, IfOk};
 ghost use Rattle.serde_json.specs.View.{view};
-ghost use Rattle.k8s_core.specs.Pods.{container_at, pod_at, pod_ip_at};
+ghost use Rattle.k8s_core.specs.Pods.{pod_at, pod_ip_at};
 ghost use Rattle.k8s_meta.specs.Spots.{Reads, seen};
 ghost use Rattle.view_types.specs.Lawful.{IsLawfulPod};
 
 use crate::addresses::once;
-use crate::port_entry::PortEntry;
+use crate::container::{Container, ContainerEntry, joined};
 use k8s_meta::fault::ReadFault;
 use k8s_meta::key::Key;
 use k8s_meta::meta::meta_of;
 use k8s_meta::place::Place;
 use k8s_meta::reader::Reader;
 use k8s_meta::words::{Address, AnyText, Filled, Flag, Name};
-use mesh_base::list::List;
 use mesh_base::memory::Memory;
 use mesh_base::text::Text;
 use net_cidr::ip::Ip;
 use serde_json::Value;
 use std::alloc::Global;
 use view_types::pod::Pod;
-use view_types::service::NamedPort;
 
 /// The Pod that stands at the path `at`. Its fault is the first in the order of its members.
 pub fn read_pod(alloc: Global, object: &Value, at: &str) -> Result<Pod, ReadFault>
@@ -46,19 +44,23 @@ fn members_of<'a>(object: &'a Place<'a>) -> Result<Pod, ReadFault>
     let account = spec.default(Key::ServiceAccountName, &Filled(Name), None)?;
     let host_network = spec.default(Key::HostNetwork, &Flag, false)?;
     let node = spec.optional(Key::NodeName, &AnyText)?;
-    let ports = spec.each_joined(Key::Containers, &Container)?;
+    let containers = spec.each(Key::Containers, &ContainerEntry)?;
     let status = object.part(Key::Status)?;
     let phase = status.optional(Key::Phase, &AnyText)?;
     let first = status.default(Key::PodIp, &Filled(Address), None)?;
     let others = status.each_some(Key::PodIps, &PodIp)?;
+    let account = account_or_default(object.alloc(), account)?;
+    let addrs = once(object.alloc(), first, others)?;
+    let Container { ports, probes } = joined(object.alloc(), containers)?;
     Ok(Pod {
         meta,
-        account: account_or_default(object.alloc(), account)?,
+        account,
         host_network,
         node,
         phase,
-        addrs: once(object.alloc(), first, others)?,
+        addrs,
         ports,
+        probes,
     })
 }
 
@@ -68,26 +70,6 @@ fn account_or_default(alloc: Global, account: Option<Text>) -> Result<Text, Memo
     match account {
         Some(name) => Ok(name),
         None => Text::from_str(alloc, "default"),
-    }
-}
-
-/// The ports of a container.
-struct Container;
-
-impl Reader for Container {
-    type Made = List<NamedPort>;
-
-    ghost reading = { λ _. container_at };
-
-    #[tactic(auto, unfolding(k8s_meta::specs::Spots::then, crate::specs::Pods::container_at))]
-    fn read<'a>(&self, place: &'a Place<'a>) -> Result<List<NamedPort>, ReadFault> {
-        place.object()?;
-        place.each(
-            Key::Ports,
-            &PortEntry {
-                key: Key::ContainerPort,
-            },
-        )
     }
 }
 

@@ -3,7 +3,7 @@ use Rattle.std.proofs.Common.{◌≡◌, ℕ, suc, List, [], ◌∷◌, ◌++◌
 use Rattle.std.specs.List.{AllByRecursion, flat_map}
 use Rattle.serde_json.specs.Data.{Items, no_items, item}
 use Rattle.k8s_meta.specs.Given.{GivesOnly}
-use Rattle.k8s_meta.specs.Lists.{each, each_from, each_joined, each_some, gathered}
+use Rattle.k8s_meta.specs.Lists.{each, each_from, each_some, gathered}
 use Rattle.k8s_meta.specs.Spots.{Reading, item_spot}
 use Rattle.k8s_meta.proofs.Given.{after, default_gives, last}
 
@@ -43,6 +43,3 @@ module _ {A : Type 0} (P : A → Type 0) where
 
   pub each_some_gives : (read : Reading (Option A)) → GivesOnly (IfThere P) read → GivesOnly (AllByRecursion P) (each_some read)
   each_some_gives = gathered_gives (IfThere P) P option_to_list one_part
-
-  pub each_joined_gives : (read : Reading (List A)) → GivesOnly (AllByRecursion P) read → GivesOnly (AllByRecursion P) (each_joined read)
-  each_joined_gives = gathered_gives (AllByRecursion P) P (λ xs. xs) (λ xs all. all)

@@ -30,10 +30,6 @@ gathered parts read = read >>= λ xs. Ok (flat_map parts xs)
 abbrev pub each_some : {A : Type 0} → (Spot → Result (Option A) ReadFault) → Spot → Result (List A) ReadFault
 each_some read s = gathered option_to_list (each read s)
 
--- the lists of all items, one after another
-abbrev pub each_joined : {A : Type 0} → (Spot → Result (List A) ReadFault) → Spot → Result (List A) ReadFault
-each_joined read s = gathered (λ xs. xs) (each read s)
-
 abbrev pub LabelMap : Type 0
 LabelMap = map.FinMap (slice_cmp nat_cmp) (List ℕ)
 

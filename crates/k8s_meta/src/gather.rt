@@ -1,6 +1,6 @@
 ghost use Rattle.std.specs.Prelude.{◌≡◌, ◌∷◌, ◌++◌, [], List as Row, OnOk, option_to_list};
 ghost use Rattle.serde_json.specs.View.{items_view};
-ghost use Rattle.k8s_meta.specs.Lists.{each, each_from, each_joined, each_some, gathered};
+ghost use Rattle.k8s_meta.specs.Lists.{each, each_from, each_some, gathered};
 ghost use Rattle.k8s_meta.specs.Spots.{◌·◌, Reads, seen};
 
 use crate::fault::ReadFault;
@@ -47,22 +47,6 @@ impl<T: Drop> Gather<Option<T>> for Present {
             Some(item) => found.add(item),
             None => Ok(()),
         }
-    }
-}
-
-/// The items of its list.
-pub struct Joined;
-
-impl<T: Drop> Gather<List<T>> for Joined {
-    type Item = T;
-
-    ghost parts = { λ xs. xs };
-
-    fn put(found: &mut List<T>, read: List<T>) -> Result<(), Memory> {
-        for item in read.into_vec() {
-            found.add(item)?;
-        }
-        Ok(())
     }
 }
 
@@ -114,16 +98,5 @@ impl<'a> Place<'a> {
         ensures { Reads result (each_some (R.reading reader.now) ((seen self.now) · key)) }
     {
         read_list::<R, Present>(&self.member(key), reader)
-    }
-
-    /// The lists that the items of the list at a member give, one after another.
-    pub fn each_joined<T: Drop, R: Reader<Made = List<T>>>(
-        &'a self,
-        key: Key,
-        reader: &R,
-    ) -> Result<List<T>, ReadFault>
-        ensures { Reads result (each_joined (R.reading reader.now) ((seen self.now) · key)) }
-    {
-        read_list::<R, Joined>(&self.member(key), reader)
     }
 }

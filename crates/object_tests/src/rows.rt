@@ -4,6 +4,7 @@
 
 mod core_kinds;
 mod policy;
+mod probe;
 mod profile;
 mod route;
 
@@ -107,6 +108,7 @@ fn faults(rt: HostRuntime) {
     let alloc = rt.alloc();
     assert_eq!(rt; wrong_row(alloc, core_kinds::FAULTS, "\n"), None);
     assert_eq!(rt; wrong_row(alloc, policy::FAULTS, "\n"), None);
+    assert_eq!(rt; wrong_row(alloc, probe::FAULTS, "\n"), None);
     assert_eq!(rt; wrong_row(alloc, profile::FAULTS, "\n"), None);
     assert_eq!(rt; wrong_row(alloc, route::FAULTS, "\n"), None);
 }
@@ -116,6 +118,7 @@ fn objects(rt: HostRuntime) {
     let alloc = rt.alloc();
     assert_eq!(rt; wrong_row(alloc, core_kinds::OBJECTS, "\n\n"), None);
     assert_eq!(rt; wrong_row(alloc, policy::OBJECTS, "\n\n"), None);
+    assert_eq!(rt; wrong_row(alloc, probe::OBJECTS, "\n\n"), None);
     assert_eq!(rt; wrong_row(alloc, profile::OBJECTS, "\n\n"), None);
     assert_eq!(rt; wrong_row(alloc, route::OBJECTS, "\n\n"), None);
 }

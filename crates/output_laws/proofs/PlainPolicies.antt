@@ -87,7 +87,7 @@ name_or_number_plain : (s : Spot) (o : Option (List ℕ)) → NoBreak s.at → I
 name_or_number_plain s (Some t) here = port_name_plain s.at t here
 name_or_number_plain s None here = then_plain _ _ (number_reads 1 65535 s here) (λ n. tt)
 
-port_ref_at_plain : ReadsPlainly port_ref_at
+pub port_ref_at_plain : ReadsPlainly port_ref_at
 unfolding port_ref_at
 port_ref_at_plain s here = name_or_number_plain s (string_in s.value) here
 

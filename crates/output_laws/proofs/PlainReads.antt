@@ -8,7 +8,7 @@ use Rattle.serde_json.specs.Find.{as_array, as_bool, as_number, as_object}
 use Rattle.net_cidr.specs.Address.{ip_of}
 use Rattle.line_run.specs.Rows.{NoBreak}
 use Rattle.k8s_meta.specs.Keys.{key_text}
-use Rattle.k8s_meta.specs.Lists.{each, each_from, each_joined, each_some, label_map, labels_from}
+use Rattle.k8s_meta.specs.Lists.{each, each_from, each_some, label_map, labels_from}
 use Rattle.k8s_meta.specs.Paths.{item_path, member_path}
 use Rattle.k8s_meta.specs.Scalars.{ip, is_label_byte, is_made_of, is_name_byte, label_within, name_within, named, net, number, whole, within}
 use Rattle.k8s_meta.specs.Amounts.{duration, quantity, quantity_value}
@@ -47,6 +47,10 @@ key_plain keys.NodeName = looked_through 10 (codes "nodeName") refl
 key_plain keys.Containers = looked_through 10 (codes "containers") refl
 key_plain keys.Ports = looked_through 10 (codes "ports") refl
 key_plain keys.ContainerPort = looked_through 10 (codes "containerPort") refl
+key_plain keys.LivenessProbe = looked_through 10 (codes "livenessProbe") refl
+key_plain keys.ReadinessProbe = looked_through 10 (codes "readinessProbe") refl
+key_plain keys.StartupProbe = looked_through 10 (codes "startupProbe") refl
+key_plain keys.HttpGet = looked_through 10 (codes "httpGet") refl
 key_plain keys.Protocol = looked_through 10 (codes "protocol") refl
 key_plain keys.Phase = looked_through 10 (codes "phase") refl
 key_plain keys.PodIp = looked_through 10 (codes "podIP") refl
@@ -284,9 +288,6 @@ filled_plain read plain s here = unless_plain _ None (some read) (some_plain rea
 
 pub each_some_plain : {A : Type 0} (read : Spot → Result (Option A) ReadFault) → ReadsPlainly read → ReadsPlainly (each_some read)
 each_some_plain read plain s here = then_plain (each read s) _ (each_plain read plain s here) (λ xs. tt)
-
-pub each_joined_plain : {A : Type 0} (read : Spot → Result (List A) ReadFault) → ReadsPlainly read → ReadsPlainly (each_joined read)
-each_joined_plain read plain s here = then_plain (each read s) _ (each_plain read plain s here) (λ xs. tt)
 
 pub meta_plain : (most : ℕ) → ReadsPlainly (meta_within most)
 unfolding meta_within

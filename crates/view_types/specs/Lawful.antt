@@ -59,11 +59,16 @@ ArePorts ports = AllByRecursion (λ (p : NamedPort). IsPort p.port) ports
 abbrev pub AreAddresses : List Ip → Type 0
 AreAddresses addrs = AllByRecursion FitsIp addrs
 
+-- the paths of probes are in UTF-8
+abbrev pub ArePaths : List (ℕ × List ℕ) → Type 0
+ArePaths probes = AllByRecursion (λ (probe : ℕ × List ℕ). IsUtf8 probe.1) probes
+
 pub record IsLawfulPod (pod : Pod) : Type 0 where
   pub meta : IsLawfulMeta pod.meta
   pub account : IsUtf8 pod.account
   pub addrs : AreAddresses pod.addrs
   pub ports : ArePorts pod.ports
+  pub probes : ArePaths pod.probes
 
 pub record IsLawfulService (service : Service) : Type 0 where
   pub meta : IsLawfulMeta service.meta

@@ -22,6 +22,8 @@ pub struct Pod {
     pub addrs: List<Ip>,
     /// The ports of its containers.
     pub ports: List<NamedPort>,
+    /// The ports that its HTTP probes ask, each with the path that is asked for.
+    pub probes: List<(u16, Text)>,
 }
 
 impl Copied for Pod {
@@ -34,6 +36,7 @@ impl Copied for Pod {
             phase: self.phase.copy(alloc)?,
             addrs: self.addrs.copy(alloc)?,
             ports: self.ports.copy(alloc)?,
+            probes: self.probes.copy(alloc)?,
         })
     }
 }

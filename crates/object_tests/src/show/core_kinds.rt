@@ -19,7 +19,12 @@ impl Show for Pod {
         page.next("node", &self.node);
         page.next("phase", &self.phase);
         page.next("addrs", &self.addrs);
-        page.last("ports", &self.ports);
+        if self.probes.as_slice().is_empty() {
+            page.last("ports", &self.ports);
+            return;
+        }
+        page.next("ports", &self.ports);
+        page.last("probes", &self.probes);
     }
 }
 
