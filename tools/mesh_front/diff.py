@@ -81,7 +81,7 @@ def inbound_rows(view: views.Inbound) -> list[str]:
         rows.append(f"{it.title} for {policy.scope(it, view)}: networks {it.where()}, clients {it.clients}")
     for it in view.routes:
         rows.append(f"{it.title} ({it.group}): hostnames {', '.join(it.hostnames) or '*'}, matches {', '.join(it.matches) or '-'}")
-    return rows
+    return rows + [f"probe GET {path}" for path in view.probes]
 
 
 def rows_of(method: str, messages: list[Message]) -> list[str]:

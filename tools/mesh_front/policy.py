@@ -40,11 +40,13 @@ def lines(view: views.Inbound) -> list[str]:
         output += ["", *table(["AUTHORIZATION", "FOR", "NETWORKS", "CLIENTS"], rows)]
     if view.routes:
         output += ["", *route_table(view.routes)]
+    if view.probes:
+        output += ["", *table(["PROBE"], [[f"GET {path}"] for path in view.probes])]
     return output
 
 
 def run(session: Session, target: PodPort, as_json: bool) -> Status:
-    """Shows the Server of a port of a Pod, its policy, its authorizations and its routes."""
+    """Shows the Server of a port of a Pod, its policy, its authorizations and its routes, and the probes of the Pod."""
 
     def questions(objects, script):
         require_pod(objects, target.pod)

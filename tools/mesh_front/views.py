@@ -113,6 +113,7 @@ class Inbound:
     server: str | None
     authorizations: list[Authorization] = field(default_factory=list)
     routes: list[Route] = field(default_factory=list)
+    probes: list[str] = field(default_factory=list)
 
 
 def endpoint(row: Message) -> Endpoint:
@@ -174,4 +175,4 @@ def inbound(messages: list[Message]) -> Inbound:
     authorizations = [authorization(it, None) for it in view.all("authorizations")]
     authorizations += [authorization(it, inner.one("name", "")) for inner in routes for it in inner.all("authorizations")]
     policy = view.one("policy").lower().replace("_", "-")
-    return Inbound(PROTOCOLS[view.one("protocol")], policy, view.one("server"), authorizations, list(map(route, routes)))
+    return Inbound(PROTOCOLS[view.one("protocol")], policy, view.one("server"), authorizations, list(map(route, routes)), view.all("probes"))

@@ -62,6 +62,18 @@ class Policy(Case):
             HTTPRoute/r   policy.linkerd.io   a.example   GET exact /x header x-a=1 ?q~[0-9]
         """)
 
+    def test_probes(self):
+        """The path of the Pod's probe, without its query."""
+        self.require(self.mesh("policy", "probes.jsonl", "app/web-1:8080"), 0, """
+            SERVER   PROTOCOL   POLICY
+            web      unknown    deny
+
+            No authorization applies.
+
+            PROBE
+            GET /live
+        """)
+
     def test_json(self):
         """The Server of the example, its routes and the first authorization."""
         value = self.mesh("policy", "policy.jsonl", "app/web-1:8080", "-o", "json").json()

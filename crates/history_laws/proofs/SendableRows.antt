@@ -72,7 +72,7 @@ pod_of_object _ lawful = tt
 abbrev HasLawfulPod : Option Object → Type 0
 HasLawfulPod found = IfSome (pod_found found) IsLawfulPod
 
-pod_is_lawful : (held : ObjectMap) → AreLawfulHeld held → (target : Option (List ℕ × List ℕ)) → IfSome (pod_held held target) IsLawfulPod
+pub pod_is_lawful : (held : ObjectMap) → AreLawfulHeld held → (target : Option (List ℕ × List ℕ)) → IfSome (pod_held held target) IsLawfulPod
 pod_is_lawful held lawful None = tt
 pod_is_lawful held lawful (Some target) = of_found HasLawfulPod tt pod_of_object (get held (pod_key target.0 target.1)) (lawful (pod_key target.0 target.1))
 

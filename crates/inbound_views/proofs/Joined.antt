@@ -15,7 +15,7 @@ use Rattle.view_types.specs.declared.server_view.RouteRow.{RouteRow}
 use Rattle.view_types.specs.declared.server_view.ServerView.TheVariants.{Present}
 use Rattle.view_types.specs.declared.view.View.TheVariants as view
 use Rattle.view_rules.specs.PolicyLaws.{AreLawful, server_key}
-use Rattle.mark_rules.specs.Rows.{ServerPart, authz_behind, authz_row, join_inbound, key_of_row, keys_behind, name_in, routes_behind, server_part, server_routes, with_authz}
+use Rattle.mark_rules.specs.Rows.{ServerPart, authz_behind, authz_row, join_inbound, key_of_row, keys_behind, name_in, routes_behind, row_joined, server_part, server_routes, with_authz}
 use Rattle.mark_rules.specs.contracts.keys.RouteKeyOrd as route_order
 use Rattle.mark_rules.specs.contracts.keys.RouteKeyOrd.TheImpl.Laws as route_laws
 use Rattle.mark_rules.specs.declared.keys.RouteKey.{RouteKey}
@@ -70,7 +70,7 @@ module _ (routes others : RouteKey → List RouteRow) (authz apart : ObjKey → 
   join_same None by_route by_authz = refl
   join_same (Some part) by_route by_authz =
       let both = behind_same part.2 by_route by_authz in
-      λ i. Present (record { protocol = part.0; policy = part.1; server = part.2; authz = both.0 i; routes = both.1 i })
+      λ i. Present (row_joined part (both.0 i) (both.1 i))
 
 -- ---- the view of an id
 

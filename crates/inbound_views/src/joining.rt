@@ -4,11 +4,11 @@ ghost use Rattle.std.specs.Option.{option_copied};
 ghost use Rattle.view_types.specs.Objects.{ObjectMap};
 ghost use Rattle.view_types.specs.declared.config.Config.{Config};
 ghost use Rattle.view_types.specs.declared.server_view.ServerView.TheVariants.{Present};
-ghost use Rattle.mark_rules.specs.Rows.{authz_behind, join_inbound, routes_behind, server_part, with_authz};
+ghost use Rattle.mark_rules.specs.Rows.{authz_behind, join_inbound, routes_behind, row_joined, server_part, with_authz};
 ghost use Rattle.row_views.specs.Ids.{key_at};
 ghost use Rattle.inbound_views.specs.Standing.{kept_authz, kept_routes};
 
-use crate::keys::{ServerPart, key_of_row, server_key};
+use crate::keys::{key_of_row, server_key};
 use crate::views::{InboundViews, KeepsRows};
 use mark_rules::keys::{RouteKey, ServerKey};
 use mesh_base::copied::Copied;
@@ -16,6 +16,8 @@ use mesh_base::key::ObjKey;
 use mesh_base::list::List;
 use mesh_base::memory::Memory;
 use mesh_base::text::Text;
+use policy_rows::probes::unless_routes;
+use server_index::kept::ServerPart;
 use view_types::server_view::{AuthzRow, RouteRow, ServerRow, ServerView};
 
 impl InboundViews {
@@ -55,12 +57,28 @@ impl InboundViews {
         let server = part.2.as_ref();
         let authz = self.server_authz(ns, server)?;
         let routes = self.server_routes(ns, server)?;
+        let row = self.row_joined(part, authz, routes)?;
+        Ok(row)
+    }
+
+    // With the authorizations of a Server and its routes, and with the Pod's probes where it has none.
+    fn row_joined(
+        &self,
+        part: &ServerPart,
+        authz: List<AuthzRow>,
+        routes: List<RouteRow>,
+    ) -> Result<ServerRow, Memory>
+        ensures { IfOk result (λ row. row ≡ row_joined part.now authz routes) }
+    {
+        let probes = part.3.copy(self.alloc)?;
+        let probes = unless_routes(self.alloc, routes.as_slice(), probes);
         Ok(ServerRow {
             protocol: part.0,
             policy: part.1,
             server: part.2.copy(self.alloc)?,
             authz,
             routes,
+            probes,
         })
     }
 

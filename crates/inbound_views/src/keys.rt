@@ -11,8 +11,8 @@ use mesh_base::list::List;
 use mesh_base::memory::Memory;
 use mesh_base::same::Same;
 use mesh_base::text::Text;
+use server_index::kept::ServerPart;
 use std::alloc::Global;
-use view_types::policy::{Policy, Protocol};
 use view_types::query::Query;
 use view_types::server_view::RouteRow;
 
@@ -30,15 +30,12 @@ pub(crate) fn port_key(query: &Query) -> Result<Option<ServerKey>, Memory>
     }
 }
 
-/// What a port is served by: its protocol, its policy, and the name of its Server if there is one.
-pub(crate) type ServerPart = (Protocol, Policy, Option<Text>);
-
 /// The name of the Server that a port is served by, if it is by one.
 pub(crate) fn name_in(part: &Option<ServerPart>) -> Option<&Text>
     ensures { option_copied result ≡ name_in part.now }
 {
     match part {
-        Some((_, _, Some(name))) => Some(name),
+        Some((_, _, Some(name), _)) => Some(name),
         _ => None,
     }
 }

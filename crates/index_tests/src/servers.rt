@@ -3,17 +3,19 @@ use crate::trial::{Trial, Writing};
 use mark_rules::keys::ServerKey;
 use mesh_base::text::Text;
 use server_index::index::new_index;
+use server_index::kept::ServerPart;
 use std::alloc::Global;
 use std::test::Fail;
 use view_types::config::Config;
 use view_types::policy::{Policy, Protocol};
 
-// Objects by names. The Pod web-1 has three forms: with the label web, with the label db, and with annotations and the port name
-// http at two containers. A Server is of the label web or db, of a port, and maybe of a protocol and a policy. The Server m has
-// four forms, and k and z say the same.
+// Objects by names. The Pod web-1 has four forms: with the label web, with the label db, with probes, and with annotations and the
+// port name http at two containers. A Server is of the label web or db, of a port, and maybe of a protocol and a policy. The
+// Server m has four forms, and k and z say the same.
 const OBJECTS: &str =
     r#"web {"apiVersion":"v1","kind":"Pod","metadata":{"name":"web-1","namespace":"app","labels":{"app":"web"}},"spec":{"containers":[{"ports":[{"name":"http","containerPort":8080}]},{"ports":[{"name":"admin","containerPort":9990}]}]}}
 db {"apiVersion":"v1","kind":"Pod","metadata":{"name":"web-1","namespace":"app","labels":{"app":"db"}},"spec":{"containers":[{"ports":[{"name":"http","containerPort":8080}]}]}}
+live {"apiVersion":"v1","kind":"Pod","metadata":{"name":"web-1","namespace":"app","labels":{"app":"web"}},"spec":{"containers":[{"ports":[{"name":"http","containerPort":8080}],"livenessProbe":{"httpGet":{"path":"/b","port":"http"}},"readinessProbe":{"httpGet":{"path":"/a?x","port":8080}},"startupProbe":{"httpGet":{"path":"/b","port":8080}}},{"livenessProbe":{"httpGet":{"path":"/c","port":9990}}}]}}
 both {"apiVersion":"v1","kind":"Pod","metadata":{"name":"web-1","namespace":"app","labels":{"app":"web"},"annotations":{"config.linkerd.io/default-inbound-policy":"deny","config.linkerd.io/opaque-ports":"9990"}},"spec":{"containers":[{"ports":[{"name":"http","containerPort":8080}]},{"ports":[{"name":"http","containerPort":9990}]}]}}
 m {"apiVersion":"policy.linkerd.io/v1beta3","kind":"Server","metadata":{"name":"m","namespace":"app"},"spec":{"podSelector":{"matchLabels":{"app":"web"}},"port":8080,"proxyProtocol":"HTTP/2"}}
 m.audit {"apiVersion":"policy.linkerd.io/v1beta3","kind":"Server","metadata":{"name":"m","namespace":"app"},"spec":{"podSelector":{"matchLabels":{"app":"web"}},"port":8080,"accessPolicy":"audit"}}
@@ -25,8 +27,8 @@ k {"apiVersion":"policy.linkerd.io/v1beta3","kind":"Server","metadata":{"name":"
 a.other {"apiVersion":"policy.linkerd.io/v1beta3","kind":"Server","metadata":{"name":"a","namespace":"other"},"spec":{"podSelector":{"matchLabels":{"app":"web"}},"port":8080}}"#;
 
 // What happens; then the keys that the index answers, and the row of each key that has users: the name of the Server or
-// default, the protocol and the policy, or none without the Pod; and how many marks are read. Each key is a letter: the ports
-// 8080 (h) and 9990 (i) of the Pod web-1.
+// default, the protocol, the policy and the paths of probes, or none without the Pod; and how many marks are read. Each key is a
+// letter: the ports 8080 (h) and 9990 (i) of the Pod web-1.
 const ROWS: &str = "\
 enter h => - h:none/2
 set m => h h:none/2
@@ -53,12 +55,16 @@ leave i => - h:m http2 deny/2
 remove m => h h:default unknown all-unauthenticated/2
 leave h => -
 set m => -
-enter h => - h:m http2 deny/2";
+enter h => - h:m http2 deny/2
+set live => h h:m http2 deny /a /b/2
+enter i => - h:m http2 deny /a /b/2 i:default unknown all-unauthenticated /c/2
+remove m => hi h:default unknown all-unauthenticated /a /b/2 i:default unknown all-unauthenticated /c/2
+set web => hi h:default unknown all-unauthenticated/2 i:default unknown all-unauthenticated/2";
 
 #[derive(Drop)]
 struct Servers;
 
-impl Writing<ServerKey, Option<(Protocol, Policy, Option<Text>)>> for Servers {
+impl Writing<ServerKey, Option<ServerPart>> for Servers {
     fn letters(&self) -> &'static str {
         "h i"
     }
@@ -76,16 +82,16 @@ impl Writing<ServerKey, Option<(Protocol, Policy, Option<Text>)>> for Servers {
         })
     }
 
-    fn push_row(
-        &self,
-        all: &mut String,
-        row: &Option<(Protocol, Policy, Option<Text>)>,
-    ) -> Result<(), Fail> {
+    fn push_row(&self, all: &mut String, row: &Option<ServerPart>) -> Result<(), Fail> {
         match row {
-            Some((protocol, policy, server)) => {
+            Some((protocol, policy, server, probes)) => {
                 push_name(all, server)?;
                 all.push_str(protocol_word(*protocol))?;
                 all.push_str(policy_word(*policy))?;
+                for path in probes.as_slice() {
+                    all.push_str(" ")?;
+                    all.push_str(path.as_str())?;
+                }
             }
             None => all.push_str("none")?,
         }

@@ -15,7 +15,6 @@ use Rattle.view_types.specs.declared.query.Query.TheVariants as query
 use Rattle.view_types.specs.declared.route.Route.{Route}
 use Rattle.view_types.specs.declared.server.ServerSpec.{ServerSpec}
 use Rattle.view_types.specs.declared.server_view.AuthzRow.{AuthzRow}
-use Rattle.view_types.specs.declared.server_view.RouteRow.{RouteRow}
 use Rattle.view_types.specs.declared.server_view.ServerView.TheVariants.{Present}
 use Rattle.view_types.specs.declared.view.View.TheVariants as view
 use Rattle.view_rules.specs.Inbound.{inbound_at, inbound_route, inbound_routes, inbound_rule, port_row}
@@ -28,7 +27,7 @@ use Rattle.view_rules.proofs.Among.{Among, contained}
 use Rattle.view_rules.proofs.Attached.{routes_are_in_order}
 use Rattle.view_rules.proofs.ServersOfPorts.{servers_are_the_least}
 use Rattle.mark_rules.specs.Laws.{ViewsAreJoined}
-use Rattle.mark_rules.specs.Rows.{authz_at, authz_row, bare_route, join_inbound, part_of, server_routes, with_authz}
+use Rattle.mark_rules.specs.Rows.{authz_at, authz_row, bare_route, join_inbound, part_of, row_joined, server_routes, with_authz}
 use Rattle.mark_rules.proofs.Outbound.{same_each}
 
 mapped_twice : {A B C : Type 0} (f : B → C) (g : A → B) (xs : List A) → map f (map g xs) ≡ map (λ x. f (g x)) xs
@@ -70,8 +69,7 @@ module _ (config : Config) (held : ObjectMap) (at_keys : AtKeys held) (lawful : 
       ap (λ found. authz_at config held (server_key ns server.meta.name) kind.Server found) (sym at) in
       let routes : inbound_routes config held server ≡ map (with_authz (authz_row config held) ns) (server_routes held (record { ns = ns; server = server.meta.name })) =
       ap (λ n. map (inbound_route config held) (attached_routes held n (is_server_parent server.meta.name))) here ∙ routes_joined server.meta.name in
-      ap (λ (both : List AuthzRow × List RouteRow). Present (record { protocol = server.protocol; policy = server.policy; server = Some server.meta.name; authz = both.0; routes = both.1 }))
-      (λ i. (authz i, routes i))
+      λ i. Present (row_joined (part_of config pod port (Some server)) (authz i) (routes i))
 
   pod_joined : (port : ℕ) (found : Option Pod)
       → inbound_at config held ns port found ≡ join_inbound (server_routes held) (authz_row config held) ns (option_map (λ pod. part_of config pod port (chosen_server held ns pod port)) found)

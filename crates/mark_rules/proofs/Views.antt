@@ -16,7 +16,7 @@ use Rattle.mark_rules.specs.Changes.{Leads}
 use Rattle.mark_rules.specs.Laws.{QueriesAskByRows, QueriesStay, ViewsStay}
 use Rattle.mark_rules.specs.Marks.{has_mark, meets}
 use Rattle.mark_rules.specs.Reads.{authz_reads, endpoint_reads, outbound_reads, profile_reads, query_reads, reads, route_reads, server_reads}
-use Rattle.mark_rules.specs.Rows.{ServerPart, authz_behind, authz_row, join_inbound, view_of_rows, key_of_row, keys_behind, name_in, routes_behind, rows, server_part, server_routes, with_authz}
+use Rattle.mark_rules.specs.Rows.{ServerPart, authz_behind, authz_row, join_inbound, view_of_rows, key_of_row, keys_behind, name_in, routes_behind, row_joined, rows, server_part, server_routes, with_authz}
 use Rattle.mark_rules.specs.declared.keys.EndpointKey.{EndpointKey}
 use Rattle.mark_rules.specs.declared.keys.ProfileKey.{ProfileKey}
 use Rattle.mark_rules.specs.declared.keys.RouteKey.{RouteKey}
@@ -91,9 +91,7 @@ module _ {changed : List Mark} {before after : ObjectMap} (leads : Leads changed
     part_joined : (part : Option ServerPart) → Misses (name_in part)
         → join_inbound (server_routes after) (authz_row config after) ns part ≡ join_inbound (server_routes before) (authz_row config before) ns part
     part_joined None misses = refl
-    part_joined (Some part) misses =
-        ap (λ (both : List AuthzRow × List RouteRow). Present (record { protocol = part.0; policy = part.1; server = part.2; authz = both.0; routes = both.1 }))
-        (λ i. (its_authz part.2 misses i, routes_joined part.2 misses i))
+    part_joined (Some part) misses = λ i. Present (row_joined part (its_authz part.2 misses i) (routes_joined part.2 misses i))
 
   -- ---- queries
 

@@ -20,12 +20,13 @@ use Rattle.view_types.specs.declared.route.Route.{Route}
 use Rattle.view_types.specs.declared.server.ServerSpec.{ServerSpec}
 use Rattle.view_types.specs.declared.server_view.AuthzRow.{AuthzRow}
 use Rattle.view_types.specs.declared.server_view.RouteRow.{RouteRow}
+use Rattle.view_types.specs.declared.server_view.ServerRow.{ServerRow}
 use Rattle.view_types.specs.declared.server_view.ServerView.{ServerView}
 use Rattle.view_types.specs.declared.server_view.ServerView.TheVariants.{Absent, Present}
 use Rattle.view_types.specs.declared.view.View.{View}
 use Rattle.view_types.specs.declared.view.View.TheVariants as view
 use Rattle.view_rules.specs.Endpoints.{endpoints}
-use Rattle.view_rules.specs.Inbound.{default_policy, default_protocol, inbound_rule}
+use Rattle.view_rules.specs.Inbound.{default_policy, default_protocol, inbound_rule, probe_paths, unless_routes}
 use Rattle.view_rules.specs.Outbound.{outbound}
 use Rattle.view_rules.specs.PodRows.{pod_held}
 use Rattle.view_rules.specs.Policies.{applies_to_route, applies_to_server, authz_rows}
@@ -53,13 +54,13 @@ outbound_row = outbound
 
 -- ---- the Server of a port
 
--- the protocol, the policy, and the name of the Server if there is one
+-- the protocol, the policy, the name of the Server if there is one, and the paths of the Pod's probes
 abbrev pub ServerPart : Type 0
-ServerPart = Protocol × Policy × Option (List ℕ)
+ServerPart = Protocol × Policy × Option (List ℕ) × List (List ℕ)
 
 abbrev pub part_of : Config → Pod → ℕ → Option ServerSpec → ServerPart
-part_of config pod port None = (default_protocol pod port, default_policy config pod, None)
-part_of config pod port (Some server) = (server.protocol, server.policy, Some server.meta.name)
+part_of config pod port None = (default_protocol pod port, default_policy config pod, None, probe_paths pod port)
+part_of config pod port (Some server) = (server.protocol, server.policy, Some server.meta.name, probe_paths pod port)
 
 -- none where the Pod isn't held
 abbrev pub server_part : Config → ObjectMap → ServerKey → Option ServerPart
@@ -115,16 +116,21 @@ abbrev pub routes_behind : (RouteKey → List RouteRow) → List ℕ → Option 
 routes_behind routes ns None = []
 routes_behind routes ns (Some server) = routes (record { ns = ns; server = server })
 
--- the inbound view of the Server's row: with the Server's authorizations, and with its routes, each with its own
-abbrev pub join_inbound : (RouteKey → List RouteRow) → (ObjKey → List AuthzRow) → List ℕ → Option ServerPart → ServerView
-join_inbound routes authz ns None = Absent
-join_inbound routes authz ns (Some part) = Present (record {
+-- with the authorizations of a Server and its routes, and with the Pod's probes where it has none
+abbrev pub row_joined : ServerPart → List AuthzRow → List RouteRow → ServerRow
+row_joined part authz routes = record {
   protocol = part.0;
   policy = part.1;
   server = part.2;
-  authz = authz_behind authz ns part.2;
-  routes = map (with_authz authz ns) (routes_behind routes ns part.2);
-})
+  authz = authz;
+  routes = routes;
+  probes = unless_routes routes part.3;
+}
+
+-- the inbound view of the Server's row: with the Server's authorizations, and with its routes, each with its own
+abbrev pub join_inbound : (RouteKey → List RouteRow) → (ObjKey → List AuthzRow) → List ℕ → Option ServerPart → ServerView
+join_inbound routes authz ns None = Absent
+join_inbound routes authz ns (Some part) = Present (row_joined part (authz_behind authz ns part.2) (map (with_authz authz ns) (routes_behind routes ns part.2)))
 
 -- the view of a query, joined from its rows
 abbrev pub view_of_rows : Config → ObjectMap → Query → View

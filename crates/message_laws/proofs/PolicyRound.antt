@@ -19,7 +19,7 @@ use Rattle.proxy_proto.specs.Authorizations.{authz_records}
 use Rattle.proxy_proto.specs.EndpointReading.{row_in}
 use Rattle.proxy_proto.specs.Endpoints.{row_records}
 use Rattle.proxy_proto.specs.Faults.{end_fault}
-use Rattle.proxy_proto.specs.FieldRecords.{chunk, number_field, bool_field, text_field, optional_text, each_field}
+use Rattle.proxy_proto.specs.FieldRecords.{chunk, number_field, bool_field, text_field, optional_text, texts_field, each_field}
 use Rattle.proxy_proto.specs.LookUps.{number_from, value_at}
 use Rattle.proxy_proto.specs.Policies.{forward_records, outbound_records, server_records, server_row_records, service_records}
 use Rattle.proxy_proto.specs.PolicyReading.{forward_in, outbound_in, policy_from, protocol_from, server_in, server_row_in, service_in}
@@ -32,7 +32,7 @@ use Rattle.message_laws.proofs.Coming.{comes, each_comes, first_inside}
 use Rattle.message_laws.proofs.EndpointRound.{row_comes}
 use Rattle.message_laws.proofs.FieldBlocks.{AllWritten, FieldBlock, block, laid, laid_comes}
 use Rattle.message_laws.proofs.HttpRouteRound.{http_route_comes}
-use Rattle.message_laws.proofs.WrittenFields.{ComesIfShort, EachComes, below_read, each_read, each_written, empty_clean, flag_read, flag_written, has_read, inside_short, member_comes, message_read, number_read, number_written, optional_text_read, optional_text_written, required_written, text_read, text_written}
+use Rattle.message_laws.proofs.WrittenFields.{ComesIfShort, EachComes, below_read, each_read, each_written, empty_clean, flag_read, flag_written, has_read, inside_short, member_comes, message_read, number_read, number_written, optional_text_read, optional_text_written, required_written, text_read, text_written, texts_read, texts_written}
 
 -- ---- the policy of a port
 
@@ -69,6 +69,7 @@ server_blocks row =
     ∷ block 3 (optional_text 3 row.server)
     ∷ block 4 (each_field 4 authz_records row.authz)
     ∷ block 5 (each_field 5 http_route_records row.routes)
+    ∷ block 6 (texts_field 6 row.probes)
     ∷ []
 
 server_laid : (row : ServerRow) → server_row_records row ≡ laid (server_blocks row)
@@ -90,7 +91,10 @@ server_written row fits = (
       optional_text_written schemas.Server 3 row.server (lit< tt, lit< tt) refl fits.server_text,
       (
         each_written schemas.Server 4 schemas.Authz authz_in authz_records row.authz (lit< tt, lit< tt) refl (authz_come row fits),
-        (each_written schemas.Server 5 schemas.HttpRoute http_route_in http_route_records row.routes (lit< tt, lit< tt) refl (inbound_come row fits), tt),
+        (
+          each_written schemas.Server 5 schemas.HttpRoute http_route_in http_route_records row.routes (lit< tt, lit< tt) refl (inbound_come row fits),
+          (texts_written schemas.Server 6 row.probes (lit< tt, lit< tt) refl fits.probes, tt),
+        ),
       ),
     ),
   ),
@@ -116,7 +120,8 @@ row_back row fits short =
     let name = optional_text_read s bs w 3 row.server refl fits.server_text fits.server in
     let authz = each_read s bs w 4 schemas.Authz authz_in authz_records row.authz refl (authz_come row fits) short in
     let routes = each_read s bs w 5 schemas.HttpRoute http_route_in http_route_records row.routes refl (inbound_come row fits) short in
-    rw (protocol, (numbered_protocol row.protocol).back, policy, (numbered_policy row.policy).back, name, authz, routes) refl
+    let probes = texts_read s bs w 6 row.probes refl fits.probes in
+    rw (protocol, (numbered_protocol row.protocol).back, policy, (numbered_policy row.policy).back, name, authz, routes, probes) refl
 
 present_back : (row : ServerRow) → IsSendableServerRow row → length (spelling (laid (server_blocks row))) < 2 ^ 64 → server_in (laid (server_blocks row)) ≡ server.Present row
 unfolding server_in

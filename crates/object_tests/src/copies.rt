@@ -317,6 +317,7 @@ fn server_row(alloc: Global) -> ServerRow {
         server: Some(text(alloc, "web")),
         authz: one(alloc, authz_row(alloc, clients(alloc))),
         routes: one(alloc, route_row(alloc)),
+        probes: one(alloc, text(alloc, "/live")),
     }
 }
 

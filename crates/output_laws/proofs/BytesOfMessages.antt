@@ -2,7 +2,7 @@
 use Rattle.std.proofs.Common.{ℕ, ◌^◌, ◌<◌, Bool, List, [], ◌++◌, lit<}
 use Rattle.proxy_proto.specs.Authorizations.{authz_records}
 use Rattle.proxy_proto.specs.Endpoints.{row_records}
-use Rattle.proxy_proto.specs.FieldRecords.{bool_field, each_field, number_field, optional_text, text_field}
+use Rattle.proxy_proto.specs.FieldRecords.{bool_field, each_field, number_field, optional_text, text_field, texts_field}
 use Rattle.proxy_proto.specs.Messages.{canonical, message_records, pair_records}
 use Rattle.proxy_proto.specs.Policies.{forward_records, outbound_records, server_records, server_row_records, service_records}
 use Rattle.proxy_proto.specs.Routes.{http_route_records}
@@ -20,7 +20,7 @@ use Rattle.view_types.specs.declared.server_view.RouteRow.{RouteRow}
 use Rattle.view_types.specs.declared.server_view.ServerRow.{ServerRow}
 use Rattle.view_types.specs.declared.server_view.ServerView.{ServerView}
 use Rattle.view_types.specs.declared.server_view.ServerView.TheVariants as server
-use Rattle.output_laws.proofs.Bytes.{AreBytes, AreSound, sound_bool, sound_both, sound_chunk, sound_each, sound_inside, sound_number, sound_some_text, sound_spelling, sound_text}
+use Rattle.output_laws.proofs.Bytes.{AreBytes, AreSound, sound_bool, sound_both, sound_chunk, sound_each, sound_inside, sound_number, sound_some_text, sound_spelling, sound_text, sound_texts}
 use Rattle.output_laws.proofs.BytesOfEndpoints.{address_sound, authz_sound, port_small, row_sound}
 use Rattle.output_laws.proofs.BytesOfProfiles.{profile_sound}
 use Rattle.output_laws.proofs.BytesOfRoutes.{route_sound}
@@ -46,13 +46,15 @@ policy_small Audit = lit< tt
 server_row_sound : (row : ServerRow) → IsSendableServerRow row → AreSound (server_row_records row)
 unfolding server_row_records
 server_row_sound row good =
-    let routes = each_field 5 http_route_records row.routes in
+    let probes = texts_field 6 row.probes in
+    let routes = each_field 5 http_route_records row.routes ++ probes in
     let last = each_field 4 authz_records row.authz ++ routes in
     sound_both (number_field 1 (protocol_number row.protocol)) (number_field 2 (policy_number row.policy) ++ (optional_text 3 row.server ++ last)) (sound_number 1 (protocol_number row.protocol) (lit< tt) (protocol_small row.protocol))
     (sound_both (number_field 2 (policy_number row.policy)) (optional_text 3 row.server ++ last) (sound_number 2 (policy_number row.policy) (lit< tt) (policy_small row.policy))
     (sound_both (optional_text 3 row.server) last (sound_some_text 3 row.server (lit< tt) good.server_text)
     (sound_both (each_field 4 authz_records row.authz) routes (sound_each 4 IsSendableAuthz authz_records (lit< tt) authz_sound row.authz good.authz)
-    (sound_each 5 IsInboundRoute http_route_records (lit< tt) (λ route is. route_sound route is.sendable) row.routes good.routes))))
+    (sound_both (each_field 5 http_route_records row.routes) probes (sound_each 5 IsInboundRoute http_route_records (lit< tt) (λ route is. route_sound route is.sendable) row.routes good.routes)
+    (sound_texts 6 row.probes (lit< tt) good.probes)))))
 
 server_sound : (view : ServerView) → IsSendableServer view → AreSound (server_records view)
 server_sound server.Absent good = tt

@@ -1,5 +1,5 @@
 //! What a view shows of the policies and routes that are held: rows of authorizations, the Server of a port, the routes that
-//! are attached to a Server or a Service, in order, and a route's row.
+//! are attached to a Server or a Service, in order, and a route's row; and of a Pod's probes.
 //!
 //! Stands on view_rules, mark_rules and object_store. The contracts cite `Servers`, `Policies` and `Routes` of view_rules over
 //! the objects of the store, and every way of finding those objects shares the rows. Here they are found by the keys that the
@@ -12,6 +12,7 @@ mod clients;
 pub mod held;
 mod in_order;
 pub mod parent;
+pub mod probes;
 mod refs;
 pub mod route_row;
 pub mod routes;

@@ -12,7 +12,7 @@ use Rattle.proto_wire.specs.declared.record.Rec.{Rec}
 use Rattle.proto_wire.specs.Wire.{spelling}
 use Rattle.proxy_proto.specs.Authorizations.{authz_records}
 use Rattle.proxy_proto.specs.Endpoints.{row_records}
-use Rattle.proxy_proto.specs.FieldRecords.{chunk, number_field, bool_field, text_field, optional_text, each_field}
+use Rattle.proxy_proto.specs.FieldRecords.{chunk, number_field, bool_field, text_field, optional_text, texts_field, each_field}
 use Rattle.proxy_proto.specs.Routes.{http_route_records}
 
 -- ---- Server
@@ -23,7 +23,8 @@ server_row_records row =
     ++ (number_field 2 (policy_number row.policy)
     ++ (optional_text 3 row.server
     ++ (each_field 4 authz_records row.authz
-    ++ each_field 5 http_route_records row.routes)))
+    ++ (each_field 5 http_route_records row.routes
+    ++ texts_field 6 row.probes))))
 
 -- where nothing holds for the port, the empty message
 abbrev pub server_records : ServerView → List Rec

@@ -13,7 +13,7 @@ use Rattle.proto_wire.specs.declared.record.Rec.{Rec}
 use Rattle.proxy_proto.specs.AuthorizationReading.{authz_in}
 use Rattle.proxy_proto.specs.EndpointReading.{row_in}
 use Rattle.proxy_proto.specs.Faults.{number_in}
-use Rattle.proxy_proto.specs.LookUps.{has, number_below, flag_in, string_in, inside, each_message, some_string}
+use Rattle.proxy_proto.specs.LookUps.{has, number_below, flag_in, string_in, texts_in, inside, each_message, some_string}
 use Rattle.proxy_proto.specs.RouteReading.{http_route_in}
 
 -- ---- Server
@@ -43,6 +43,7 @@ server_row_in rs = record {
   server = some_string (string_in 3 rs);
   authz = each_message 4 authz_in rs;
   routes = each_message 5 http_route_in rs;
+  probes = texts_in 6 rs;
 }
 
 -- Protocol 0 is none, whatever else stands.

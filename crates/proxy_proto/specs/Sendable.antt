@@ -130,6 +130,7 @@ pub record IsSendableServerRow (row : ServerRow) : Type 0 where
   pub server_text : IsString row.server
   pub authz : AllByRecursion IsSendableAuthz row.authz
   pub routes : AllByRecursion IsInboundRoute row.routes
+  pub probes : AllByRecursion IsUtf8 row.probes
 
 abbrev pub IsSendableServer : ServerView → Type 0
 IsSendableServer server.Absent = Unit {0}

@@ -112,13 +112,14 @@ fields_of schema.StatusRange = field 1 Single uint16 ∷ field 2 Single uint16 �
 fields_of schema.WeightedDst = field 1 Single Text ∷ field 2 Single uint32 ∷ []
 fields_of schema.Duration = field 1 Single uint64 ∷ field 2 Single nanoseconds ∷ []
 fields_of schema.IpNetwork = field 1 Required (Message schema.IpAddress) ∷ field 2 Single uint32 ∷ []
--- of a port that has a policy: the protocol, the policy, the name of the Server, who may come in, and routes
+-- of a port that has a policy: the protocol, the policy, the name of the Server, who may come in, routes, and the paths of probes
 fields_of schema.Server =
     field 1 Single protocol
     ∷ field 2 Single policy
     ∷ field 3 Single Text
     ∷ field 4 Repeated (Message schema.Authz)
     ∷ field 5 Repeated (Message schema.HttpRoute)
+    ∷ field 6 Repeated Text
     ∷ []
 fields_of schema.Authz =
     field 1 Single one_of_two

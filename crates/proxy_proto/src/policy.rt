@@ -4,7 +4,9 @@ ghost use Rattle.view_types.specs.Numbers.{policy_number, protocol_number};
 ghost use Rattle.proto_wire.specs.Wire.{spelling};
 ghost use Rattle.proxy_proto.specs.Policies.{server_row_records, server_records, service_records, forward_records, outbound_records};
 
-use crate::fields::{put_bool_field, put_number_field, put_optional_text, put_text_field};
+use crate::fields::{
+    put_bool_field, put_number_field, put_optional_text, put_text_field, put_texts,
+};
 use crate::part::{Part, write_each, write_in};
 use mesh_base::list::List;
 use mesh_base::memory::Memory;
@@ -51,7 +53,8 @@ impl Part for ServerRow {
         put_number_field(out, 2, policy_number(self.policy))?;
         put_optional_text(out, 3, &self.server)?;
         write_each(alloc, out, 4, self.authz.as_slice())?;
-        write_each(alloc, out, 5, self.routes.as_slice())
+        write_each(alloc, out, 5, self.routes.as_slice())?;
+        put_texts(out, 6, self.probes.as_slice())
     }
 }
 

@@ -4,7 +4,9 @@ ghost use Rattle.proto_wire.specs.Given.{view_record};
 ghost use Rattle.proxy_proto.specs.PolicyReading.{protocol_from, policy_from, server_row_in, server_in, service_in, forward_in, outbound_in};
 
 use crate::from_records::{FromRecords, read_each, read_in};
-use crate::look_up::{flag_in, inside, is_there, number_in, optional_text_in, text_in, u16_in};
+use crate::look_up::{
+    flag_in, inside, is_there, number_in, optional_text_in, text_in, texts_in, u16_in,
+};
 use mesh_base::memory::Memory;
 use proto_wire::scan::RecRef;
 use std::alloc::Global;
@@ -50,6 +52,7 @@ impl FromRecords for ServerRow {
             server: optional_text_in(alloc, records, 3)?,
             authz: read_each::<AuthzRow>(alloc, records, 4)?,
             routes: read_each::<RouteRow>(alloc, records, 5)?,
+            probes: texts_in(alloc, records, 6)?,
         })
     }
 }

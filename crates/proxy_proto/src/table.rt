@@ -208,12 +208,13 @@ const IP_NETWORK: [Field; 2] = [
     Field(2, Single, UINT32),
 ];
 
-const SERVER: [Field; 5] = [
+const SERVER: [Field; 6] = [
     Field(1, Single, PROTOCOL),
     Field(2, Single, POLICY),
     Field(3, Single, Text),
     Field(4, Repeated, Message(Schema::Authz)),
     Field(5, Repeated, Message(Schema::HttpRoute)),
+    Field(6, Repeated, Text),
 ];
 
 const AUTHZ: [Field; 4] = [

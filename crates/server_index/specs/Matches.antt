@@ -15,7 +15,7 @@ use Rattle.view_types.specs.declared.pod.Pod.{Pod}
 use Rattle.view_types.specs.declared.policy.Policy.{Policy}
 use Rattle.view_types.specs.declared.policy.Protocol.{Protocol}
 use Rattle.view_types.specs.declared.server.ServerSpec.{ServerSpec}
-use Rattle.view_rules.specs.Inbound.{default_policy, default_protocol}
+use Rattle.view_rules.specs.Inbound.{default_policy, default_protocol, probe_paths}
 use Rattle.view_rules.specs.PolicyLaws.{server_key}
 use Rattle.view_rules.specs.Servers.{is_for_port, server_found}
 use Rattle.mark_rules.specs.Rows.{ServerPart}
@@ -53,8 +53,8 @@ module _ (held : ObjectMap) (key : ServerKey) (pod : Pod) where
 
 -- the row of a port whose Server of least name is this, if any matches
 abbrev pub part_from : Config → Pod → ℕ → Option (List ℕ × Terms) → ServerPart
-part_from config pod port None = (default_protocol pod port, default_policy config pod, None)
-part_from config pod port (Some first) = (first.1.0, first.1.1, Some first.0)
+part_from config pod port None = (default_protocol pod port, default_policy config pod, None, probe_paths pod port)
+part_from config pod port (Some first) = (first.1.0, first.1.1, Some first.0, probe_paths pod port)
 
 -- ---- the marks of a change
 

@@ -20,6 +20,7 @@ use Rattle.view_types.specs.declared.object.Object.TheVariants as object
 use Rattle.view_types.specs.declared.pod.Pod.{Pod}
 use Rattle.view_types.specs.declared.server.ServerSpec.{ServerSpec}
 use Rattle.view_rules.proofs.ServersOfPorts.{server_told, servers_are_the_least}
+use Rattle.view_rules.specs.Inbound.{probe_paths}
 use Rattle.view_rules.specs.PodRows.{pod_found, pod_key}
 use Rattle.view_rules.specs.PolicyLaws.{server_key}
 use Rattle.view_rules.specs.Servers.{chosen_server, is_for_port, server_found}
@@ -90,7 +91,7 @@ module _ (held : ObjectMap) (own : AtKeys held) (key : ServerKey) (pod : Pod) (s
         let at : at_name servers e.0 ≡ Some e.1 = ap (lookup (λ k. is_eq (slice_cmp nat_cmp e.0 k))) are ∙ first_at e.0 e.1 es in
         let both : Some e.1 ≡ Some (s.protocol, s.policy) = sym at ∙ up e.0 ∙ ap (terms_at held key pod) (sym named) ∙ chosen_terms s is in
         let terms : e.1 ≡ (s.protocol, s.policy) = cc both in
-        λ i. ((terms i).0, (terms i).1, Some (sym named i))
+        λ i. ((terms i).0, (terms i).1, Some (sym named i), probe_paths pod key.port)
 
     pub first_part : part_from config pod key.port (slice_get servers.by_name.entries 0) ≡ part_of config pod key.port (chosen_server held key.ns pod key.port)
     first_part = by servers.by_name.entries (chosen_server held key.ns pod key.port) refl refl (first_is_chosen held own key.ns pod key.port names names_match)

@@ -20,17 +20,21 @@ use mesh_base::memory::Memory;
 use mesh_base::same::Same;
 use mesh_base::steps::Steps;
 use mesh_base::text::Text;
+use policy_rows::probes::probe_paths;
 use row_reads::rows::server_reads;
 use view_scratch::inbound::{default_policy, default_protocol};
 use view_scratch::pod::pod_named;
 use view_types::mark::Mark;
 use view_types::policy::{Policy, Protocol};
 
-/// What a port is served by, if its Pod is held: the protocol, the policy, and the name of the Server if one is chosen. Beside
-/// it stand the Servers that match the port, and the marks that are read.
+/// What a port is served by: the protocol, the policy, the name of the Server if one is chosen, and the
+/// paths of the Pod's probes.
+pub type ServerPart = (Protocol, Policy, Option<Text>, List<Text>);
+
+/// What a port is served by, if its Pod is held. Beside it stand the Servers that match the port, and the marks that are read.
 #[derive(Drop)]
 pub struct KeptServer {
-    pub(crate) row: Option<(Protocol, Policy, Option<Text>)>,
+    pub(crate) row: Option<ServerPart>,
     pub(crate) servers: Matching,
     pub(crate) marks: List<Mark>,
 }
@@ -219,21 +223,31 @@ fn renew<L>(
     Ok(())
 }
 
-/// The protocol, the policy and the name of the Server of least name, else what holds without one.
-fn part_from(port: &PodPort, servers: &Matching) -> Result<(Protocol, Policy, Option<Text>), Memory>
+/// What the Server of least name tells, else what holds without one.
+fn part_from(port: &PodPort, servers: &Matching) -> Result<ServerPart, Memory>
     ensures { IfOk result (λ part. part ≡ part_from port.now.from.now.config.now port.now.pod.now
         port.now.key.now.port (slice_get servers.now.by_name.entries 0)) }
 {
     match servers.first() {
-        Some((name, terms)) => Ok((terms.0, terms.1, Some(name.copy()?))),
+        Some((name, terms)) => named_part(port, name, terms),
         None => default_part(port),
     }
 }
 
-fn default_part(port: &PodPort) -> Result<(Protocol, Policy, Option<Text>), Memory>
+fn named_part(port: &PodPort, name: &Text, terms: &(Protocol, Policy)) -> Result<ServerPart, Memory>
+    ensures { IfOk result (λ part. part ≡ part_from port.now.from.now.config.now port.now.pod.now
+        port.now.key.now.port (Some (name.now, terms.now))) }
+{
+    let probes = probe_paths(port.from.alloc, port.pod, port.key.port)?;
+    Ok((terms.0, terms.1, Some(name.copy()?), probes))
+}
+
+fn default_part(port: &PodPort) -> Result<ServerPart, Memory>
     ensures { IfOk result (λ part. part ≡ part_from port.now.from.now.config.now port.now.pod.now
         port.now.key.now.port None) }
 {
     let protocol = default_protocol(port.from.alloc, port.pod, port.key.port)?;
-    Ok((protocol, default_policy(port.from.config, port.pod), None))
+    let probes = probe_paths(port.from.alloc, port.pod, port.key.port)?;
+    let policy = default_policy(port.from.config, port.pod);
+    Ok((protocol, policy, None, probes))
 }

@@ -1,4 +1,5 @@
-//! What the ports of Pods are served by, kept in rows for the clients that ask for them: the protocol, the policy and the Server.
+//! What the ports of Pods are served by, kept in rows for the clients that ask for them: the protocol, the policy, the Server, and
+//! the paths of the Pod's probes.
 //!
 //! Stands on row_table for the rows, on mark_rules for what a row is and which marks it reads, on object_store, on policy_rows
 //! for whether a Server selects a port, and on view_scratch for what holds without a Server. `ServerIndex` is the table of

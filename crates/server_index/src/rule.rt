@@ -7,7 +7,7 @@ ghost use Rattle.server_index.specs.ServerKeys.{server_keys_exact};
 ghost use Rattle.server_index.specs.Standing.{Stands};
 ghost use Rattle.server_index.specs.Still.{stands_show, stands_still};
 
-use crate::kept::{KeptServer, find, follow};
+use crate::kept::{KeptServer, ServerPart, find, follow};
 use crate::notes::ServerNotes;
 use crate::port::Port;
 use mark_rules::keys::ServerKey;
@@ -15,14 +15,12 @@ use mesh_base::copied::Copied;
 use mesh_base::list::List;
 use mesh_base::memory::Memory;
 use mesh_base::steps::Steps;
-use mesh_base::text::Text;
 use object_store::store::Store;
 use policy_rows::snapshot::Snapshot;
 use row_table::row_rule::{MarksAfter, RowRule, StoreChange};
 use std::alloc::Global;
 use view_types::config::Config;
 use view_types::mark::Mark;
-use view_types::policy::{Policy, Protocol};
 
 /// Finds what the ports of Pods are served by under a configuration.
 #[derive(Drop)]
@@ -33,7 +31,7 @@ pub struct ServerRule {
 impl RowRule for ServerRule {
     type Key = ServerKey;
 
-    type Row = Option<(Protocol, Policy, Option<Text>)>;
+    type Row = Option<ServerPart>;
 
     type Kept = KeptServer;
 
@@ -91,7 +89,7 @@ impl RowRule for ServerRule {
         Ok(MarksAfter::Same)
     }
 
-    fn row(kept: &KeptServer) -> &Option<(Protocol, Policy, Option<Text>)> {
+    fn row(kept: &KeptServer) -> &Option<ServerPart> {
         &kept.row
     }
 

@@ -181,11 +181,12 @@ unfolding same_server_row
 server_row_decides r s =
     let server = option_decides bytes_eq bytes_decides r.server s.server in
     let authz = pointwise_decides {E = same_authz} authz_decides r.authz s.authz in
+    let probes = texts_decide r.probes s.probes in
     Decides-like _
-    (λ (p : ((((r.protocol ≡ s.protocol) × (r.policy ≡ s.policy)) × (r.server ≡ s.server)) × (r.authz ≡ s.authz)) × (r.routes ≡ s.routes)) i.
-    record { protocol = p.0.0.0.0 i; policy = p.0.0.0.1 i; server = p.0.0.1 i; authz = p.0.1 i; routes = p.1 i })
-    (λ e. ((((ap (λ r. r.protocol) e, ap (λ r. r.policy) e), ap (λ r. r.server) e), ap (λ r. r.authz) e), ap (λ r. r.routes) e))
-    (Decides-and _ _ (Decides-and _ _ (Decides-and _ _ (Decides-and _ _ (protocol_decides r.protocol s.protocol) (policy_decides r.policy s.policy)) server) authz) (routes_decide r.routes s.routes))
+    (λ (p : (((((r.protocol ≡ s.protocol) × (r.policy ≡ s.policy)) × (r.server ≡ s.server)) × (r.authz ≡ s.authz)) × (r.routes ≡ s.routes)) × (r.probes ≡ s.probes)) i.
+    record { protocol = p.0.0.0.0.0 i; policy = p.0.0.0.0.1 i; server = p.0.0.0.1 i; authz = p.0.0.1 i; routes = p.0.1 i; probes = p.1 i })
+    (λ e. (((((ap (λ r. r.protocol) e, ap (λ r. r.policy) e), ap (λ r. r.server) e), ap (λ r. r.authz) e), ap (λ r. r.routes) e), ap (λ r. r.probes) e))
+    (Decides-and _ _ (Decides-and _ _ (Decides-and _ _ (Decides-and _ _ (Decides-and _ _ (protocol_decides r.protocol s.protocol) (policy_decides r.policy s.policy)) server) authz) (routes_decide r.routes s.routes)) probes)
 
 pub server_decides : SameServerDecides
 server_decides Absent Absent = (λ e. refl, λ e. refl)

@@ -1,5 +1,5 @@
--- What holds for a port of a Pod: its protocol, who may come in, and the routes of its Server.
-use Rattle.std.specs.Prelude.{ℕ, if◌then◌else◌, List, [], Option, Some, None, codes, map, option_and_then}
+-- What holds for a port of a Pod: its protocol, who may come in, the routes of its Server, and the paths of its probes.
+use Rattle.std.specs.Prelude.{ℕ, ◌==◌, if◌then◌else◌, List, [], ◌∷◌, Option, Some, None, codes, filter_map, map, option_and_then}
 use Rattle.std.specs.FinMap.{get}
 use Rattle.std.specs.Option.{unwrap_or}
 use Rattle.mesh_text.specs.PolicyWords.{policy_of}
@@ -17,10 +17,25 @@ use Rattle.view_types.specs.declared.server_view.RuleRow.{RuleRow}
 use Rattle.view_types.specs.declared.server_view.ServerRow.{ServerRow}
 use Rattle.view_types.specs.declared.server_view.ServerView.{ServerView}
 use Rattle.view_types.specs.declared.server_view.ServerView.TheVariants.{Absent, Present}
+use Rattle.view_rules.specs.InOrder.{in_byte_order}
 use Rattle.view_rules.specs.PodRows.{is_opaque, pod_held}
 use Rattle.view_rules.specs.Policies.{applies_to_route, applies_to_server, authz_rows}
 use Rattle.view_rules.specs.Routes.{attached_routes, is_server_parent, route_key, route_row}
 use Rattle.view_rules.specs.Servers.{chosen_server}
+
+-- ---- probes
+
+abbrev pub path_at : ℕ → ℕ × List ℕ → Option (List ℕ)
+path_at port probe = if probe.0 == port then Some probe.1 else None
+
+-- the paths of the Pod's probes on the port, in byte order, each once
+abbrev pub probe_paths : Pod → ℕ → List (List ℕ)
+probe_paths pod port = in_byte_order (filter_map (path_at port) pod.probes)
+
+-- where there are routes, probes don't count
+abbrev pub unless_routes : {A : Type 0} → List A → List (List ℕ) → List (List ℕ)
+unless_routes [] paths = paths
+unless_routes (route ∷ routes) paths = []
 
 -- ---- without a Server
 
@@ -38,6 +53,7 @@ default_row config pod port = record {
   server = None;
   authz = [];
   routes = [];
+  probes = probe_paths pod port;
 }
 
 -- ---- with a Server
@@ -53,20 +69,21 @@ inbound_route config held route = route_row inbound_rule (authz_rows config held
 abbrev pub inbound_routes : Config → ObjectMap → ServerSpec → List RouteRow
 inbound_routes config held server = map (inbound_route config held) (attached_routes held server.meta.ns (is_server_parent server.meta.name))
 
-abbrev pub server_row : Config → ObjectMap → ServerSpec → ServerRow
-server_row config held server = record {
+abbrev pub server_row : Config → ObjectMap → Pod → ℕ → ServerSpec → ServerRow
+server_row config held pod port server = record {
   protocol = server.protocol;
   policy = server.policy;
   server = Some server.meta.name;
   authz = authz_rows config held (applies_to_server held server);
   routes = inbound_routes config held server;
+  probes = unless_routes (inbound_routes config held server) (probe_paths pod port);
 }
 
 -- ---- the view
 
 abbrev pub port_row : Config → ObjectMap → Pod → ℕ → Option ServerSpec → ServerRow
 port_row config held pod port None = default_row config pod port
-port_row config held pod port (Some server) = server_row config held server
+port_row config held pod port (Some server) = server_row config held pod port server
 
 abbrev pub inbound_at : Config → ObjectMap → List ℕ → ℕ → Option Pod → ServerView
 inbound_at config held ns port None = Absent

@@ -116,6 +116,7 @@ same_server_row r s =
     && same_option bytes_eq r.server s.server
     && pointwise same_authz r.authz s.authz
     && pointwise same_route_row r.routes s.routes
+    && pointwise bytes_eq r.probes s.probes
 
 abbrev pub same_server : ServerView → ServerView → Bool
 same_server Absent Absent = true

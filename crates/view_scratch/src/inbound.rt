@@ -20,6 +20,7 @@ use mesh_base::steps::Steps;
 use mesh_base::text::Text;
 use mesh_text::policy_word::PolicyWord;
 use policy_rows::parent::ServerNamed;
+use policy_rows::probes::{probe_paths, unless_routes};
 use policy_rows::route_row::{route_key, route_row};
 use policy_rows::routes::attached_routes;
 use policy_rows::rows::authz_rows;
@@ -71,7 +72,7 @@ fn port_row<L>(
         (port_marks from.now.store.now.objects (option_copied server.entry)) }
 {
     match server {
-        Some(server) => server_row(from, server, steps),
+        Some(server) => server_row(from, pod, port, server, steps),
         None => default_row(from.alloc, from.config, pod, port),
     }
 }
@@ -85,6 +86,7 @@ fn default_row(alloc: Global, config: &Config, pod: &Pod, port: u16) -> Result<S
         server: None,
         authz: List::new(alloc),
         routes: List::new(alloc),
+        probes: probe_paths(alloc, pod, port)?,
     })
 }
 
@@ -125,20 +127,28 @@ fn annotated_policy(pod: &Pod) -> Option<Policy>
 
 fn server_row<L>(
     from: &Snapshot,
+    pod: &Pod,
+    port: u16,
     server: &ServerSpec,
     steps: &mut Steps<L>,
 ) -> Result<ServerRow, Memory>
     ensures value { IfOk result (λ row. row
-        ≡ server_row from.now.config.now from.now.store.now.objects server.now) }
+        ≡ server_row from.now.config.now from.now.store.now.objects pod.now port server.now) }
     ensures steps { steps.new ≤ steps.old + cost from.now.store.now.objects (server_marks
         from.now.store.now.objects server.now.meta.ns server.now.meta.name) }
 {
+    let name = server.meta.name.copy()?;
+    let paths = probe_paths(from.alloc, pod, port)?;
+    let authz = authz_rows(from, server, steps)?;
+    let routes = inbound_routes(from, server, steps)?;
+    let probes = unless_routes(from.alloc, routes.as_slice(), paths);
     Ok(ServerRow {
         protocol: server.protocol,
         policy: server.policy,
-        server: Some(server.meta.name.copy()?),
-        authz: authz_rows(from, server, steps)?,
-        routes: inbound_routes(from, server, steps)?,
+        server: Some(name),
+        authz,
+        routes,
+        probes,
     })
 }
 

@@ -83,6 +83,9 @@ pub struct ServerRow {
     pub server: Option<Text>,
     pub authz: List<AuthzRow>,
     pub routes: List<RouteRow>,
+    /// The paths of the Pod's probes on the port, in byte order, each once. There are none where there are
+    /// routes.
+    pub probes: List<Text>,
 }
 
 /// The inbound view of a port of a Pod.
@@ -236,6 +239,7 @@ impl Copied for ServerRow {
             server: self.server.copy(alloc)?,
             authz: self.authz.copy(alloc)?,
             routes: self.routes.copy(alloc)?,
+            probes: self.probes.copy(alloc)?,
         })
     }
 }
@@ -247,6 +251,7 @@ impl Same for ServerRow {
             && self.server.is_same(&other.server)
             && self.authz.is_same(&other.authz)
             && self.routes.is_same(&other.routes)
+            && self.probes.is_same(&other.probes)
     }
 }
 
