@@ -261,6 +261,8 @@ def verdict_text(answer: Answer) -> str:
     word, *rest = answer.verdict.split(" ")
     if word == "not-found":
         return f"not found: the Server {answer.view.server} has routes, and none matches the request"
+    if rest[0] == "probe":
+        return f"{word} as a probe: the Pod has a probe of {answer.view.probes[int(rest[1])]}, and the address is of the cluster"
     if rest[0] != "default":
         return f"{word} by {' '.join(rest)}"
     if answer.view.server is None:

@@ -57,6 +57,17 @@ class Ask(Case):
             AuthorizationPolicy/operators-only   HTTPRoute/admin   admits                                admits
         """)
 
+    def test_a_probe(self):
+        """The path of a probe, from an address of the cluster."""
+        run = self.ask("probes.jsonl", "app/web-1:8080", "--client", "10.0.0.5", "--path", "/live")
+        self.require(run, 0, """
+            VERDICT  allowed as a probe: the Pod has a probe of /live, and the address is of the cluster
+            REQUEST  GET /live to app/web-1:8080
+            CLIENT   10.0.0.5, no identity
+            SERVER   web, protocol unknown, policy deny
+            MESHED   yes
+        """)
+
     def test_no_route_matches(self):
         """The only route is for `/admin`."""
         self.require(self.ask("policy.jsonl", "app/web-1:8080", "--client", "10.0.0.5"), 1, """

@@ -6,7 +6,7 @@ use Rattle.view_types.specs.declared.policy.Policy.TheVariants.{AllUnauthenticat
 use Rattle.view_types.specs.declared.server_view.AuthzKind.{AuthzKind}
 use Rattle.view_types.specs.declared.server_view.AuthzKind.TheVariants.{ServerAuthorization, AuthorizationPolicy}
 use Rattle.view_types.specs.declared.verdict.Decider.{Decider}
-use Rattle.view_types.specs.declared.verdict.Decider.TheVariants.{Authz, Default}
+use Rattle.view_types.specs.declared.verdict.Decider.TheVariants.{Authz, Default, Probe}
 use Rattle.view_types.specs.declared.verdict.Verdict.{Verdict}
 use Rattle.view_types.specs.declared.verdict.Verdict.TheVariants.{Allowed, Denied, NotFound, NoWorkload}
 
@@ -26,6 +26,7 @@ kind_text AuthorizationPolicy = codes "AuthorizationPolicy"
 abbrev pub decider_text : List ℕ → Decider → List ℕ
 decider_text ns (Authz kind name) = kind_text kind ++ (codes " " ++ (ns ++ (codes "/" ++ name)))
 decider_text ns (Default policy) = codes "default " ++ policy_text policy
+decider_text ns (Probe place) = codes "probe " ++ decimal place
 
 abbrev pub verdict_text : List ℕ → Verdict → List ℕ
 verdict_text ns (Allowed decider) = codes "allowed " ++ decider_text ns decider

@@ -60,6 +60,10 @@ impl fmt::Display for ShownDecider<'_> {
                 let policy = policy_word(*policy);
                 write!(f, "default {policy}")
             }
+            Decider::Probe { place } => {
+                let place = *place;
+                write!(f, "probe {place}")
+            }
         }
     }
 }

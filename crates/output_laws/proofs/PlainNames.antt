@@ -18,13 +18,14 @@ use Rattle.view_types.specs.declared.object.Object.{Object}
 use Rattle.view_types.specs.declared.object.Object.TheVariants as objects
 use Rattle.view_types.specs.declared.pod.Pod.{Pod}
 use Rattle.view_types.specs.declared.policy.Policy.{Policy}
+use Rattle.view_types.specs.declared.policy.Protocol.{Protocol}
 use Rattle.view_types.specs.declared.request.HttpRequest.{HttpRequest}
 use Rattle.view_types.specs.declared.request.Request.{Request}
 use Rattle.view_types.specs.declared.route.Parent.{Parent}
 use Rattle.view_types.specs.declared.route.Route.{Route}
 use Rattle.view_types.specs.declared.server.ServerSpec.{ServerSpec}
 use Rattle.view_types.specs.declared.verdict.Decider.{Decider}
-use Rattle.view_types.specs.declared.verdict.Decider.TheVariants.{Authz, Default}
+use Rattle.view_types.specs.declared.verdict.Decider.TheVariants.{Authz, Default, Probe}
 use Rattle.view_types.specs.declared.verdict.Verdict.{Verdict}
 use Rattle.view_types.specs.declared.verdict.Verdict.TheVariants.{Allowed, Denied, NotFound, NoWorkload}
 use Rattle.view_rules.proofs.Among.{Among, from_found, from_kept}
@@ -32,7 +33,7 @@ use Rattle.view_rules.proofs.Attached.{places_exact, route_order_is_total}
 use Rattle.view_rules.proofs.Firsts.{stands_at}
 use Rattle.view_rules.proofs.Entries.{held_somewhere}
 use Rattle.view_rules.proofs.KeptOnce.{order_has}
-use Rattle.view_rules.specs.Inbound.{default_policy}
+use Rattle.view_rules.specs.Inbound.{default_policy, default_protocol, probe_paths, unless_routes}
 use Rattle.view_rules.specs.PodRows.{as_pod, pod_found, pod_key}
 use Rattle.view_rules.specs.Policies.{applies_to_server}
 use Rattle.view_rules.specs.PolicyLaws.{AreLawful}
@@ -41,7 +42,7 @@ use Rattle.view_rules.specs.Servers.{chosen_server}
 use Rattle.route_match.specs.Matching.{Pat, best}
 use Rattle.request_rules.specs.Admits.{admits}
 use Rattle.request_rules.specs.Meeting.{MayMeet, route_text, routes_of}
-use Rattle.request_rules.specs.Verdicts.{applies_to_either, asks_routes, by_found, by_pod, by_policy, by_routes, by_server, decided, is_more_than_none, on_route, policy_admits, route_at, shape_of, verdict}
+use Rattle.request_rules.specs.Verdicts.{applies_to_either, asks_routes, by_found, by_paths, by_pod, by_policy, by_probe, by_routes, by_server, by_server_alone, decided, is_more_than_none, on_route, policy_admits, probe_place, route_at, shape_of, verdict}
 use Rattle.request_sim.specs.declared.fault.SimFault.{SimFault}
 use Rattle.request_sim.specs.declared.fault.SimFault.TheVariants as sim
 use Rattle.feed_history.specs.MarkCauses.{MayBeMarked}
@@ -96,6 +97,7 @@ values_are_lawful held lawful = all_among IsLawful (values held) (λ o at. let p
 abbrev pub HasPlainNames : List ℕ → Decider → Type 0
 HasPlainNames ns (Authz kind name) = NoBreak ns × NoBreak name
 HasPlainNames ns (Default policy) = Unit {0}
+HasPlainNames ns (Probe place) = Unit {0}
 
 abbrev pub IsPlainVerdict : List ℕ → Verdict → Type 0
 IsPlainVerdict ns (Allowed decider) = HasPlainNames ns decider
@@ -108,33 +110,45 @@ module _ (config : Config) (held : ObjectMap) (lawful : AreLawful held) (pat : P
     policy_plain : (policy : Policy) → IsPlainVerdict request.ns (by_policy config request policy)
     policy_plain policy = elim (policy_admits config request.client request.tls policy) as (λ b. IsPlainVerdict request.ns (if b then Allowed (Default policy) else Denied (Default policy))) [ true ↦ tt | false ↦ tt ]
 
-    decided_plain : (policy : Policy) (applies : Object → Bool) → IsPlainVerdict request.ns (decided config held request policy applies)
-    decided_plain policy applies = by_first (find passes (values held)) refl
+    probe_plain : (policy : Policy) (place : Option ℕ) → IsPlainVerdict request.ns (by_probe config request policy place)
+    probe_plain policy None = policy_plain policy
+    probe_plain policy (Some place) = tt
+
+    paths_plain : (protocol : Protocol) (policy : Policy) (paths : List (List ℕ)) → IsPlainVerdict request.ns (by_paths config request protocol policy paths)
+    paths_plain protocol policy paths = probe_plain policy (probe_place config request protocol paths request.http)
+
+    decided_plain : (otherwise : Verdict) → IsPlainVerdict request.ns otherwise → (applies : Object → Bool) → IsPlainVerdict request.ns (decided config held request otherwise applies)
+    decided_plain otherwise plain_otherwise applies = by_first (find passes (values held)) refl
       where
         passes : Object → Bool
         passes o = applies o && admits config held request.client request.tls o
 
-        by_first : (found : Option Object) → find passes (values held) ≡ found → IsPlainVerdict request.ns (by_found config request policy found)
-        by_first None is = policy_plain policy
+        by_first : (found : Option Object) → find passes (values held) ≡ found → IsPlainVerdict request.ns (by_found otherwise found)
+        by_first None is = plain_otherwise
         by_first (Some o) is = (plain, (plain_object o (found_is IsLawful passes (values held) o (values_are_lawful held lawful) is)).name)
 
     route_plain : (server : ServerSpec) (route : Option Route) → IsPlainVerdict request.ns (on_route config held request server route)
     route_plain server None = tt
-    route_plain server (Some route) = decided_plain server.policy (applies_to_either held server route)
+    route_plain server (Some route) = decided_plain (by_policy config request server.policy) (policy_plain server.policy) (applies_to_either held server route)
 
-    routes_plain : (server : ServerSpec) (routes : List Route) (http : Option HttpRequest) → IsPlainVerdict request.ns (by_routes config held pat request server routes http)
-    routes_plain server routes None = decided_plain server.policy (applies_to_server held server)
-    routes_plain server routes (Some http) =
+    alone_plain : (pod : Pod) (server : ServerSpec) (routes : List Route) → IsPlainVerdict request.ns (by_server_alone config held request pod server routes)
+    alone_plain pod server routes =
+        let paths = unless_routes routes (probe_paths pod request.port) in
+        decided_plain (by_paths config request server.protocol server.policy paths) (paths_plain server.protocol server.policy paths) (applies_to_server held server)
+
+    routes_plain : (pod : Pod) (server : ServerSpec) (routes : List Route) (http : Option HttpRequest) → IsPlainVerdict request.ns (by_routes config held pat request pod server routes http)
+    routes_plain pod server routes None = alone_plain pod server routes
+    routes_plain pod server routes (Some http) =
         let route = route_at routes (best pat http (map shape_of routes)) in
         elim (is_more_than_none routes && asks_routes server.protocol)
-        as (λ b. IsPlainVerdict request.ns (if b then on_route config held request server route else decided config held request server.policy (applies_to_server held server))) [
+        as (λ b. IsPlainVerdict request.ns (if b then on_route config held request server route else by_server_alone config held request pod server routes)) [
           | true ↦ route_plain server route
-          | false ↦ decided_plain server.policy (applies_to_server held server)
+          | false ↦ alone_plain pod server routes
         ]
 
     server_plain : (pod : Pod) (server : Option ServerSpec) → IsPlainVerdict request.ns (by_server config held pat request pod server)
-    server_plain pod None = policy_plain (default_policy config pod)
-    server_plain pod (Some server) = routes_plain server (routes_of held server) request.http
+    server_plain pod None = paths_plain (default_protocol pod request.port) (default_policy config pod) (probe_paths pod request.port)
+    server_plain pod (Some server) = routes_plain pod server (routes_of held server) request.http
 
     pod_plain : (pod : Option Pod) → IsPlainVerdict request.ns (by_pod config held pat request pod)
     pod_plain None = tt

@@ -14,7 +14,7 @@ use Rattle.view_types.specs.declared.policy.Policy.TheVariants.{AllUnauthenticat
 use Rattle.view_types.specs.declared.server_view.AuthzKind.{AuthzKind}
 use Rattle.view_types.specs.declared.server_view.AuthzKind.TheVariants.{ServerAuthorization, AuthorizationPolicy}
 use Rattle.view_types.specs.declared.verdict.Decider.{Decider}
-use Rattle.view_types.specs.declared.verdict.Decider.TheVariants.{Authz, Default}
+use Rattle.view_types.specs.declared.verdict.Decider.TheVariants.{Authz, Default, Probe}
 use Rattle.view_types.specs.declared.verdict.Verdict.{Verdict}
 use Rattle.view_types.specs.declared.verdict.Verdict.TheVariants.{Allowed, Denied, NotFound, NoWorkload}
 use Rattle.watch_events.specs.FaultText.{line_fault_text}
@@ -129,6 +129,7 @@ decider_plain ns (Authz kind name) plain =
     worded (kind_text kind) (codes " " ++ (ns ++ (codes "/" ++ name))) (kind_plain kind)
     (worded (codes " ") (ns ++ (codes "/" ++ name)) (looked_through 10 (codes " ") refl)
     (worded ns (codes "/" ++ name) (without_break ns plain.0) (worded (codes "/") name (looked_through 10 (codes "/") refl) (without_break name plain.1))))
+decider_plain ns (Probe place) plain = worded (codes "probe ") (decimal place) (looked_through 10 (codes "probe ") refl) (number_plain place)
 decider_plain ns (Default policy) plain = worded (codes "default ") (policy_text policy) (looked_through 10 (codes "default ") refl) (policy_plain policy)
 
 pub plain_verdict : (ns : List ℕ) (found : Verdict) → IsPlainVerdict ns found → Plain (verdict_text ns found)

@@ -11,6 +11,7 @@ use Rattle.view_types.specs.declared.config.Config.{Config}
 use Rattle.view_types.specs.declared.object.Object.{Object}
 use Rattle.view_types.specs.declared.pod.Pod.{Pod}
 use Rattle.view_types.specs.declared.policy.Policy.{Policy}
+use Rattle.view_types.specs.declared.policy.Protocol.{Protocol}
 use Rattle.view_types.specs.declared.request.HttpRequest.{HttpRequest}
 use Rattle.view_types.specs.declared.request.Request.{Request}
 use Rattle.view_types.specs.declared.route.Route.{Route}
@@ -18,7 +19,7 @@ use Rattle.view_types.specs.declared.server.ServerSpec.{ServerSpec}
 use Rattle.view_types.specs.declared.verdict.Decider.TheVariants.{Default}
 use Rattle.view_types.specs.declared.verdict.Verdict.{Verdict}
 use Rattle.view_types.specs.declared.verdict.Verdict.TheVariants.{Allowed, Denied, NotFound, NoWorkload}
-use Rattle.view_rules.specs.Inbound.{default_policy}
+use Rattle.view_rules.specs.Inbound.{default_policy, default_protocol, probe_paths, unless_routes}
 use Rattle.view_rules.specs.PodRows.{pod_held}
 use Rattle.view_rules.specs.Policies.{applies_to_server}
 use Rattle.view_rules.specs.Servers.{chosen_server}
@@ -27,7 +28,7 @@ use Rattle.route_match.specs.declared.best.Candidate.{Candidate}
 use Rattle.request_rules.specs.Admits.{admits}
 use Rattle.request_rules.specs.Laws.{IsUndecided, NoWorkloadWhereNoPod, NotFoundWhereNoMatchHolds}
 use Rattle.request_rules.specs.Meeting.{RoutesCount, routes_of}
-use Rattle.request_rules.specs.Verdicts.{applies_to_either, asks_routes, by_found, by_pod, by_policy, by_routes, by_server, decided, is_more_than_none, on_route, policy_admits, route_at, shape_of, verdict}
+use Rattle.request_rules.specs.Verdicts.{applies_to_either, asks_routes, by_found, by_paths, by_pod, by_policy, by_probe, by_routes, by_server, by_server_alone, decided, is_more_than_none, on_route, policy_admits, probe_place, route_at, shape_of, verdict}
 
 -- ---- a decision
 
@@ -39,13 +40,31 @@ module _ (config : Config) (held : ObjectMap) (request : Request) where
         | false ↦ λ is. subst IsUndecided (sym is) undecided
       ] is
 
-  found_decides : (policy : Policy) (found : Option Object) (v : Verdict) → by_found config request policy found ≡ v → IsUndecided v → ⊥
-  found_decides policy None v is undecided = policy_decides policy v is undecided
-  found_decides policy (Some o) v is undecided = subst IsUndecided (sym is) undecided
+  probe_decides : (policy : Policy) (place : Option ℕ) (v : Verdict) → by_probe config request policy place ≡ v → IsUndecided v → ⊥
+  probe_decides policy None v is undecided = policy_decides policy v is undecided
+  probe_decides policy (Some place) v is undecided = subst IsUndecided (sym is) undecided
 
-  it_decides : (policy : Policy) (counts : Object → Bool) (v : Verdict) → decided config held request policy counts ≡ v → IsUndecided v → ⊥
-  it_decides policy counts v is undecided =
-      found_decides policy (find (λ o. counts o && admits config held request.client request.tls o) (values held)) v is undecided
+  paths_decide : (protocol : Protocol) (policy : Policy) (paths : List (List ℕ)) (v : Verdict) → by_paths config request protocol policy paths ≡ v → IsUndecided v → ⊥
+  paths_decide protocol policy paths = probe_decides policy (probe_place config request protocol paths request.http)
+
+  -- it isn't undecided
+  abbrev Decides : Verdict → Type 0
+  Decides otherwise = (v : Verdict) → otherwise ≡ v → IsUndecided v → ⊥
+
+  found_decides : (otherwise : Verdict) → Decides otherwise → (found : Option Object) → Decides (by_found otherwise found)
+  found_decides otherwise decides None v is undecided = decides v is undecided
+  found_decides otherwise decides (Some o) v is undecided = subst IsUndecided (sym is) undecided
+
+  it_decides : (otherwise : Verdict) → Decides otherwise → (counts : Object → Bool) → Decides (decided config held request otherwise counts)
+  it_decides otherwise decides counts = found_decides otherwise decides (find (λ o. counts o && admits config held request.client request.tls o) (values held))
+
+  route_decides : (server : ServerSpec) (route : Route) → Decides (on_route config held request server (Some route))
+  route_decides server route = it_decides (by_policy config request server.policy) (policy_decides server.policy) (applies_to_either held server route)
+
+  alone_decides : (pod : Pod) (server : ServerSpec) (routes : List Route) → Decides (by_server_alone config held request pod server routes)
+  alone_decides pod server routes =
+      let paths = unless_routes routes (probe_paths pod request.port) in
+      it_decides (by_paths config request server.protocol server.policy paths) (paths_decide server.protocol server.policy paths) (applies_to_server held server)
 
 -- ---- the best match
 
@@ -98,26 +117,27 @@ module _ (config : Config) (held : ObjectMap) (pat : Pat) (request : Request) wh
 
     found_none : (server : ServerSpec) (route : Option Route) (v : Verdict) → on_route config held request server route ≡ v → IsUndecided v → (route ≡ None) × (v ≡ NotFound)
     found_none server None v is undecided = (refl, sym is)
-    found_none server (Some route) v is undecided = absurd (it_decides config held request server.policy (applies_to_either held server route) v is undecided)
+    found_none server (Some route) v is undecided = absurd (route_decides config held request server route v is undecided)
 
     searched : (server : ServerSpec) → chosen_server held request.ns pod request.port ≡ Some server → (http : Option HttpRequest) → request.http ≡ http → (v : Verdict)
-        → by_routes config held pat request server (routes_of held server) http ≡ v → IsUndecided v → Searched × (v ≡ NotFound)
-    searched server server_is None http_is v is undecided = absurd (it_decides config held request server.policy (applies_to_server held server) v is undecided)
+        → by_routes config held pat request pod server (routes_of held server) http ≡ v → IsUndecided v → Searched × (v ≡ NotFound)
+    searched server server_is None http_is v is undecided = absurd (alone_decides config held request pod server (routes_of held server) v is undecided)
     searched server server_is (Some http) http_is v is undecided =
         let some = is_more_than_none (routes_of held server) in
         let route = route_at (routes_of held server) (best pat http (map shape_of (routes_of held server))) in
         elim (some && asks_routes server.protocol) as
         (λ b. (some && asks_routes server.protocol) ≡ b
-        → (if b then on_route config held request server route else decided config held request server.policy (applies_to_server held server)) ≡ v → Searched × (v ≡ NotFound)) [
+        → (if b then on_route config held request server route else by_server_alone config held request pod server (routes_of held server)) ≡ v → Searched × (v ≡ NotFound)) [
           | true ↦ λ ask is.
               let both = and_parts some (asks_routes server.protocol) ask in
               let none = found_none server route v is undecided in
               ((record { pod = pod; pod_is = pod_is; server = server; server_is = server_is; has_routes = both.0; protocol_asks = both.1; http = http; http_is = http_is }, none.0), none.1)
-          | false ↦ λ ask is. absurd (it_decides config held request server.policy (applies_to_server held server) v is undecided)
+          | false ↦ λ ask is. absurd (alone_decides config held request pod server (routes_of held server) v is undecided)
         ] refl is
 
     at_server : (server : Option ServerSpec) → chosen_server held request.ns pod request.port ≡ server → (v : Verdict) → by_server config held pat request pod server ≡ v → IsUndecided v → Searched × (v ≡ NotFound)
-    at_server None server_is v is undecided = absurd (policy_decides config held request (default_policy config pod) v is undecided)
+    at_server None server_is v is undecided =
+        absurd (paths_decide config held request (default_protocol pod request.port) (default_policy config pod) (probe_paths pod request.port) v is undecided)
     at_server (Some server) server_is v is undecided = searched server server_is request.http refl v is undecided
 
   at_pod : (pod : Option Pod) → pod_held held (Some (request.ns, request.pod)) ≡ pod → (v : Verdict) → by_pod config held pat request pod ≡ v → v ≡ NotFound
@@ -131,9 +151,9 @@ module _ (config : Config) (held : ObjectMap) (pat : Pat) (request : Request) wh
   counted counts =
       ap (by_pod config held pat request) counts.pod_is
       ∙ ap (by_server config held pat request counts.pod) counts.server_is
-      ∙ ap (by_routes config held pat request counts.server (routes_of held counts.server)) counts.http_is
+      ∙ ap (by_routes config held pat request counts.pod counts.server (routes_of held counts.server)) counts.http_is
       ∙ ap (λ b. if b then on_route config held request counts.server (route_at (routes_of held counts.server) (best pat counts.http (map shape_of (routes_of held counts.server))))
-      else decided config held request counts.server.policy (applies_to_server held counts.server))
+      else by_server_alone config held request counts.pod counts.server (routes_of held counts.server))
       (and_from (is_more_than_none (routes_of held counts.server)) (asks_routes counts.server.protocol) counts.has_routes counts.protocol_asks)
 
   no_pod : (pod : Option Pod) → pod_held held (Some (request.ns, request.pod)) ≡ pod → by_pod config held pat request pod ≡ NoWorkload → pod ≡ None

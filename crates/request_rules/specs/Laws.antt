@@ -1,7 +1,8 @@
 -- What holds of verdicts.
-use Rattle.std.specs.Prelude.{◌≡◌, ◌≢◌, ◌↔◌, ◌&&◌, Bool, true, false, if◌then◌else◌, Option, Some, None, find, map}
+use Rattle.std.specs.Prelude.{◌≡◌, ◌≢◌, ◌↔◌, ◌&&◌, ℕ, Bool, true, false, if◌then◌else◌, List, [], Option, Some, None, codes, find, map}
 use Rattle.std.specs.Bool.{Decides}
 use Rattle.std.specs.FinMap.{get}
+use Rattle.std.specs.List.{slice_get}
 use Rattle.std.specs.declared.cmp.Ordering.TheVariants.{Greater}
 use Rattle.mesh_base.specs.KeyOrder.{key_cmp}
 use Rattle.net_cidr.specs.Network.{BlockHolds}
@@ -13,16 +14,17 @@ use Rattle.view_types.specs.declared.config.Config.{Config}
 use Rattle.view_types.specs.declared.object.Object.{Object}
 use Rattle.view_types.specs.declared.pod.Pod.{Pod}
 use Rattle.view_types.specs.declared.policy.Policy.{Policy}
+use Rattle.view_types.specs.declared.policy.Protocol.{Protocol}
 use Rattle.view_types.specs.declared.request.ClientTls.{ClientTls}
 use Rattle.view_types.specs.declared.request.HttpRequest.{HttpRequest}
 use Rattle.view_types.specs.declared.request.Request.{Request}
 use Rattle.view_types.specs.declared.route.Route.{Route}
 use Rattle.view_types.specs.declared.server.ServerSpec.{ServerSpec}
 use Rattle.view_types.specs.declared.server_view.AuthzRow.{AuthzRow}
-use Rattle.view_types.specs.declared.verdict.Decider.TheVariants.{Authz, Default}
+use Rattle.view_types.specs.declared.verdict.Decider.TheVariants.{Authz, Default, Probe}
 use Rattle.view_types.specs.declared.verdict.Verdict.{Verdict}
 use Rattle.view_types.specs.declared.verdict.Verdict.TheVariants.{Allowed, Denied, NotFound, NoWorkload}
-use Rattle.view_rules.specs.Inbound.{default_policy, inbound_routes}
+use Rattle.view_rules.specs.Inbound.{default_policy, default_protocol, inbound_routes, probe_paths, unless_routes}
 use Rattle.view_rules.specs.PodRows.{pod_held}
 use Rattle.view_rules.specs.Policies.{applies_to_server, authz_row, authz_rows}
 use Rattle.view_rules.specs.Servers.{chosen_server}
@@ -31,7 +33,7 @@ use Rattle.route_match.specs.declared.best.Candidate.{Candidate}
 use Rattle.request_rules.specs.Admits.{admits, row_admits}
 use Rattle.request_rules.specs.Meeting.{RoutesCount, routes_of}
 use Rattle.request_rules.specs.Networks.{block_holds}
-use Rattle.request_rules.specs.Verdicts.{applies_to_either, asks_routes, decider_of, is_more_than_none, policy_admits, route_at, shape_of, verdict}
+use Rattle.request_rules.specs.Verdicts.{applies_to_either, asks_routes, decider_of, is_in_cluster, is_more_than_none, policy_admits, route_at, shape_of, verdict}
 
 abbrev pub BlockHoldsDecides : Type 0
 BlockHoldsDecides = (block : Block) (ip : Ip) → Decides (block_holds ip block) (BlockHolds block ip)
@@ -72,30 +74,34 @@ RowsShowTheirMatches = (config : Config) (held : ObjectMap) (server : ServerSpec
 
 -- ---- who decides
 
--- what is in force for a request: the policy, and which authorizations count
+-- what is in force for a request: the protocol and the policy, which authorizations count, and the paths of the probes that do
 pub record InForce : Type 0 where
+  pub protocol : Protocol
   pub policy : Policy
   pub counts : Object → Bool
+  pub paths : List (List ℕ)
 
 abbrev pub on_route : ObjectMap → ServerSpec → Option Route → Option InForce
 on_route held server None = None
-on_route held server (Some route) = Some record { policy = server.policy; counts = applies_to_either held server route }
+on_route held server (Some route) = Some record { protocol = server.protocol; policy = server.policy; counts = applies_to_either held server route; paths = [] }
 
-abbrev pub on_server : ObjectMap → ServerSpec → Option InForce
-on_server held server = Some record { policy = server.policy; counts = applies_to_server held server }
+abbrev pub on_server : ObjectMap → Pod → ℕ → ServerSpec → Option InForce
+on_server held pod port server =
+    Some record { protocol = server.protocol; policy = server.policy; counts = applies_to_server held server; paths = unless_routes (routes_of held server) (probe_paths pod port) }
 
 -- the Server's, and those of the route of the best match where routes count
-abbrev pub at_server : ObjectMap → Pat → ServerSpec → Option HttpRequest → Option InForce
-at_server held pat server None = on_server held server
-at_server held pat server (Some http) =
+abbrev pub at_server : ObjectMap → Pat → Pod → ℕ → ServerSpec → Option HttpRequest → Option InForce
+at_server held pat pod port server None = on_server held pod port server
+at_server held pat pod port server (Some http) =
     if is_more_than_none (routes_of held server) && asks_routes server.protocol
     then on_route held server (route_at (routes_of held server) (best pat http (map shape_of (routes_of held server))))
-    else on_server held server
+    else on_server held pod port server
 
 -- without a Server no authorization counts
 abbrev pub at_port : Config → ObjectMap → Pat → Request → Pod → Option ServerSpec → Option InForce
-at_port config held pat request pod None = Some record { policy = default_policy config pod; counts = λ o. false }
-at_port config held pat request pod (Some server) = at_server held pat server request.http
+at_port config held pat request pod None =
+    Some record { protocol = default_protocol pod request.port; policy = default_policy config pod; counts = λ o. false; paths = probe_paths pod request.port }
+at_port config held pat request pod (Some server) = at_server held pat pod request.port server request.http
 
 abbrev pub at_pod : Config → ObjectMap → Pat → Request → Option Pod → Option InForce
 at_pod config held pat request None = None
@@ -107,16 +113,36 @@ in_force config held pat request = at_pod config held pat request (pod_held held
 abbrev pub Counting : Config → ObjectMap → Request → InForce → Object → Type 0
 Counting config held request force = IsAdmitting config held force.counts request.client request.tls
 
--- An allowed client is admitted by the authorization that is named, the least of those that count and admit it, or by the policy
--- that is named, and then by none that counts. A denied one is admitted neither by the policy nor by any that counts.
+-- the request is a GET of the path at this place, from the configured networks, to a port with a protocol by which requests are told apart
+pub record IsProbe (config : Config) (request : Request) (force : InForce) (place : ℕ) : Type 0 where
+  pub http : HttpRequest
+  pub http_is : request.http ≡ Some http
+  pub method : http.method ≡ codes "GET"
+  pub protocol_asks : asks_routes force.protocol ≡ true
+  pub near : is_in_cluster config request.client ≡ true
+  pub path : slice_get force.paths place ≡ Some http.path
+
+-- no authorization that counts admits the client
+abbrev pub NoneAdmits : Config → ObjectMap → Request → InForce → Type 0
+NoneAdmits config held request force = (o : Object) → Counting config held request force o → ⊥
+
+-- nor is the request a probe's
+pub record IsLeftToPolicy (config : Config) (held : ObjectMap) (request : Request) (force : InForce) : Type 0 where
+  pub none_admits : NoneAdmits config held request force
+  pub no_probe : (place : ℕ) → IsProbe config request force place → ⊥
+
+-- An allowed client is admitted by the authorization that is named, the least of those that count and admit it; or by none that
+-- counts, and then by the probe that is named, or by the policy that is named. A denied one is admitted by none of these.
 abbrev pub IsDecidedBy : Config → ObjectMap → Request → InForce → Verdict → Type 0
 IsDecidedBy config held request force (Allowed (Authz kind name)) =
     (o : Object) × IsLeastObject (Counting config held request force) o × (decider_of o ≡ Authz kind name)
+IsDecidedBy config held request force (Allowed (Probe place)) = IsProbe config request force place × NoneAdmits config held request force
 IsDecidedBy config held request force (Allowed (Default policy)) =
-    (policy ≡ force.policy) × (policy_admits config request.client request.tls policy ≡ true) × ((o : Object) → Counting config held request force o → ⊥)
+    (policy ≡ force.policy) × (policy_admits config request.client request.tls policy ≡ true) × IsLeftToPolicy config held request force
 IsDecidedBy config held request force (Denied (Default policy)) =
-    (policy ≡ force.policy) × (policy_admits config request.client request.tls policy ≡ false) × ((o : Object) → Counting config held request force o → ⊥)
+    (policy ≡ force.policy) × (policy_admits config request.client request.tls policy ≡ false) × IsLeftToPolicy config held request force
 IsDecidedBy config held request force (Denied (Authz kind name)) = ⊥
+IsDecidedBy config held request force (Denied (Probe place)) = ⊥
 IsDecidedBy config held request force NotFound = ⊥
 IsDecidedBy config held request force NoWorkload = ⊥
 

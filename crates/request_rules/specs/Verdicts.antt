@@ -1,7 +1,8 @@
 -- What comes of a request, over the objects held: the written policy's verdict, and who decided.
-use Rattle.std.specs.Prelude.{◌&&◌, ◌||◌, Bool, true, false, if◌then◌else◌, List, [], ◌∷◌, Option, Some, None, find, map}
+use Rattle.std.specs.Prelude.{◌&&◌, ◌||◌, ℕ, Bool, true, false, if◌then◌else◌, List, [], ◌∷◌, Option, Some, None, codes, find, map, position}
 use Rattle.std.specs.FinMap.{values}
 use Rattle.std.specs.List.{list_any, slice_get}
+use Rattle.std.specs.Str.{bytes_eq}
 use Rattle.mesh_base.specs.declared.key.Kind.{Kind}
 use Rattle.mesh_base.specs.declared.key.Kind.TheVariants as kind
 use Rattle.net_cidr.specs.declared.ip.Ip.{Ip}
@@ -22,11 +23,11 @@ use Rattle.view_types.specs.declared.server.ServerSpec.{ServerSpec}
 use Rattle.view_types.specs.declared.server_view.AuthzKind.{AuthzKind}
 use Rattle.view_types.specs.declared.server_view.AuthzKind.TheVariants.{ServerAuthorization, AuthorizationPolicy}
 use Rattle.view_types.specs.declared.verdict.Decider.{Decider}
-use Rattle.view_types.specs.declared.verdict.Decider.TheVariants.{Authz, Default}
+use Rattle.view_types.specs.declared.verdict.Decider.TheVariants.{Authz, Default, Probe}
 use Rattle.view_types.specs.declared.verdict.Verdict.{Verdict}
 use Rattle.view_types.specs.declared.verdict.Verdict.TheVariants.{Allowed, Denied, NotFound, NoWorkload}
 use Rattle.request_rules.specs.Admits.{admits}
-use Rattle.view_rules.specs.Inbound.{default_policy}
+use Rattle.view_rules.specs.Inbound.{default_policy, default_protocol, probe_paths, unless_routes}
 use Rattle.route_match.specs.Matching.{Pat, Shape, best}
 use Rattle.route_match.specs.declared.best.Candidate.{Candidate}
 use Rattle.view_rules.specs.PodRows.{pod_held}
@@ -64,14 +65,15 @@ authz_kind_of _ = AuthorizationPolicy
 abbrev pub decider_of : Object → Decider
 decider_of o = Authz (authz_kind_of (kind_of o)) (meta_of o).name
 
-abbrev pub by_found : Config → Request → Policy → Option Object → Verdict
-by_found config request policy None = by_policy config request policy
-by_found config request policy (Some o) = Allowed (decider_of o)
+abbrev pub by_found : Verdict → Option Object → Verdict
+by_found otherwise None = otherwise
+by_found otherwise (Some o) = Allowed (decider_of o)
 
--- Objects stand by kind, namespace and name, so that the first of a namespace is the least.
-abbrev pub decided : Config → ObjectMap → Request → Policy → (Object → Bool) → Verdict
-decided config held request policy applies =
-    by_found config request policy (find (λ o. applies o && admits config held request.client request.tls o) (values held))
+-- Objects stand by kind, namespace and name, so that the first of a namespace is the least. Where none admits the client, something
+-- else decides.
+abbrev pub decided : Config → ObjectMap → Request → Verdict → (Object → Bool) → Verdict
+decided config held request otherwise applies =
+    by_found otherwise (find (λ o. applies o && admits config held request.client request.tls o) (values held))
 
 -- ---- routes
 
@@ -93,25 +95,50 @@ applies_to_either held server route o = applies_to_server held server o || appli
 
 abbrev pub on_route : Config → ObjectMap → Request → ServerSpec → Option Route → Verdict
 on_route config held request server None = NotFound
-on_route config held request server (Some route) = decided config held request server.policy (applies_to_either held server route)
+on_route config held request server (Some route) = decided config held request (by_policy config request server.policy) (applies_to_either held server route)
 
 abbrev pub route_at : List Route → Option Candidate → Option Route
 route_at routes None = None
 route_at routes (Some found) = slice_get routes found.route
 
-abbrev pub by_routes : Config → ObjectMap → Pat → Request → ServerSpec → List Route → Option HttpRequest → Verdict
-by_routes config held pat request server routes None = decided config held request server.policy (applies_to_server held server)
-by_routes config held pat request server routes (Some http) =
-    if is_more_than_none routes && asks_routes server.protocol
-    then on_route config held request server (route_at routes (best pat http (map shape_of routes)))
-    else decided config held request server.policy (applies_to_server held server)
+-- ---- probes
+
+-- a GET from the configured networks, to a port with a protocol by which requests are told apart
+abbrev pub may_be_probe : Config → Request → Protocol → HttpRequest → Bool
+may_be_probe config request protocol http = bytes_eq http.method (codes "GET") && asks_routes protocol && is_in_cluster config request.client
+
+-- the place of the request's path among these paths, where it may be a probe's
+abbrev pub probe_place : Config → Request → Protocol → List (List ℕ) → Option HttpRequest → Option ℕ
+probe_place config request protocol paths None = None
+probe_place config request protocol paths (Some http) = if may_be_probe config request protocol http then position (bytes_eq http.path) paths else None
+
+abbrev pub by_probe : Config → Request → Policy → Option ℕ → Verdict
+by_probe config request policy None = by_policy config request policy
+by_probe config request policy (Some place) = Allowed (Probe place)
+
+-- what decides where no authorization does: a probe of one of these paths, else the policy
+abbrev pub by_paths : Config → Request → Protocol → Policy → List (List ℕ) → Verdict
+by_paths config request protocol policy paths = by_probe config request policy (probe_place config request protocol paths request.http)
 
 -- ---- the verdict
 
+-- by the authorizations of the Server, and by the probes of the Pod where the Server has no routes
+abbrev pub by_server_alone : Config → ObjectMap → Request → Pod → ServerSpec → List Route → Verdict
+by_server_alone config held request pod server routes =
+    decided config held request (by_paths config request server.protocol server.policy (unless_routes routes (probe_paths pod request.port))) (applies_to_server held server)
+
+abbrev pub by_routes : Config → ObjectMap → Pat → Request → Pod → ServerSpec → List Route → Option HttpRequest → Verdict
+by_routes config held pat request pod server routes None = by_server_alone config held request pod server routes
+by_routes config held pat request pod server routes (Some http) =
+    if is_more_than_none routes && asks_routes server.protocol
+    then on_route config held request server (route_at routes (best pat http (map shape_of routes)))
+    else by_server_alone config held request pod server routes
+
 abbrev pub by_server : Config → ObjectMap → Pat → Request → Pod → Option ServerSpec → Verdict
-by_server config held pat request pod None = by_policy config request (default_policy config pod)
+by_server config held pat request pod None =
+    by_paths config request (default_protocol pod request.port) (default_policy config pod) (probe_paths pod request.port)
 by_server config held pat request pod (Some server) =
-    by_routes config held pat request server (attached_routes held server.meta.ns (is_server_parent server.meta.name)) request.http
+    by_routes config held pat request pod server (attached_routes held server.meta.ns (is_server_parent server.meta.name)) request.http
 
 abbrev pub by_pod : Config → ObjectMap → Pat → Request → Option Pod → Verdict
 by_pod config held pat request None = NoWorkload

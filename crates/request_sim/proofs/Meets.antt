@@ -52,7 +52,7 @@ InView facts request (Present server) text rule item = NamesCounted facts reques
 
 module _ (shapes : RowsShowTheirMatches) (config : Config) (held : ObjectMap) (request : Request) (facts : PatternFacts) (text : List ℕ) (rule item : ℕ) where
   at_server : (pod : Pod) → pod_held held (Some (request.ns, request.pod)) ≡ Some pod → (server : ServerSpec) → chosen_server held request.ns pod request.port ≡ Some server
-      → NamesCounted facts request.ns (server_row config held server) request.http text rule item → MayMeet held facts request text rule item
+      → NamesCounted facts request.ns (server_row config held pod request.port server) request.http text rule item → MayMeet held facts request text rule item
   at_server pod pod_is server server_is counted =
       let names = counted.names in
       let routes = routes_of held server in

@@ -3,7 +3,6 @@ use Rattle.std.specs.Prelude.{◌&&◌, Bool, true, false, if◌then◌else◌, 
 use Rattle.std.specs.List.{slice_get}
 use Rattle.std.specs.Ordering.{is_gt}
 use Rattle.view_types.specs.declared.config.Config.{Config}
-use Rattle.view_types.specs.declared.policy.Policy.{Policy}
 use Rattle.view_types.specs.declared.request.HttpRequest.{HttpRequest}
 use Rattle.view_types.specs.declared.request.Request.{Request}
 use Rattle.view_types.specs.declared.server_view.AuthzRow.{AuthzRow}
@@ -19,7 +18,7 @@ use Rattle.view_rules.specs.PolicyLaws.{row_cmp}
 use Rattle.route_match.specs.Matching.{Pat, best, row_shape}
 use Rattle.route_match.specs.declared.best.Candidate.{Candidate}
 use Rattle.request_rules.specs.Admits.{row_admits}
-use Rattle.request_rules.specs.Verdicts.{asks_routes, by_policy}
+use Rattle.request_rules.specs.Verdicts.{asks_routes, by_paths, by_policy}
 
 abbrev pub row_decider : AuthzRow → Decider
 row_decider row = Authz row.kind row.name
@@ -34,19 +33,20 @@ lesser None other = other
 lesser (Some row) None = Some row
 lesser (Some row) (Some other) = Some (if is_gt (row_cmp (row.kind, row.name) (other.kind, other.name)) then other else row)
 
-abbrev pub by_row : Config → Request → Policy → Option AuthzRow → Verdict
-by_row config request policy None = by_policy config request policy
-by_row config request policy (Some row) = Allowed (row_decider row)
+-- where no row admits the client, something else decides
+abbrev pub by_row : Verdict → Option AuthzRow → Verdict
+by_row otherwise None = otherwise
+by_row otherwise (Some row) = Allowed (row_decider row)
 
--- by the rows of the Server alone
+-- by the rows of the Server alone, then by the probes
 abbrev pub by_server : Config → Request → ServerRow → Verdict
-by_server config request server = by_row config request server.policy (first_admitting request server.authz)
+by_server config request server = by_row (by_paths config request server.protocol server.policy server.probes) (first_admitting request server.authz)
 
 -- by those of the route, too
 abbrev pub by_route : Config → Request → ServerRow → Option RouteRow → Verdict
 by_route config request server None = NotFound
 by_route config request server (Some route) =
-    by_row config request server.policy (lesser (first_admitting request server.authz) (first_admitting request route.authz))
+    by_row (by_policy config request server.policy) (lesser (first_admitting request server.authz) (first_admitting request route.authz))
 
 abbrev pub route_found : List RouteRow → Option Candidate → Option RouteRow
 route_found routes None = None

@@ -15,13 +15,13 @@ use crate::fault::SimFault;
 use crate::laws::decisions_are_verdicts;
 use crate::matched::matched_route;
 use crate::policy::{asks_routes, by_policy};
+use crate::probe::by_paths;
 use mesh_base::memory::Memory;
 use mesh_outside::Patterns;
 use net_cidr::ip::Ip;
 use request_rules::laws::rows_show_their_matches;
 use std::alloc::Global;
 use view_types::config::Config;
-use view_types::policy::Policy;
 use view_types::request::{HttpRequest, Request};
 use view_types::server_view::{AuthzRow, RouteRow, ServerRow, ServerView};
 use view_types::verdict::{Decider, Verdict};
@@ -143,12 +143,14 @@ fn has_rows(routes: &[RouteRow]) -> bool
     }
 }
 
-// By the rows of the Server alone.
+// By the rows of the Server alone, then by the probes.
 fn by_server(config: &Config, request: &Request, server: &ServerRow) -> Result<Verdict, Memory>
     ensures { IfOk result (λ verdict. verdict ≡ by_server config.now request.now server.now) }
 {
     let row = first_admitting(server.authz.as_slice(), request);
-    by_row(config, request, server.policy, row)
+    let probes = server.probes.as_slice();
+    let otherwise = by_paths(config, request, server.protocol, server.policy, probes);
+    by_row(otherwise, row)
 }
 
 // By those of the route, too.
@@ -164,26 +166,21 @@ fn by_route(
     match route {
         Some(route) => {
             let row = first_of_either(server.authz.as_slice(), route.authz.as_slice(), request);
-            by_row(config, request, server.policy, row)
+            by_row(by_policy(config, request, server.policy), row)
         }
         None => Ok(Verdict::NotFound),
     }
 }
 
-fn by_row(
-    config: &Config,
-    request: &Request,
-    policy: Policy,
-    row: Option<&AuthzRow>,
-) -> Result<Verdict, Memory>
-    ensures { IfOk result (λ verdict.
-        verdict ≡ by_row config.now request.now policy (option_copied row.entry)) }
+// By this row, or by something else where there is none.
+fn by_row(otherwise: Verdict, row: Option<&AuthzRow>) -> Result<Verdict, Memory>
+    ensures { IfOk result (λ verdict. verdict ≡ by_row otherwise (option_copied row.entry)) }
 {
     match row {
         Some(row) => Ok(Verdict::Allowed(Decider::Authz {
             kind: row.kind,
             name: row.name.copy()?,
         })),
-        None => Ok(by_policy(config, request, policy)),
+        None => Ok(otherwise),
     }
 }

@@ -11,3 +11,4 @@ pub mod fault;
 pub mod laws;
 mod matched;
 mod policy;
+mod probe;

@@ -40,7 +40,8 @@ fn has_identity(tls: &ClientTls) -> bool
     matches!(tls, ClientTls::Identity(_))
 }
 
-fn is_in_cluster(config: &Config, ip: Ip) -> bool
+/// Whether one of the configured networks holds the address.
+pub(crate) fn is_in_cluster(config: &Config, ip: Ip) -> bool
     ensures { result ≡ is_in_cluster config.now ip }
 {
     any_net_holds(config.cluster_nets.as_slice(), ip)

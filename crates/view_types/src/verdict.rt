@@ -14,6 +14,9 @@ pub enum Decider {
     Authz { kind: AuthzKind, name: Text },
     /// The policy in force.
     Default(Policy),
+    /// A probe of the Pod, by the place of its path, from 0, among the distinct paths of the Pod's probes
+    /// on the port in byte order.
+    Probe { place: u64 },
 }
 
 /// What comes of a request to a port of a Pod.
@@ -36,6 +39,7 @@ impl Copied for Decider {
                 name: name.copy()?,
             }),
             Decider::Default(policy) => Ok(Decider::Default(*policy)),
+            Decider::Probe { place } => Ok(Decider::Probe { place: *place }),
         }
     }
 }
