@@ -14,13 +14,13 @@ use std::alloc::Global;
 use std::test::Fail;
 use view_types::config::Config;
 
-fn hub_of(alloc: Global, limits: Limits) -> Result<Hub, Fail>
+pub(crate) fn hub_of(alloc: Global, limits: Limits) -> Result<Hub, Fail>
     requires { 1 ≤ limits.frame_addrs }
 {
     Ok(Hub::new(alloc, Config::usual(alloc)?, limits)?)
 }
 
-fn line_of(word: &str) -> Result<&'static str, Fail> {
+pub(crate) fn line_of(word: &str) -> Result<&'static str, Fail> {
     for row in LINES.lines() {
         if let Some((name, line)) = row.split_once(": ") {
             if name == word {
@@ -46,8 +46,13 @@ fn due_text(alloc: Global, hub: &Hub) -> Result<String, Fail> {
     Ok(text)
 }
 
-// Who is due after a line, and before that whether it was refused.
-fn due_after(alloc: Global, config: &Config, hub: &mut Hub, line: &str) -> Result<String, Fail> {
+// Whether a line is refused, and how many objects it looks up.
+pub(crate) fn take(
+    alloc: Global,
+    config: &Config,
+    hub: &mut Hub,
+    line: &str,
+) -> Result<(bool, u64), Fail> {
     let mut writer = FrameWriter::new(alloc);
     let mut out = Vec::new(alloc);
     let mut live = List::new(alloc);
@@ -63,11 +68,17 @@ fn due_after(alloc: Global, config: &Config, hub: &mut Hub, line: &str) -> Resul
         &mut out,
         &mut steps,
     )?;
+    Ok((refusal.is_some(), steps.count()))
+}
+
+// Who is due after a line, and before that whether it was refused.
+fn due_after(alloc: Global, config: &Config, hub: &mut Hub, line: &str) -> Result<String, Fail> {
+    let (refused, _) = take(alloc, config, hub, line)?;
     let due = due_text(alloc, hub)?;
-    match refusal {
-        Some(_) => Ok(format!(in alloc; "refused {}", due.as_str())?),
-        None => Ok(due),
+    if refused {
+        return Ok(format!(in alloc; "refused {}", due.as_str())?);
     }
+    Ok(due)
 }
 
 // Whether each line of these names leads to the same.
