@@ -1,5 +1,6 @@
-ghost use Rattle.std.specs.Prelude.{◌≡◌, ◌≤◌, ◌<◌, ◌&&◌, ◌||◌, ◌==◌, ◌++◌, not, true, [], IfOk, IfErr, OnOk, drop, length, take};
-ghost use Rattle.std.specs.List.{filter};
+ghost use Rattle.std.specs.Prelude.{◌≡◌, ◌≤◌, ◌<◌, ◌&&◌, ◌||◌, ◌==◌, ◌++◌, not, true, [], IfOk, IfErr, OnOk, OnErr, drop, length, take};
+ghost use Rattle.std.specs.List.{filter, insert as list_insert};
+ghost use Rattle.std.specs.Vec.{vec_len};
 ghost use Rattle.mesh_base.specs.declared.key.ObjKey.{ObjKey};
 ghost use Rattle.mesh_base.specs.KeyOrder.{key_cmp};
 ghost use Rattle.mesh_base.specs.Places.{IsHit, IsGap};
@@ -63,9 +64,7 @@ impl KeyList {
     {
         match place(self.keys.as_slice(), &key) {
             Ok(_) => {}
-            Err(at) => {
-                self.keys.insert(at, key)?;
-            }
+            Err(at) => insert(&mut self.keys, at, key)?,
         }
         Ok(())
     }
@@ -127,6 +126,19 @@ impl KeyList {
         }
         Ok(())
     }
+}
+
+/// Inserts a key. Most lists have one key alone, so that an empty one gets room for one and no more.
+fn insert(keys: &mut Vec<ObjKey>, at: usize, key: ObjKey) -> Result<(), Memory>
+    requires { at ≤ vec_len keys.old }
+    ensures items { OnOk result (keys.new.items ≡ list_insert keys.old.items at key) }
+    ensures same { OnErr result (keys.new.items ≡ keys.old.items) }
+{
+    if keys.is_empty() {
+        keys.reserve_exact(1)?;
+    }
+    keys.insert(at, key)?;
+    Ok(())
 }
 
 /// Whether all keys of the first list come before those of the second.

@@ -1,11 +1,12 @@
 // The rows at each mark.
-ghost use Rattle.std.specs.Prelude.{◌≡◌, ℕ, true, false, IfOk, OnOk};
+ghost use Rattle.std.specs.Prelude.{◌≡◌, ◌&&◌, not, ℕ, true, false, IfOk, OnOk};
 ghost use Rattle.std.specs.BTreeSet.{contains};
 ghost use Rattle.std.specs.List.{list_any};
 ghost use Rattle.std.specs.List.Sorted.{IsStrictlySortedBy};
 ghost use Rattle.std.specs.Ordering.{eq_by_cmp, nat_cmp};
 ghost use Rattle.mark_graph.specs.RowMarks.{AddsRow, AllHaveRows, Gathers, OthersHaveRows, RemovesRow, has_mark, is_only_in, row_at};
 
+use crate::sorted_set::SortedSet;
 use mesh_base::copied::Copied;
 use mesh_base::list::List;
 use mesh_base::memory::Memory;
@@ -15,7 +16,7 @@ use std::collections::{BTreeMap, BTreeSet};
 /// Adds a row at a mark.
 pub fn put_one<M: Ord + Copied>(
     alloc: Global,
-    by: &mut BTreeMap<M, BTreeSet<u64>>,
+    by: &mut BTreeMap<M, SortedSet<u64>>,
     mark: &M,
     row: u64,
 ) -> Result<(), Memory>
@@ -27,7 +28,7 @@ pub fn put_one<M: Ord + Copied>(
             rows.insert(row)?;
         }
         None => {
-            let mut rows = BTreeSet::new(alloc);
+            let mut rows = SortedSet::new(alloc);
             rows.insert(row)?;
             by.insert(mark.copy(alloc)?, rows)?;
         }
@@ -36,7 +37,7 @@ pub fn put_one<M: Ord + Copied>(
 }
 
 /// Removes a row from a mark.
-pub fn take_one<M: Ord + Copied>(by: &mut BTreeMap<M, BTreeSet<u64>>, mark: &M, row: u64)
+pub fn take_one<M: Ord + Copied>(by: &mut BTreeMap<M, SortedSet<u64>>, mark: &M, row: u64)
     ensures taken { RemovesRow M.cmp (eq_by_cmp M.cmp mark.now) row by.old by.new }
     ensures kept { AllHaveRows M.cmp by.old → AllHaveRows M.cmp by.new }
 {
@@ -46,7 +47,7 @@ pub fn take_one<M: Ord + Copied>(by: &mut BTreeMap<M, BTreeSet<u64>>, mark: &M, 
 }
 
 /// Removes a row from a mark. Answers whether no row is left there.
-fn take_from<M: Ord + Copied>(by: &mut BTreeMap<M, BTreeSet<u64>>, mark: &M, row: u64) -> bool
+fn take_from<M: Ord + Copied>(by: &mut BTreeMap<M, SortedSet<u64>>, mark: &M, row: u64) -> bool
     ensures taken { RemovesRow M.cmp (eq_by_cmp M.cmp mark.now) row by.old by.new }
     ensures emptied { result ≡ true → (r : ℕ) → row_at M.cmp by.new mark.now r ≡ false }
     ensures kept { AllHaveRows M.cmp by.old → OthersHaveRows M.cmp mark.now by.new }
@@ -62,7 +63,7 @@ fn take_from<M: Ord + Copied>(by: &mut BTreeMap<M, BTreeSet<u64>>, mark: &M, row
 }
 
 /// Drops the set of a mark at which no row stands.
-fn let_go<M: Ord + Copied>(by: &mut BTreeMap<M, BTreeSet<u64>>, mark: &M)
+fn let_go<M: Ord + Copied>(by: &mut BTreeMap<M, SortedSet<u64>>, mark: &M)
     requires { (r : ℕ) → row_at M.cmp by.old mark.now r ≡ false }
     ensures same { (m : M) (r : ℕ) → row_at M.cmp by.new m r ≡ row_at M.cmp by.old m r }
     ensures kept { OthersHaveRows M.cmp mark.now by.old → AllHaveRows M.cmp by.new }
@@ -73,31 +74,65 @@ fn let_go<M: Ord + Copied>(by: &mut BTreeMap<M, BTreeSet<u64>>, mark: &M)
 /// Adds a row at each mark of the new set that the old one lacks.
 pub fn put_new<M: Ord + Copied>(
     alloc: Global,
-    by: &mut BTreeMap<M, BTreeSet<u64>>,
-    old: &BTreeSet<M>,
-    new: &BTreeSet<M>,
+    by: &mut BTreeMap<M, SortedSet<u64>>,
+    old: &SortedSet<M>,
+    new: &SortedSet<M>,
     row: u64,
 ) -> Result<(), Memory>
     ensures added { OnOk result (AddsRow M.cmp (is_only_in M.cmp new.now old.now) row by.old by.new) }
     ensures kept { AllHaveRows M.cmp by.old → OnOk result (AllHaveRows M.cmp by.new) }
 {
-    for mark in new.difference(old) {
-        put_one(alloc, by, mark, row)?;
+    for mark in new.as_slice() {
+        put_unless(alloc, by, mark, old, row)?;
     }
     Ok(())
 }
 
+/// Adds a row at a mark, unless the mark is in the set.
+fn put_unless<M: Ord + Copied>(
+    alloc: Global,
+    by: &mut BTreeMap<M, SortedSet<u64>>,
+    mark: &M,
+    set: &SortedSet<M>,
+    row: u64,
+) -> Result<(), Memory>
+    ensures added { OnOk result (AddsRow M.cmp
+        (λ m. eq_by_cmp M.cmp m mark.now && not (contains M.cmp set.now m)) row by.old by.new) }
+    ensures kept { AllHaveRows M.cmp by.old → OnOk result (AllHaveRows M.cmp by.new) }
+{
+    if set.contains(mark) {
+        return Ok(());
+    }
+    put_one(alloc, by, mark, row)
+}
+
 /// Removes a row from each mark of the old set that the new one lacks.
 pub fn take_old<M: Ord + Copied>(
-    by: &mut BTreeMap<M, BTreeSet<u64>>,
-    old: &BTreeSet<M>,
-    new: &BTreeSet<M>,
+    by: &mut BTreeMap<M, SortedSet<u64>>,
+    old: &SortedSet<M>,
+    new: &SortedSet<M>,
     row: u64,
 )
     ensures taken { RemovesRow M.cmp (is_only_in M.cmp old.now new.now) row by.old by.new }
     ensures kept { AllHaveRows M.cmp by.old → AllHaveRows M.cmp by.new }
 {
-    for mark in old.difference(new) {
+    for mark in old.as_slice() {
+        take_unless(by, mark, new, row);
+    }
+}
+
+/// Removes a row from a mark, unless the mark is in the set.
+fn take_unless<M: Ord + Copied>(
+    by: &mut BTreeMap<M, SortedSet<u64>>,
+    mark: &M,
+    set: &SortedSet<M>,
+    row: u64,
+)
+    ensures taken { RemovesRow M.cmp
+        (λ m. eq_by_cmp M.cmp m mark.now && not (contains M.cmp set.now m)) row by.old by.new }
+    ensures kept { AllHaveRows M.cmp by.old → AllHaveRows M.cmp by.new }
+{
+    if !set.contains(mark) {
         take_one(by, mark, row);
     }
 }
@@ -115,7 +150,7 @@ pub fn set_of<M: Ord + Copied>(alloc: Global, marks: List<M>) -> Result<BTreeSet
 
 /// Adds the rows at these marks to a set.
 pub fn gather_all<M: Ord + Copied>(
-    by: &BTreeMap<M, BTreeSet<u64>>,
+    by: &BTreeMap<M, SortedSet<u64>>,
     marks: &[M],
     set: &mut BTreeSet<u64>,
 ) -> Result<(), Memory>
@@ -129,7 +164,7 @@ pub fn gather_all<M: Ord + Copied>(
 }
 
 fn gather_one<M: Ord + Copied>(
-    by: &BTreeMap<M, BTreeSet<u64>>,
+    by: &BTreeMap<M, SortedSet<u64>>,
     mark: &M,
     set: &mut BTreeSet<u64>,
 ) -> Result<(), Memory>
@@ -141,10 +176,10 @@ fn gather_one<M: Ord + Copied>(
     }
 }
 
-fn add_rows(set: &mut BTreeSet<u64>, rows: &BTreeSet<u64>) -> Result<(), Memory>
+fn add_rows(set: &mut BTreeSet<u64>, rows: &SortedSet<u64>) -> Result<(), Memory>
     ensures { OnOk result (Gathers (contains nat_cmp rows.now) set.old set.new) }
 {
-    for row in rows.iter() {
+    for row in rows.as_slice() {
         set.insert(*row)?;
     }
     Ok(())

@@ -7,8 +7,9 @@ ghost use Rattle.std.specs.Ordering.{nat_cmp};
 ghost use Rattle.mark_graph.specs.Moves.{has_after};
 ghost use Rattle.mark_graph.specs.RowMarks.{Agree, AllHaveRows, MovesRow, Rewatches, has_mark, has_row, watches};
 
-use crate::by_mark::{gather_all, list_of, put_new, set_of, take_old};
+use crate::by_mark::{gather_all, list_of, put_new, take_old};
 use crate::moves::{MarkMoves, move_at_marks, move_in_set};
+use crate::sorted_set::SortedSet;
 use mesh_base::copied::Copied;
 use mesh_base::list::List;
 use mesh_base::memory::Memory;
@@ -18,8 +19,8 @@ use std::collections::{BTreeMap, BTreeSet};
 /// Rows, and the marks that each watches.
 #[derive(Drop)]
 pub struct Graph<M: Ord + Copied> {
-    by_mark: BTreeMap<M, BTreeSet<u64>>,
-    rows: BTreeMap<u64, BTreeSet<M>>,
+    by_mark: BTreeMap<M, SortedSet<u64>>,
+    rows: BTreeMap<u64, SortedSet<M>>,
     spent: bool,
     alloc: Global,
     ghost agree: { spent ≡ false → Agree M.cmp by_mark rows },
@@ -52,7 +53,7 @@ impl<M: Ord + Copied> Graph<M> {
             return Err(Memory);
         }
         self.spent = true;
-        let marks = set_of(self.alloc, marks)?;
+        let marks = SortedSet::of_list(marks);
         change_row(self.alloc, &mut self.by_mark, &mut self.rows, row, marks)?;
         self.spent = false;
         Ok(())
@@ -104,10 +105,10 @@ impl<M: Ord + Copied> Graph<M> {
 /// Lets the row watch these marks: it is moved at those marks alone that it doesn't watch both before and after.
 fn change_row<M: Ord + Copied>(
     alloc: Global,
-    by: &mut BTreeMap<M, BTreeSet<u64>>,
-    rows: &mut BTreeMap<u64, BTreeSet<M>>,
+    by: &mut BTreeMap<M, SortedSet<u64>>,
+    rows: &mut BTreeMap<u64, SortedSet<M>>,
     row: u64,
-    marks: BTreeSet<M>,
+    marks: SortedSet<M>,
 ) -> Result<(), Memory>
     ensures watched { OnOk result (Rewatches M.cmp (contains M.cmp marks) row rows.old rows.new) }
     ensures agree { Agree M.cmp by.old rows.old → OnOk result (Agree M.cmp by.new rows.new) }
@@ -122,8 +123,8 @@ fn change_row<M: Ord + Copied>(
 /// Lets the row watch some marks more, and some no more.
 fn move_row_marks<M: Ord + Copied>(
     alloc: Global,
-    by: &mut BTreeMap<M, BTreeSet<u64>>,
-    rows: &mut BTreeMap<u64, BTreeSet<M>>,
+    by: &mut BTreeMap<M, SortedSet<u64>>,
+    rows: &mut BTreeMap<u64, SortedSet<M>>,
     row: u64,
     moves: MarkMoves<M>,
 ) -> Result<(), Memory>
@@ -141,8 +142,8 @@ fn move_row_marks<M: Ord + Copied>(
 
 fn remove_row<M: Ord + Copied>(
     alloc: Global,
-    by: &mut BTreeMap<M, BTreeSet<u64>>,
-    rows: &mut BTreeMap<u64, BTreeSet<M>>,
+    by: &mut BTreeMap<M, SortedSet<u64>>,
+    rows: &mut BTreeMap<u64, SortedSet<M>>,
     row: u64,
 )
     ensures watched { Rewatches M.cmp (λ m. false) row rows.old rows.new }
@@ -150,31 +151,31 @@ fn remove_row<M: Ord + Copied>(
     ensures kept { AllHaveRows M.cmp by.old → AllHaveRows M.cmp by.new }
 {
     if let Some(marks) = rows.remove(&row) {
-        take_old(by, &marks, &BTreeSet::new(alloc), row);
+        take_old(by, &marks, &SortedSet::new(alloc), row);
     }
 }
 
 /// The marks that the row watches. It watches none then.
 fn take_marks<M: Ord + Copied>(
     alloc: Global,
-    rows: &mut BTreeMap<u64, BTreeSet<M>>,
+    rows: &mut BTreeMap<u64, SortedSet<M>>,
     row: u64,
-) -> BTreeSet<M>
+) -> SortedSet<M>
     ensures marks { (m : _) → contains M.cmp result m ≡ watches M.cmp rows.old row m }
     ensures watched { Rewatches M.cmp (λ m. false) row rows.old rows.new }
 {
     match rows.remove(&row) {
         Some(marks) => marks,
-        None => BTreeSet::new(alloc),
+        None => SortedSet::new(alloc),
     }
 }
 
 /// Moves the row from the old marks, at which it stands, to the new ones.
 fn move_row<M: Ord + Copied>(
     alloc: Global,
-    by: &mut BTreeMap<M, BTreeSet<u64>>,
-    old: &BTreeSet<M>,
-    new: &BTreeSet<M>,
+    by: &mut BTreeMap<M, SortedSet<u64>>,
+    old: &SortedSet<M>,
+    new: &SortedSet<M>,
     row: u64,
 ) -> Result<(), Memory>
     ensures moved { OnOk result (MovesRow M.cmp old.now new.now row by.old by.new) }

@@ -6,3 +6,4 @@
 pub mod by_mark;
 pub mod graph;
 pub mod moves;
+pub mod sorted_set;

@@ -5,11 +5,12 @@ ghost use Rattle.mark_graph.specs.RowMarks.{AddsRow, AllHaveRows, RemovesRow, ha
 ghost use Rattle.mark_graph.specs.Moves.{has_after};
 
 use crate::by_mark::{put_one, take_one};
+use crate::sorted_set::SortedSet;
 use mesh_base::copied::Copied;
 use mesh_base::list::List;
 use mesh_base::memory::Memory;
 use std::alloc::Global;
-use std::collections::{BTreeMap, BTreeSet};
+use std::collections::BTreeMap;
 
 /// The marks that a row watches no more, and those that it watches from now on. One that is among both is watched.
 #[derive(Debug, Drop)]
@@ -21,7 +22,7 @@ pub struct MarkMoves<M> {
 /// Moves the row at these marks alone.
 pub fn move_at_marks<M: Ord + Copied>(
     alloc: Global,
-    by: &mut BTreeMap<M, BTreeSet<u64>>,
+    by: &mut BTreeMap<M, SortedSet<u64>>,
     moves: &MarkMoves<M>,
     row: u64,
 ) -> Result<(), Memory>
@@ -35,7 +36,7 @@ pub fn move_at_marks<M: Ord + Copied>(
 }
 
 /// Removes a row from each of these marks.
-fn take_all<M: Ord + Copied>(by: &mut BTreeMap<M, BTreeSet<u64>>, marks: &[M], row: u64)
+fn take_all<M: Ord + Copied>(by: &mut BTreeMap<M, SortedSet<u64>>, marks: &[M], row: u64)
     ensures taken { RemovesRow M.cmp (has_mark M.cmp marks.now) row by.old by.new }
     ensures kept { AllHaveRows M.cmp by.old → AllHaveRows M.cmp by.new }
 {
@@ -47,7 +48,7 @@ fn take_all<M: Ord + Copied>(by: &mut BTreeMap<M, BTreeSet<u64>>, marks: &[M], r
 /// Adds a row at each of these marks.
 fn put_all<M: Ord + Copied>(
     alloc: Global,
-    by: &mut BTreeMap<M, BTreeSet<u64>>,
+    by: &mut BTreeMap<M, SortedSet<u64>>,
     marks: &[M],
     row: u64,
 ) -> Result<(), Memory>
@@ -62,7 +63,7 @@ fn put_all<M: Ord + Copied>(
 
 /// Moves marks out of a set and into it.
 pub fn move_in_set<M: Ord + Copied>(
-    set: &mut BTreeSet<M>,
+    set: &mut SortedSet<M>,
     moves: MarkMoves<M>,
 ) -> Result<(), Memory>
     ensures { OnOk result ((m : M) → contains M.cmp set.new m
@@ -73,7 +74,7 @@ pub fn move_in_set<M: Ord + Copied>(
     insert_all(set, come)
 }
 
-fn remove_all<M: Ord + Copied>(set: &mut BTreeSet<M>, marks: &[M])
+fn remove_all<M: Ord + Copied>(set: &mut SortedSet<M>, marks: &[M])
     ensures { (m : M) → contains M.cmp set.new m
         ≡ (not (has_mark M.cmp marks.now m) && contains M.cmp set.old m) }
 {
@@ -82,7 +83,7 @@ fn remove_all<M: Ord + Copied>(set: &mut BTreeSet<M>, marks: &[M])
     }
 }
 
-fn insert_all<M: Ord + Copied>(set: &mut BTreeSet<M>, marks: List<M>) -> Result<(), Memory>
+fn insert_all<M: Ord + Copied>(set: &mut SortedSet<M>, marks: List<M>) -> Result<(), Memory>
     ensures { OnOk result ((m : M) → contains M.cmp set.new m
         ≡ (has_mark M.cmp marks m || contains M.cmp set.old m)) }
 {

@@ -13,7 +13,8 @@ ghost use Rattle.row_views.specs.Standing.{FollowCost};
 ghost use Rattle.row_sets.specs.Standing.{EntersWithin, Standing, any_met, keys_at, open_cost, row_if};
 
 use crate::used_keys::UsedKeys;
-use mark_graph::by_mark::{gather_all, list_of, set_of};
+use mark_graph::by_mark::{gather_all, list_of};
+use mark_graph::sorted_set::SortedSet;
 use mesh_base::copied::Copied;
 use mesh_base::list::List;
 use mesh_base::memory::Memory;
@@ -81,7 +82,7 @@ where
         ensures filter { I.filter self.new.used.index ≡ I.filter self.old.used.index }
         ensures kept { OnErr result (Keeps (keys_at self.old.by_id) (keys_at self.new.by_id)) }
     {
-        let new = set_of(self.alloc, keys.copy(self.alloc)?)?;
+        let new = SortedSet::of_list(keys.copy(self.alloc)?);
         self.used.put_all(store, keys.as_slice(), id, steps)?;
         self.used.take_others(keys_of(&self.by_id, id), &new, id);
         self.by_id.insert(id, keys)?;
@@ -99,8 +100,8 @@ where
         let Some(keys) = self.by_id.remove(&id) else {
             return;
         };
-        self.used
-            .take_others(keys.as_slice(), &BTreeSet::new(self.alloc), id);
+        let none = SortedSet::new(self.alloc);
+        self.used.take_others(keys.as_slice(), &none, id);
     }
 
     /// Brings the rows up to a change of the store. Gives the ids, ascending, that have a key whose row reads a mark of it.
@@ -166,7 +167,7 @@ fn keys_of<K>(by_id: &BTreeMap<u64, List<K>>, id: u64) -> &[K]
 // The ids of these keys, ascending.
 fn ids_at<K: Ord + Copied>(
     alloc: Global,
-    by_key: &BTreeMap<K, BTreeSet<u64>>,
+    by_key: &BTreeMap<K, SortedSet<u64>>,
     keys: &[K],
 ) -> Result<List<u64>, Memory>
     ensures ids { IfOk result (λ ids. (id : ℕ)

@@ -10,13 +10,14 @@ ghost use Rattle.row_views.specs.Ids.{OneMoreUnless, has_ids};
 ghost use Rattle.row_sets.specs.Standing.{EntersWithin, InUse, is_left_out, open_cost};
 
 use mark_graph::by_mark::{put_one, take_one};
+use mark_graph::sorted_set::SortedSet;
 use mesh_base::copied::Copied;
 use mesh_base::memory::Memory;
 use mesh_base::steps::Steps;
 use object_store::store::Store;
 use row_table::row_index::RowIndex;
 use std::alloc::Global;
-use std::collections::{BTreeMap, BTreeSet};
+use std::collections::BTreeMap;
 
 /// The keys of an index that have ids, each with its ids. Each is one user of the index.
 #[derive(Drop)]
@@ -26,7 +27,7 @@ where
 {
     pub(crate) index: I,
     /// The ids of each key.
-    pub(crate) by_key: BTreeMap<I::Key, BTreeSet<u64>>,
+    pub(crate) by_key: BTreeMap<I::Key, SortedSet<u64>>,
     alloc: Global,
 }
 
@@ -116,7 +117,7 @@ where
 
     /// Removes an id from each key of the old ones that isn't among the new. A key that has none then leaves the index. It
     /// allocates nothing.
-    pub(crate) fn take_others(&mut self, old: &[I::Key], new: &BTreeSet<I::Key>, id: u64)
+    pub(crate) fn take_others(&mut self, old: &[I::Key], new: &SortedSet<I::Key>, id: u64)
         ensures ids { RemovesRow I.Key.Ord.cmp (is_left_out I.Key.Ord.cmp old.now new.now) id
             self.old.by_key self.new.by_key }
         ensures in_use { (held : ObjectMap) → InUse I.Key.Ord.cmp I.users I.stands held
@@ -130,7 +131,7 @@ where
     }
 
     // Removes an id from a key, unless it is one of these.
-    fn take_unless(&mut self, key: &I::Key, kept: &BTreeSet<I::Key>, id: u64)
+    fn take_unless(&mut self, key: &I::Key, kept: &SortedSet<I::Key>, id: u64)
         ensures ids { RemovesRow I.Key.Ord.cmp (λ k. eq_by_cmp I.Key.Ord.cmp key.now k
             && not (contains I.Key.Ord.cmp kept.now k)) id self.old.by_key self.new.by_key }
         ensures in_use { (held : ObjectMap) → InUse I.Key.Ord.cmp I.users I.stands held

@@ -12,6 +12,7 @@ ghost use Rattle.row_views.specs.Ids.{Keeps, OneMoreUnless, SetsAt, has_ids, key
 ghost use Rattle.row_views.specs.Standing.{FollowCost, Standing, is_met};
 
 use mark_graph::by_mark::{gather_all, list_of, put_one, take_one};
+use mark_graph::sorted_set::SortedSet;
 use mesh_base::copied::Copied;
 use mesh_base::list::List;
 use mesh_base::memory::Memory;
@@ -32,7 +33,7 @@ where
     /// Each key that has ids is one user of its row.
     index: I,
     /// The ids of each key.
-    by_key: BTreeMap<I::Key, BTreeSet<u64>>,
+    by_key: BTreeMap<I::Key, SortedSet<u64>>,
     /// The key of each id.
     by_id: BTreeMap<u64, I::Key>,
     alloc: Global,
@@ -173,7 +174,7 @@ where
 // The ids of these keys, ascending.
 fn ids_at<K: Ord + Copied>(
     alloc: Global,
-    by_key: &BTreeMap<K, BTreeSet<u64>>,
+    by_key: &BTreeMap<K, SortedSet<u64>>,
     keys: &[K],
 ) -> Result<List<u64>, Memory>
     ensures ids { IfOk result (λ ids. (id : ℕ)

@@ -15,10 +15,10 @@ returns-clause-stands g c = λ st.
     let id = c.args.id in
     let keys = c.args.keys in
     let cmp = g.I.Key.Ord.cmp in
-    let set = c.in_ok-new.new in
+    let set = c.of_list-new.result in
     let mid = c.put_all.new.self in
     let after = c.take_others.new.self in
-    let has : (k : _) → contains cmp set k ≡ has_key cmp keys k = λ k. c.in_ok-new.ensures k ∙ ap (λ keys. has_key cmp keys k) c.in_ok-copy.ensures in
+    let has : (k : _) → contains cmp set k ≡ has_key cmp keys k = λ k. c.of_list-new.ensures k ∙ ap (λ keys. has_key cmp keys k) c.in_ok-copy.ensures in
     moved_stand cmp g.met.I.Key.Ord.total g.met.I.RowIndex.exact g.I.RowIndex.users g.I.RowIndex.stands c.args.store.now.objects self.used.index after.index self.used.by_key mid.by_key after.by_key self.by_id c.insert.new.self id keys set st has
     (subst (λ (ks : List g.row.I-Key.Denot). AddsRow cmp (has_key cmp ks) id self.used.by_key mid.by_key) c.as_slice.ensures c.in_ok-put_all.ensures.ids)
     (subst (λ (ks : List g.row.I-Key.Denot). RemovesRow cmp (is_left_out cmp ks set) id mid.by_key after.by_key) c.keys_of.ensures c.take_others.ensures.ids)

@@ -1,0 +1,132 @@
+// Sets of few items.
+ghost use Rattle.std.specs.Prelude.{◌≡◌, ◌<◌, ◌≤◌, ◌&&◌, ◌||◌, not, true, false, if◌then◌else◌, is_ok, length, IfErr, IfOk, OnOk};
+ghost use Rattle.std.specs.BTreeSet.{btree_set_len, contains};
+ghost use Rattle.std.specs.List.{insert};
+ghost use Rattle.std.specs.List.Sorted.{IsStrictlySortedBy};
+ghost use Rattle.std.specs.Ordering.{eq_by_cmp};
+ghost use Rattle.mesh_base.specs.Places.{IsGap, IsHit};
+ghost use Rattle.mark_graph.specs.RowMarks.{has_mark};
+
+use mesh_base::list::List;
+use mesh_base::memory::Memory;
+use std::alloc::Global;
+use std::marker::Model;
+
+/// A set that is kept as a list in order, for sets of which most have few items. Contracts see it as they see a `BTreeSet`.
+#[derive(Drop)]
+pub struct SortedSet<T: Ord> {
+    items: Vec<T>,
+}
+
+impl<T: Ord> Model for SortedSet<T> {
+    ghost use Rattle.std.specs.Prelude.{List, refl};
+    ghost use Rattle.std.specs.BTreeSet.{BTreeSet};
+    ghost use Rattle.std.specs.Coded.{code_by, coded_list};
+    ghost use Rattle.std.specs.List.Sorted.{IsStrictlySortedBy};
+
+    ghost Value = { BTreeSet T };
+
+    ghost coded = { code_by (List T) (coded_list T.code) (λ s. s.keys)
+        (λ keys. record { keys = keys }) (λ s. refl) };
+
+    ghost view = { λ s. record { keys = s.items.items } };
+
+    ghost invariant = { λ s. IsStrictlySortedBy T.cmp s.items.items };
+}
+
+impl<T: Ord> SortedSet<T> {
+    pub fn new(alloc: Global) -> SortedSet<T>
+        ensures { (item : T) → contains T.cmp result item ≡ false }
+    {
+        SortedSet {
+            items: Vec::new(alloc),
+        }
+    }
+
+    /// The items of a list, each once.
+    pub fn of_list(list: List<T>) -> SortedSet<T>
+    where
+        T: Drop,
+        ensures { (item : T) → contains T.cmp result item ≡ has_mark T.cmp list item }
+    {
+        let mut items = list.into_vec();
+        items.sort_unstable();
+        items.dedup();
+        items.shrink_to_fit();
+        SortedSet { items }
+    }
+
+    /// The items in order.
+    pub fn as_slice(&self) -> &[T]
+        ensures { result.now ≡ self.now.keys }
+    {
+        self.items.as_slice()
+    }
+
+    pub fn is_empty(&self) -> bool
+        ensures none { result ≡ true → (item : T) → contains T.cmp self.now item ≡ false }
+        ensures some { result ≡ false → 0 < btree_set_len self.now }
+    {
+        self.items.is_empty()
+    }
+
+    pub fn contains(&self, item: &T) -> bool
+        ensures { result ≡ contains T.cmp self.now item.now }
+    {
+        place(self.items.as_slice(), item).is_ok()
+    }
+
+    /// Puts an item into the set. If an equal one is there, that one stays.
+    pub fn insert(&mut self, item: T) -> Result<(), Memory>
+    where
+        T: Drop,
+        ensures put { OnOk result ((other : T) → contains T.cmp self.new other
+            ≡ (eq_by_cmp T.cmp item other || contains T.cmp self.old other)) }
+        ensures filled { OnOk result (0 < btree_set_len self.new) }
+    {
+        match place(self.items.as_slice(), &item) {
+            Ok(_) => {}
+            Err(at) => {
+                put_at(&mut self.items, at, item)?;
+            }
+        }
+        Ok(())
+    }
+
+    /// Takes an item out of the set.
+    pub fn remove(&mut self, item: &T)
+    where
+        T: Drop,
+        ensures { (other : T) → contains T.cmp self.new other
+            ≡ (not (eq_by_cmp T.cmp item.now other) && contains T.cmp self.old other) }
+    {
+        match place(self.items.as_slice(), item) {
+            Ok(at) => {
+                let _item = self.items.remove(at);
+            }
+            Err(_) => {}
+        }
+    }
+}
+
+/// Puts an item at its place. The first one takes the room of one alone.
+fn put_at<T: Drop>(items: &mut Vec<T>, at: usize, item: T) -> Result<(), Memory>
+    requires { at ≤ length items.old.items }
+    ensures { items.new.items
+        ≡ (if is_ok result then insert items.old.items at item else items.old.items) }
+{
+    if items.is_empty() {
+        items.reserve_exact(1)?;
+    }
+    items.insert(at, item)?;
+    Ok(())
+}
+
+/// Where the item stands, or where it would go.
+fn place<T: Ord>(items: &[T], item: &T) -> Result<usize, usize>
+    requires { IsStrictlySortedBy T.cmp items.now }
+    ensures hit { IfOk result (IsHit (λ other. T.cmp other item.now) items.now) }
+    ensures gap { IfErr result (IsGap (λ other. T.cmp other item.now) items.now) }
+{
+    items.binary_search(item)
+}
