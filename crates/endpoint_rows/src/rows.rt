@@ -62,6 +62,7 @@ impl EndpointRows {
             → rows_of self.new.slices.by_slice k
             ≡ (if is_key k key then first_rows rows else rows_of self.old.slices.by_slice k)) }
         ensures view { self.new.view ≡ self.old.view }
+        ensures notes { self.new.notes ≡ self.old.notes }
     {
         let rows = RowList::of_first(rows)?;
         self.take_slice(&key)?;
@@ -76,6 +77,7 @@ impl EndpointRows {
             → rows_of self.new.slices.by_slice k
             ≡ (if is_key k key.now then [] else rows_of self.old.slices.by_slice k)) }
         ensures view { self.new.view ≡ self.old.view }
+        ensures notes { self.new.notes ≡ self.old.notes }
     {
         let rows = self.slices.take(key);
         add_pairs(&mut self.touched, rows.as_slice())
@@ -87,6 +89,7 @@ impl EndpointRows {
         ensures none { OnOk result ((k : ObjKey) → rows_of self.new.slices.by_slice k ≡ []) }
         ensures view { OnOk result (self.new.view
             ≡ record { exists = exists; rows = self.old.view.rows }) }
+        ensures notes { self.new.notes ≡ self.old.notes }
     {
         self.slices = Slices::new(self.alloc);
         self.view.exists = exists;

@@ -1,5 +1,5 @@
 // The Servers that match a port, found among all of the namespace, or brought up to a change.
-ghost use Rattle.std.specs.Prelude.{◌≡◌, ◌≤◌, ◌+◌, ◌||◌, ◌↔◌, false, if◌then◌else◌, IfOk, IfSome, OnOk, IsTrue, Some, count_by, length};
+ghost use Rattle.std.specs.Prelude.{◌≡◌, ◌≤◌, ◌+◌, ◌||◌, ◌↔◌, false, if◌then◌else◌, IfOk, IfSome, OnOk, IsTrue, Some, count_by, is_some, length};
 ghost use Rattle.std.specs.FinMap.{get};
 ghost use Rattle.std.specs.Option.{option_copied};
 ghost use Rattle.key_lists.specs.Keys.{has_key, is_key};
@@ -9,7 +9,7 @@ ghost use Rattle.view_rules.specs.PolicyLaws.{server_key};
 ghost use Rattle.view_rules.specs.Servers.{server_found};
 ghost use Rattle.mark_rules.specs.Marks.{has_mark, same_mark};
 ghost use Rattle.mark_rules.specs.Reads.{count_at};
-ghost use Rattle.server_index.specs.Matches.{AreRight, AreUp, BringsUp, names_server, terms_of};
+ghost use Rattle.server_index.specs.Matches.{AreRight, AreUp, BringsUp, names_server, noted_at, terms_of};
 
 use crate::matching::Matching;
 use crate::notes::{ServerNotes, server_at};
@@ -193,6 +193,9 @@ fn follow_key<L>(
     ensures notes { OnOk result (AreRight port.now.from.now.store.now.objects notes.new) }
     ensures steps { steps.new ≤ steps.old
         + (if names_server port.now.key.now.ns (Obj key.now) then 1 else 0) }
+    ensures once { IsTrue (is_some (noted_at notes.old key.now)) → steps.new ≡ steps.old }
+    ensures noted { OnOk result (key.now ≡ server_key port.now.key.now.ns key.now.name
+        → IsTrue (is_some (noted_at notes.new key.now))) }
 {
     if !is_server_in(key, &port.key.ns) {
         return Ok(false);
