@@ -32,8 +32,8 @@ pub struct MemLinks {
     pendings: u64,
     play: Play,
     alloc: Global,
-    ghost room: { vec_len trace + vec_len play.open ≤ vec_capacity trace },
-    ghost told: { Tells trace.items play.last (numbers_of play.open.items) },
+    ghost room: { vec_len trace + vec_len play.links ≤ vec_capacity trace },
+    ghost told: { Tells trace.items play.last (numbers_of play.links.items) },
 }
 
 fn copy(alloc: Global, bytes: &[u8]) -> Result<List<u8>, Memory>
@@ -109,7 +109,7 @@ impl MemLinks {
 
     // Makes room for one call more, and for the closes of so many new links.
     fn make_room(&mut self, new_links: usize) -> Result<(), Memory>
-        ensures room { OnOk result (vec_len self.new.trace + vec_len self.new.play.open + new_links + 1
+        ensures room { OnOk result (vec_len self.new.trace + vec_len self.new.play.links + new_links + 1
             ≤ vec_capacity self.new.trace) }
         ensures trace { self.new.trace.items ≡ self.old.trace.items }
         ensures play { self.new.play ≡ self.old.play }

@@ -165,28 +165,28 @@ pub(crate) struct Play {
     /// The greatest number that has arrived, or 0.
     pub(crate) last: u32,
     /// The open links, in the order of their numbers.
-    pub(crate) open: Vec<OpenLink>,
+    pub(crate) links: Vec<OpenLink>,
 }
 
 impl Play {
     pub(crate) fn new(alloc: Global, may_fail: bool) -> Play
         ensures may_fail { result.may_fail ≡ may_fail }
         ensures last { result.last ≡ 0 }
-        ensures open { result.open.items ≡ [] }
+        ensures open_links { result.links.items ≡ [] }
     {
         Play {
             may_fail,
             place: 0,
             last: 0,
-            open: Vec::new(alloc),
+            links: Vec::new(alloc),
         }
     }
 
     /// The number of open links.
     pub(crate) fn open_count(&self) -> usize
-        ensures { result ≡ vec_len self.now.open }
+        ensures { result ≡ vec_len self.now.links }
     {
-        self.open.len()
+        self.links.len()
     }
 
     /// The most events that the next poll can show.
@@ -198,22 +198,22 @@ impl Play {
 
     /// Makes room for the links and the events of the next poll.
     pub(crate) fn make_room(&mut self, alloc: Global, most: usize) -> Result<Shown, AllocError>
-        ensures open { self.new.open.items ≡ self.old.open.items }
+        ensures open_links { self.new.links.items ≡ self.old.links.items }
         ensures last { self.new.last ≡ self.old.last }
         ensures may_fail { self.new.may_fail ≡ self.old.may_fail }
-        ensures links { OnOk result (vec_len self.new.open + most ≤ vec_capacity self.new.open) }
+        ensures links { OnOk result (vec_len self.new.links + most ≤ vec_capacity self.new.links) }
         ensures events { IfOk result (λ shown. shown.events.items ≡ []) }
         ensures told { IfOk result (λ shown. shown.told.items ≡ []) }
         ensures room { IfOk result (λ shown. most ≤ vec_capacity shown.events) }
         ensures told_room { IfOk result (λ shown. most ≤ vec_capacity shown.told) }
     {
-        self.open.reserve(most)?;
+        self.links.reserve(most)?;
         Shown::with_capacity(alloc, most)
     }
 
     /// Whether the next poll fails. The step that says so is then played.
     pub(crate) fn fails(&mut self, script: &[MemStep]) -> bool
-        ensures open { self.new.open ≡ self.old.open }
+        ensures open_links { self.new.links ≡ self.old.links }
         ensures sure { self.old.may_fail ≡ false → result ≡ false }
         ensures last { self.new.last ≡ self.old.last }
         ensures may_fail { self.new.may_fail ≡ self.old.may_fail }
@@ -233,13 +233,13 @@ impl Play {
         requires told { shown.old.told.items ≡ [] }
         requires room { most ≤ vec_capacity shown.old.events }
         requires told_room { most ≤ vec_capacity shown.old.told }
-        requires links { vec_len self.old.open + most ≤ vec_capacity self.old.open }
+        requires links { vec_len self.old.links + most ≤ vec_capacity self.old.links }
         ensures few { vec_len shown.new.events ≤ most }
-        ensures grows { vec_len self.new.open ≤ vec_len self.old.open + vec_len shown.new.events }
+        ensures grows { vec_len self.new.links ≤ vec_len self.old.links + vec_len shown.new.events }
         ensures told { shown.new.told.items ≡ shown.new.events.items }
         ensures may_fail { self.new.may_fail ≡ self.old.may_fail }
-        ensures shows { Shows self.old.last (numbers_of self.old.open.items) shown.new.events.items
-            self.new.last (numbers_of self.new.open.items) }
+        ensures shows { Shows self.old.last (numbers_of self.old.links.items) shown.new.events.items
+            self.new.last (numbers_of self.new.links.items) }
     {
         while shown.events.len() < most {
             let Some(step) = script.get(self.place) else {
@@ -263,14 +263,14 @@ impl Play {
 
     // Plays a step, and returns what it shows.
     fn take_step(&mut self, step: &MemStep) -> Option<LinkEvent>
-        requires { vec_len self.old.open < vec_capacity self.old.open }
-        ensures shows { Steps result self.old.last (numbers_of self.old.open.items)
-            self.new.last (numbers_of self.new.open.items) }
+        requires { vec_len self.old.links < vec_capacity self.old.links }
+        ensures shows { Steps result self.old.last (numbers_of self.old.links.items)
+            self.new.last (numbers_of self.new.links.items) }
         ensures place { self.new.place ≡ self.old.place }
         ensures may_fail { self.new.may_fail ≡ self.old.may_fail }
-        ensures room { vec_capacity self.new.open ≡ vec_capacity self.old.open }
-        ensures grows { vec_len self.new.open ≤ vec_len self.old.open + 1 }
-        ensures same { result ≡ None → vec_len self.new.open ≡ vec_len self.old.open }
+        ensures room { vec_capacity self.new.links ≡ vec_capacity self.old.links }
+        ensures grows { vec_len self.new.links ≤ vec_len self.old.links + 1 }
+        ensures same { result ≡ None → vec_len self.new.links ≡ vec_len self.old.links }
     {
         match step {
             MemStep::Arrive(number) => self.arrive(*number),
@@ -280,35 +280,35 @@ impl Play {
             | MemStep::FailRead(number)
             | MemStep::FailWrite(number) => {
                 let at = self.at(*number)?;
-                self.open[at].take_step(step)
+                self.links[at].take_step(step)
             }
             MemStep::FailPoll | MemStep::Tick => None,
         }
     }
 
     fn arrive(&mut self, number: u32) -> Option<LinkEvent>
-        requires { vec_len self.old.open < vec_capacity self.old.open }
-        ensures shows { Steps result self.old.last (numbers_of self.old.open.items)
-            self.new.last (numbers_of self.new.open.items) }
+        requires { vec_len self.old.links < vec_capacity self.old.links }
+        ensures shows { Steps result self.old.last (numbers_of self.old.links.items)
+            self.new.last (numbers_of self.new.links.items) }
         ensures place { self.new.place ≡ self.old.place }
         ensures may_fail { self.new.may_fail ≡ self.old.may_fail }
-        ensures room { vec_capacity self.new.open ≡ vec_capacity self.old.open }
-        ensures grows { vec_len self.new.open ≤ vec_len self.old.open + 1 }
-        ensures same { result ≡ None → vec_len self.new.open ≡ vec_len self.old.open }
+        ensures room { vec_capacity self.new.links ≡ vec_capacity self.old.links }
+        ensures grows { vec_len self.new.links ≤ vec_len self.old.links + 1 }
+        ensures same { result ≡ None → vec_len self.new.links ≡ vec_len self.old.links }
     {
         if number <= self.last {
             return None;
         }
         self.last = number;
-        self.open.push_reserved(OpenLink::new(number, self.place));
+        self.links.push_reserved(OpenLink::new(number, self.place));
         Some(LinkEvent::New(number))
     }
 
     fn at(&self, number: u32) -> Option<usize>
-        ensures place { IfSome result (λ at. at < vec_len self.now.open) }
-        ensures there { is_some result ≡ is_among number (numbers_of self.now.open.items) }
+        ensures place { IfSome result (λ at. at < vec_len self.now.links) }
+        ensures there { is_some result ≡ is_among number (numbers_of self.now.links.items) }
     {
-        first_of(self.open.as_slice(), number)
+        first_of(self.links.as_slice(), number)
     }
 
     /// Copies unread bytes of a link, and returns their number and where the link's unread bytes then begin.
@@ -326,7 +326,7 @@ impl Play {
         let Some(at) = self.at(number) else {
             return Err(LinkFault::Pending);
         };
-        let link = &self.open[at];
+        let link = &self.links[at];
         if link.read_fails && self.may_fail {
             return Err(LinkFault::Failed);
         }
@@ -344,13 +344,13 @@ impl Play {
 
     /// Notes a read that `look` has returned.
     pub(crate) fn has_read(&mut self, number: u32, looked: Result<(usize, Spot), LinkFault>)
-        ensures open { numbers_of self.new.open.items ≡ numbers_of self.old.open.items }
-        ensures len { vec_len self.new.open ≡ vec_len self.old.open }
+        ensures open_links { numbers_of self.new.links.items ≡ numbers_of self.old.links.items }
+        ensures len { vec_len self.new.links ≡ vec_len self.old.links }
         ensures last { self.new.last ≡ self.old.last }
         ensures may_fail { self.new.may_fail ≡ self.old.may_fail }
     {
         if let Some(at) = self.at(number) {
-            self.open[at].has_read(looked);
+            self.links[at].has_read(looked);
         }
     }
 
@@ -364,7 +364,7 @@ impl Play {
         let Some(at) = self.at(number) else {
             return Err(LinkFault::Pending);
         };
-        let link = &self.open[at];
+        let link = &self.links[at];
         if link.write_fails && self.may_fail {
             return Err(LinkFault::Failed);
         }
@@ -377,28 +377,28 @@ impl Play {
 
     /// Notes a write of which `accepts` has told.
     pub(crate) fn has_written(&mut self, number: u32, accepted: Result<usize, LinkFault>)
-        ensures open { numbers_of self.new.open.items ≡ numbers_of self.old.open.items }
-        ensures len { vec_len self.new.open ≡ vec_len self.old.open }
+        ensures open_links { numbers_of self.new.links.items ≡ numbers_of self.old.links.items }
+        ensures len { vec_len self.new.links ≡ vec_len self.old.links }
         ensures last { self.new.last ≡ self.old.last }
         ensures may_fail { self.new.may_fail ≡ self.old.may_fail }
     {
         if let Some(at) = self.at(number) {
-            self.open[at].has_written(accepted);
+            self.links[at].has_written(accepted);
         }
     }
 
     /// Closes a link. Returns whether it was open.
     pub(crate) fn close(&mut self, number: u32) -> bool
-        ensures there { result ≡ is_among number (numbers_of self.old.open.items) }
-        ensures open { numbers_of self.new.open.items
-            ≡ filter (λ n. not (n == number)) (numbers_of self.old.open.items) }
-        ensures no_more { vec_len self.new.open ≤ vec_len self.old.open }
-        ensures fewer { result ≡ true → vec_len self.new.open < vec_len self.old.open }
+        ensures there { result ≡ is_among number (numbers_of self.old.links.items) }
+        ensures open_links { numbers_of self.new.links.items
+            ≡ filter (λ n. not (n == number)) (numbers_of self.old.links.items) }
+        ensures no_more { vec_len self.new.links ≤ vec_len self.old.links }
+        ensures fewer { result ≡ true → vec_len self.new.links < vec_len self.old.links }
         ensures last { self.new.last ≡ self.old.last }
         ensures may_fail { self.new.may_fail ≡ self.old.may_fail }
     {
         let is_open = self.at(number).is_some();
-        take_out(&mut self.open, number);
+        take_out(&mut self.links, number);
         is_open
     }
 }

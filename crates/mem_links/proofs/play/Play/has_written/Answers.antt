@@ -1,5 +1,5 @@
 use Rattle.mem_links.proofs.OpenLists.{numbers_set}
 use Rattle.mem_links.proofs.play.Play.has_written.Goals as goal
 
-pub returns-in-Some-clause-open : goal.returns-in-Some-clause-open
-returns-in-Some-clause-open c = numbers_set _ _ _ _ c.has_written.ensures c.index_mut.ensures.value
+pub returns-in-Some-clause-open_links : goal.returns-in-Some-clause-open_links
+returns-in-Some-clause-open_links c = numbers_set _ _ _ _ c.has_written.ensures c.index_mut.ensures.value
