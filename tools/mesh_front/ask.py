@@ -2,8 +2,9 @@
 
 The reasons are found by asking again. Of each authorization in the view all others are removed, and the request is simulated as
 it is, from an address that the authorization shows, as a client that it shows, and as both. Where the policy of the Server or the
-default one denies, the request is simulated with an identity, at the address of a Pod, and with both. A policy that names the
-Server and is not in the view is asked for once more with the references that it lacks.
+default one denies, the request is simulated with an identity, at the address of a Pod, and with both, so that the answer can say what
+the client lacks for the policy to admit it, or for the request to be a probe. A policy that names the Server and is not in the view
+is asked for once more with the references that it lacks.
 """
 
 import ipaddress
@@ -81,10 +82,11 @@ class HiddenPolicy:
 
 @dataclass
 class Answer:
-    """What comes of the request, and why. Where a policy denies that others would pass: what the client would need for it."""
+    """What comes of the request, and why. Where a policy denies: what the client would need for it, and for the request as a probe."""
 
     verdict: str
     policy_needs: str | None
+    probe_needs: str | None
     request: str
     client: Client
     is_meshed: bool
@@ -198,7 +200,7 @@ def ask_reasons(objects: Objects, script: Script, words: Words, first: First) ->
 
 
 def ask_policy(objects: Objects, script: Script, words: Words, first: First) -> dict[str, int]:
-    """Asks what a client would need for the policy to admit it, the least first, where no authorization is held."""
+    """Asks what a client would need to be admitted where no authorization is held, the least first."""
     values = [object_of(objects, words.target.pod.namespace, it) for it in first.view.authorizations]
     addresses = [members(objects.by_key[key], "status").get("podIP") for key in objects.of(POD)]
     script.remove(*values)
@@ -217,6 +219,11 @@ def reason(authorization: views.Authorization, namespace: str, trial: Trial, ans
     verdict = f"allowed {authorization.kind} {namespace}/{authorization.name}"
     as_it_is, address, client, both = (answers.verdicts.get(number) == verdict for number in vars(trial).values())
     return Reason(authorization, as_it_is, as_it_is or both, as_it_is or client, as_it_is or address)
+
+
+def least(needs: dict[str, int], decider: str, answers: Answers) -> str | None:
+    """The least with which this decider admits the client, None where it never does."""
+    return next((what for what, line in needs.items() if answers.verdicts.get(line, "").startswith(f"allowed {decider} ")), None)
 
 
 def why_hidden(objects: Objects, key: Key, after: views.Inbound) -> HiddenPolicy:
@@ -249,11 +256,9 @@ def second_run(session: Session, words: Words, first: First) -> Answer:
     after = views.inbound(answers.view(number))
     policies = [why_hidden(session.objects, key, after) for key in hidden_keys]
     text = answers.verdicts[verdict]
-    enough = [what for what, line in needs.items() if answers.verdicts.get(line, "").startswith("allowed default")]
-    policy_needs = enough[0] if enough and text.startswith("denied") else None
+    lacks = [least(needs, decider, answers) if text.startswith("denied") else None for decider in ("default", "probe")]
     reasons_for_request = [] if text == "not-found" else reasons
-    request = words.request_text()
-    return Answer(text, policy_needs, request, first.client, first.is_meshed, first.view, reasons_for_request, policies)
+    return Answer(text, *lacks, words.request_text(), first.client, first.is_meshed, first.view, reasons_for_request, policies)
 
 
 def verdict_text(answer: Answer) -> str:
@@ -290,6 +295,7 @@ def lines(answer: Answer) -> list[str]:
     pairs = {
         "VERDICT": verdict_text(answer),
         **({"POLICY": f"{view.policy} needs {answer.policy_needs}"} if answer.policy_needs else {}),
+        **({"PROBE": f"needs {answer.probe_needs}"} if answer.probe_needs else {}),
         "REQUEST": answer.request,
         "CLIENT": answer.client,
         "SERVER": f"{server} {view.policy}",

@@ -68,6 +68,19 @@ class Ask(Case):
             MESHED   yes
         """)
 
+    def test_what_a_probe_needs(self):
+        """The path of a probe, from elsewhere: the policy denies everyone, but not probes from the cluster. A POST is none."""
+        words = ["probes.jsonl", "app/web-1:8080", "--client", "203.0.113.7", "--path", "/live"]
+        self.require(self.ask(*words), 1, """
+            VERDICT  denied by the policy deny of the Server web: no authorization applies
+            PROBE    needs an address of the cluster, such as 10.1.2.3
+            REQUEST  GET /live to app/web-1:8080
+            CLIENT   203.0.113.7, no identity
+            SERVER   web, protocol unknown, policy deny
+            MESHED   yes
+        """)
+        self.assertNotIn("PROBE", self.ask(*words, "--method", "POST").output)
+
     def test_no_route_matches(self):
         """The only route is for `/admin`."""
         self.require(self.ask("policy.jsonl", "app/web-1:8080", "--client", "10.0.0.5"), 1, """
