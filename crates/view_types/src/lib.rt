@@ -3,7 +3,7 @@
 //!
 //! Stands on mesh_base, net_cidr, label_select and k8s_meta. Its specs hold what the crates above cite of an object: its
 //! key (`specs/Objects`) and what later calls require of it (`specs/Lawful`); and the usual configuration
-//! (`specs/Defaults`). What views show is defined in view_rules.
+//! (`specs/Defaults`), and the queries for a port (`specs/Ports`). What views show is defined in view_rules.
 //! Every copy equals its source (`Copied`), and views compare exactly (`Same`).
 #![tactic(auto)]
 

@@ -2,10 +2,11 @@ ghost use Rattle.std.specs.Prelude.{◌≡◌, IfOk};
 
 use crate::endpoint::EndpointRow;
 use crate::outbound::{OutboundView, ProfileView};
-use crate::server_view::ServerView;
+use crate::server_view::{AuthzKind, AuthzRow, ServerView};
 use mesh_base::copied::Copied;
 use mesh_base::list::List;
 use mesh_base::memory::Memory;
+use mesh_base::text::Text;
 use net_cidr::ip::Ip;
 use std::alloc::Global;
 
@@ -24,6 +25,12 @@ pub enum Message {
     Server(ServerView),
     /// The whole outbound view of a target.
     Outbound(OutboundView),
+    /// The whole inbound view of a port of a Pod, of which later messages tell what changes.
+    Whole(ServerView),
+    /// Authorizations of the Server that are new or have changed.
+    AuthzPut(List<AuthzRow>),
+    /// Kinds and names of authorizations that the Server has no more.
+    AuthzGone(List<(AuthzKind, Text)>),
 }
 
 impl Copied for Message {
@@ -35,6 +42,9 @@ impl Copied for Message {
             Message::Profile(view) => Ok(Message::Profile(view.copy(alloc)?)),
             Message::Server(view) => Ok(Message::Server(view.copy(alloc)?)),
             Message::Outbound(view) => Ok(Message::Outbound(view.copy(alloc)?)),
+            Message::Whole(view) => Ok(Message::Whole(view.copy(alloc)?)),
+            Message::AuthzPut(list) => Ok(Message::AuthzPut(list.copy(alloc)?)),
+            Message::AuthzGone(list) => Ok(Message::AuthzGone(list.copy(alloc)?)),
         }
     }
 }

@@ -1,4 +1,5 @@
 ghost use Rattle.std.specs.Prelude.{◌≡◌, IfOk};
+ghost use Rattle.view_types.specs.Ports.{query_by_rows, query_whole};
 
 use mesh_base::copied::Copied;
 use mesh_base::memory::Memory;
@@ -13,6 +14,8 @@ pub enum Method {
     GetProfile,
     WatchPort,
     Watch,
+    /// As WatchPort, but told what changes of a Server's authorizations.
+    WatchPort2,
 }
 
 /// Where traffic is to go. A port is from 1 to 65535.
@@ -49,6 +52,38 @@ pub enum Query {
     Traffic {
         target: Target,
     },
+    /// As Port, but told what changes of a Server's authorizations.
+    PortRows {
+        ns: Text,
+        pod: Text,
+        port: u16,
+    },
+}
+
+/// A port of a Pod.
+#[derive(Drop)]
+pub struct PodPort {
+    pub ns: Text,
+    pub pod: Text,
+    pub port: u16,
+}
+
+impl PodPort {
+    /// The query for its policy, which is told whole.
+    pub fn whole(self) -> Query
+        ensures { result ≡ query_whole self }
+    {
+        let PodPort { ns, pod, port } = self;
+        Query::Port { ns, pod, port }
+    }
+
+    /// The query for its policy, of which is told what changes of a Server's authorizations.
+    pub fn by_rows(self) -> Query
+        ensures { result ≡ query_by_rows self }
+    {
+        let PodPort { ns, pod, port } = self;
+        Query::PortRows { ns, pod, port }
+    }
 }
 
 /// Written by hand, as that of `Object`.
@@ -71,6 +106,11 @@ impl Drop for Query {
                 port: _,
             } => {}
             Query::Traffic { target: _target } => {}
+            Query::PortRows {
+                ns: _ns,
+                pod: _pod,
+                port: _,
+            } => {}
         }
     }
 }
@@ -125,6 +165,11 @@ impl Copied for Query {
             }),
             Query::Traffic { target } => Ok(Query::Traffic {
                 target: target.copy(alloc)?,
+            }),
+            Query::PortRows { ns, pod, port } => Ok(Query::PortRows {
+                ns: ns.copy()?,
+                pod: pod.copy()?,
+                port: *port,
             }),
         }
     }

@@ -1,4 +1,5 @@
 ghost use Rattle.std.specs.Prelude.{◌≡◌, ◌↔◌, IfOk, IsTrue};
+ghost use Rattle.view_types.specs.Numbers.{authz_number};
 
 use crate::policy::{Policy, Protocol};
 use crate::route::{Filter, HttpMatch};
@@ -93,6 +94,24 @@ pub struct ServerRow {
 pub enum ServerView {
     Absent,
     Present(ServerRow),
+}
+
+impl AuthzKind {
+    /// Its place among the kinds, from 1.
+    pub fn number(self) -> u8
+        ensures { result ≡ authz_number self }
+    {
+        match self {
+            AuthzKind::ServerAuthorization => 1,
+            AuthzKind::AuthorizationPolicy => 2,
+        }
+    }
+}
+
+impl Copied for AuthzKind {
+    fn copy(&self, _alloc: Global) -> Result<AuthzKind, Memory> {
+        Ok(*self)
+    }
 }
 
 impl Same for AuthzKind {
@@ -250,6 +269,19 @@ impl Same for ServerRow {
             && self.policy.is_same(&other.policy)
             && self.server.is_same(&other.server)
             && self.authz.is_same(&other.authz)
+            && self.routes.is_same(&other.routes)
+            && self.probes.is_same(&other.probes)
+    }
+}
+
+impl ServerRow {
+    /// Whether nothing but the Server's own authorizations differs.
+    pub fn is_same_but_authz(&self, other: &ServerRow) -> bool
+        ensures { IsTrue result ↔ (record (self.now) { authz = other.now.authz } ≡ other.now) }
+    {
+        self.protocol.is_same(&other.protocol)
+            && self.policy.is_same(&other.policy)
+            && self.server.is_same(&other.server)
             && self.routes.is_same(&other.routes)
             && self.probes.is_same(&other.probes)
     }

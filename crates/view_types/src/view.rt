@@ -14,6 +14,9 @@ pub enum View {
     Profile(ProfileView),
     Server(ServerView),
     Outbound(OutboundView),
+    /// An inbound view whose subscriber is told what changes of the Server's authorizations. These are in the order of
+    /// their kinds and names, each once.
+    ServerRows(ServerView),
 }
 
 /// Written by hand, as that of `Object`.
@@ -24,6 +27,7 @@ impl Drop for View {
             View::Profile(_view) => {}
             View::Server(_view) => {}
             View::Outbound(_view) => {}
+            View::ServerRows(_view) => {}
         }
     }
 }
@@ -35,6 +39,7 @@ impl Copied for View {
             View::Profile(view) => Ok(View::Profile(view.copy(alloc)?)),
             View::Server(view) => Ok(View::Server(view.copy(alloc)?)),
             View::Outbound(view) => Ok(View::Outbound(view.copy(alloc)?)),
+            View::ServerRows(view) => Ok(View::ServerRows(view.copy(alloc)?)),
         }
     }
 }
@@ -46,6 +51,7 @@ impl Same for View {
             (View::Profile(mine), View::Profile(others)) => mine.is_same(others),
             (View::Server(mine), View::Server(others)) => mine.is_same(others),
             (View::Outbound(mine), View::Outbound(others)) => mine.is_same(others),
+            (View::ServerRows(mine), View::ServerRows(others)) => mine.is_same(others),
             _ => false,
         }
     }
