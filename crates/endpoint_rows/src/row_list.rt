@@ -9,11 +9,11 @@ ghost use Rattle.endpoint_rows.specs.Kept.{Replaces};
 use mesh_base::list::List;
 use mesh_base::memory::Memory;
 use net_cidr::ip::Ip;
+use row_places::order::keep_first;
 use row_places::place::{place, row_at};
 use std::alloc::Global;
 use std::marker::Model;
 use std::mem;
-use view_rules::order::keep_first;
 use view_types::endpoint::EndpointRow;
 
 /// Rows in order, each address and port once. Contracts see them as a list.

@@ -21,7 +21,7 @@ use Rattle.view_types.specs.declared.verdict.Verdict.TheVariants.{Allowed}
 use Rattle.view_rules.specs.Inbound.{default_policy, default_protocol, default_row, inbound_at, inbound_route, inbound_routes, port_row, probe_paths, server_row, unless_routes}
 use Rattle.view_rules.specs.PodRows.{pod_held}
 use Rattle.view_rules.specs.Policies.{applies_to_route, applies_to_server, authz_rows}
-use Rattle.view_rules.specs.PolicyLaws.{row_cmp}
+use Rattle.view_rules.specs.AuthzOrder.{AuthzKey, authz_cmp, authz_key}
 use Rattle.view_rules.specs.Routes.{route_key}
 use Rattle.view_rules.specs.Servers.{chosen_server}
 use Rattle.route_match.specs.Matching.{Pat, best, row_shape}
@@ -36,14 +36,14 @@ use Rattle.request_sim.specs.Decision.{by_row, decision, first_admitting, has_ro
 use Rattle.request_sim.specs.Faults.{DecisionsAreVerdicts}
 use Rattle.request_sim.proofs.Applying.{here_of_route, here_of_server, route_is_here}
 use Rattle.request_sim.proofs.FirstRow.{first_row}
-use Rattle.request_sim.proofs.InPlace.{IsAuthz, Place, first_of_either, place_of, row_place}
+use Rattle.request_sim.proofs.InPlace.{IsAuthz, first_of_either, place_of}
 use Rattle.request_sim.proofs.TwoLists.{lesser_of}
 
-lesser_place : (a b : Option AuthzRow) → option_map row_place (lesser a b) ≡ lesser_of row_cmp (option_map row_place a) (option_map row_place b)
+lesser_place : (a b : Option AuthzRow) → option_map authz_key (lesser a b) ≡ lesser_of authz_cmp (option_map authz_key a) (option_map authz_key b)
 lesser_place None b = refl
 lesser_place (Some a) None = refl
 lesser_place (Some a) (Some b) =
-    elim (is_gt (row_cmp (row_place a) (row_place b))) as (λ t. ◌≡◌ {A = Option Place} (Some (row_place (cond t b a))) (Some (cond t (row_place b) (row_place a)))) [ true ↦ refl | false ↦ refl ]
+    elim (is_gt (authz_cmp (authz_key a) (authz_key b))) as (λ t. ◌≡◌ {A = Option AuthzKey} (Some (authz_key (cond t b a))) (Some (cond t (authz_key b) (authz_key a)))) [ true ↦ refl | false ↦ refl ]
 
 either_or : (a b c : Bool) → ((a && c) || (b && c)) ≡ true → (a ≡ true) ⊎ (b ≡ true)
 either_or true b c e = inl refl
@@ -62,11 +62,11 @@ module _ (alike : RowsAdmitAsTheirObjects) (shapes : RowsShowTheirMatches) (conf
   abbrev admits_it : Object → Bool
   admits_it o = admits config held request.client request.tls o
 
-  abbrev by_place : Verdict → Option Place → Verdict
+  abbrev by_place : Verdict → Option AuthzKey → Verdict
   by_place otherwise None = otherwise
   by_place otherwise (Some place) = Allowed (Authz place.0 place.1)
 
-  row_decides : (otherwise : Verdict) (row : Option AuthzRow) → by_row otherwise row ≡ by_place otherwise (option_map row_place row)
+  row_decides : (otherwise : Verdict) (row : Option AuthzRow) → by_row otherwise row ≡ by_place otherwise (option_map authz_key row)
   row_decides otherwise None = refl
   row_decides otherwise (Some row) = refl
 
@@ -74,7 +74,7 @@ module _ (alike : RowsAdmitAsTheirObjects) (shapes : RowsShowTheirMatches) (conf
   object_decides otherwise None = refl
   object_decides otherwise (Some o) = refl
 
-  first_is : (applies : Object → Bool) → option_map row_place (first_admitting request (authz_rows config held applies)) ≡ option_map place_of (find (λ o. applies o && admits_it o) (values held))
+  first_is : (applies : Object → Bool) → option_map authz_key (first_admitting request (authz_rows config held applies)) ≡ option_map place_of (find (λ o. applies o && admits_it o) (values held))
   first_is applies = first_row config held request.client request.tls (λ o row is. alike config held o row request.client fits request.tls is) applies (values held)
 
   -- what the probes of a port with these routes decide, else the policy
@@ -115,11 +115,11 @@ module _ (alike : RowsAdmitAsTheirObjects) (shapes : RowsShowTheirMatches) (conf
     same_test : (λ (o : Object). of_server o || of_route o) ≡ of_either
     same_test = λ i o. both_or (applies_to_server held server o) (applies_to_route held (route_key route) o) (admits_it o) i
 
-    first_of_both : option_map row_place (lesser (first_admitting request (authz_rows config held (applies_to_server held server))) (first_admitting request (authz_rows config held (applies_to_route held (route_key route)))))
+    first_of_both : option_map authz_key (lesser (first_admitting request (authz_rows config held (applies_to_server held server))) (first_admitting request (authz_rows config held (applies_to_route held (route_key route)))))
         ≡ option_map place_of (find of_either (values held))
     first_of_both =
         lesser_place (first_admitting request (authz_rows config held (applies_to_server held server))) (first_admitting request (authz_rows config held (applies_to_route held (route_key route))))
-        ∙ (λ i. lesser_of row_cmp (first_is (applies_to_server held server) i) (first_is (applies_to_route held (route_key route)) i))
+        ∙ (λ i. lesser_of authz_cmp (first_is (applies_to_server held server) i) (first_is (applies_to_route held (route_key route)) i))
         ∙ first_of_either server.meta.ns of_server of_route within held at_keys
         ∙ ap (λ (p : Object → Bool). option_map place_of (find p (values held))) same_test
 

@@ -1,7 +1,7 @@
 -- In a namespace the order of keys is that of the kinds and names of authorizations.
 use Rattle.std.proofs.Common.{◌≡◌, ℕ, Bool, true, ◌||◌, List, [], ◌∷◌, map, Some, Ordering, inl, inr, refl, sym, ap, ◌∙◌}
 use lib.Dec.{T}
-use Rattle.std.specs.Cmp.{IsTotalOrder, tied_itself}
+use Rattle.std.specs.Cmp.{tied_itself}
 use Rattle.std.specs.Cmp.Lexicographic.{nat_list_cmp_total, slice_cmp}
 use Rattle.std.specs.FinMap.{entries, entries_sorted, get, get-entries, is_sorted, values}
 use Rattle.std.specs.FinMap.Entries.{below_all}
@@ -9,34 +9,22 @@ use Rattle.std.specs.List.{AllByRecursion, find}
 use Rattle.std.specs.Option.{option_map}
 use Rattle.std.specs.Ordering.{nat_cmp, ordering_then}
 use Rattle.std.specs.declared.cmp.Ordering.TheVariants.{Less, Equal, Greater}
-use Rattle.std.proofs.lemmas.Cmp.{nat_cmp_total, on_total, then_total}
 use Rattle.mesh_base.proofs.KeyOrder.{keys_total}
 use Rattle.mesh_base.specs.KeyOrder.{key_cmp}
 use Rattle.mesh_base.specs.declared.key.ObjKey.{ObjKey}
-use Rattle.view_types.specs.Numbers.{authz_number}
 use Rattle.view_types.specs.Objects.{AtKeys, ObjectMap, key_of, kind_of, meta_of}
 use Rattle.view_types.specs.declared.object.Object.{Object}
 use Rattle.view_types.specs.declared.object.Object.TheVariants as object
-use Rattle.view_types.specs.declared.server_view.AuthzKind.{AuthzKind}
-use Rattle.view_types.specs.declared.server_view.AuthzRow.{AuthzRow}
-use Rattle.view_rules.specs.PolicyLaws.{row_cmp}
+use Rattle.view_rules.specs.AuthzOrder.{AuthzKey, authz_cmp}
+use Rattle.view_rules.proofs.AuthzKeys.{authz_total}
 use Rattle.view_rules.proofs.Among.{Among}
 use Rattle.view_rules.proofs.Entries.{first, found_entry, less, second}
 use Rattle.request_rules.specs.Verdicts.{authz_kind_of}
 use Rattle.request_sim.proofs.TwoLists.{AreAbove, Rises, first_of_two, lesser_of}
 
--- the kind and name
-abbrev pub Place : Type 0
-Place = AuthzKind × List ℕ
-
-abbrev pub row_place : AuthzRow → Place
-row_place row = (row.kind, row.name)
-
-abbrev pub place_of : Object → Place
+-- the kind and name of an object
+abbrev pub place_of : Object → AuthzKey
 place_of o = (authz_kind_of (kind_of o), (meta_of o).name)
-
-pub places_total : IsTotalOrder row_cmp
-places_total = then_total (on_total (λ (p : Place). authz_number p.0) nat_cmp_total) (on_total (λ (p : Place). p.1) nat_list_cmp_total)
 
 abbrev pub IsAuthz : Object → Type 0
 IsAuthz (object.ServerAuthorization authorization) = Unit {0}
@@ -51,7 +39,7 @@ then_tied Greater m tied e = absurd (cc tied)
 same_tied : (a b : List ℕ) → a ≡ b → slice_cmp nat_cmp a b ≡ Equal
 same_tied a b same = ap (slice_cmp nat_cmp a) (sym same) ∙ tied_itself nat_list_cmp_total a
 
-in_place : (x y : Object) → IsAuthz x → IsAuthz y → (meta_of x).ns ≡ (meta_of y).ns → key_cmp (key_of x) (key_of y) ≡ Less → row_cmp (place_of x) (place_of y) ≡ Less
+in_place : (x y : Object) → IsAuthz x → IsAuthz y → (meta_of x).ns ≡ (meta_of y).ns → key_cmp (key_of x) (key_of y) ≡ Less → authz_cmp (place_of x) (place_of y) ≡ Less
 in_place (object.ServerAuthorization a) (object.ServerAuthorization b) is is' here below = then_tied _ _ (same_tied a.meta.ns b.meta.ns here) below
 in_place (object.ServerAuthorization a) (object.AuthorizationPolicy b) is is' here below = refl
 in_place (object.ServerAuthorization a) _ is is' here below = absurd is'
@@ -80,7 +68,7 @@ entries_fit held at_keys (e ∷ es) part =
 
 module _ (ns : List ℕ) (g h : Object → Bool) (within : (o : Object) → (g o || h o) ≡ true → IsAuthz o × ((meta_of o).ns ≡ ns)) where
   all_above : (k : ObjKey) (x : Object) → key_of x ≡ k → IsAuthz x → (meta_of x).ns ≡ ns → (es : List Entry) → T (below_all key_cmp k es) → Fits es
-      → AreAbove places_total place_of g h (place_of x) (objects_in es)
+      → AreAbove authz_total place_of g h (place_of x) (objects_in es)
   all_above k x at is here [] below fits = tt
   all_above k x at is here (e ∷ es) below fits = (
     λ passes.
@@ -89,7 +77,7 @@ module _ (ns : List ℕ) (g h : Object → Bool) (within : (o : Object) → (g o
     all_above k x at is here es (second _ _ below) fits.1,
   )
 
-  rises : (es : List Entry) → T (is_sorted key_cmp es) → Fits es → Rises places_total place_of g h (objects_in es)
+  rises : (es : List Entry) → T (is_sorted key_cmp es) → Fits es → Rises authz_total place_of g h (objects_in es)
   rises [] sorted fits = tt
   rises (e ∷ es) sorted fits = (
     λ passes. let one = within e.1 passes in all_above e.0 e.1 fits.0 one.0 one.1 es (first _ _ sorted) fits.1,
@@ -98,6 +86,6 @@ module _ (ns : List ℕ) (g h : Object → Bool) (within : (o : Object) → (g o
 
   -- of the first that passes each test, the lesser is the first that passes either
   pub first_of_either : (held : ObjectMap) → AtKeys held
-      → lesser_of row_cmp (option_map place_of (find g (values held))) (option_map place_of (find h (values held))) ≡ option_map place_of (find (λ o. g o || h o) (values held))
+      → lesser_of authz_cmp (option_map place_of (find g (values held))) (option_map place_of (find h (values held))) ≡ option_map place_of (find (λ o. g o || h o) (values held))
   first_of_either held at_keys =
-      first_of_two places_total place_of g h (values held) (rises (entries held) (entries_sorted held) (entries_fit held at_keys (entries held) (λ e at. at)))
+      first_of_two authz_total place_of g h (values held) (rises (entries held) (entries_sorted held) (entries_fit held at_keys (entries held) (λ e at. at)))

@@ -14,7 +14,7 @@ use Rattle.view_types.specs.declared.verdict.Decider.{Decider}
 use Rattle.view_types.specs.declared.verdict.Decider.TheVariants.{Authz}
 use Rattle.view_types.specs.declared.verdict.Verdict.{Verdict}
 use Rattle.view_types.specs.declared.verdict.Verdict.TheVariants.{Allowed, NotFound, NoWorkload}
-use Rattle.view_rules.specs.PolicyLaws.{row_cmp}
+use Rattle.view_rules.specs.AuthzOrder.{authz_cmp, authz_key}
 use Rattle.route_match.specs.Matching.{Pat, best, row_shape}
 use Rattle.route_match.specs.declared.best.Candidate.{Candidate}
 use Rattle.request_rules.specs.Admits.{row_admits}
@@ -31,7 +31,7 @@ first_admitting request rows = find (row_admits request.client request.tls) rows
 abbrev pub lesser : Option AuthzRow → Option AuthzRow → Option AuthzRow
 lesser None other = other
 lesser (Some row) None = Some row
-lesser (Some row) (Some other) = Some (if is_gt (row_cmp (row.kind, row.name) (other.kind, other.name)) then other else row)
+lesser (Some row) (Some other) = Some (if is_gt (authz_cmp (authz_key row) (authz_key other)) then other else row)
 
 -- where no row admits the client, something else decides
 abbrev pub by_row : Verdict → Option AuthzRow → Verdict

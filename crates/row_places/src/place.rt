@@ -5,26 +5,26 @@ ghost use Rattle.mesh_base.specs.Places.{IsHit, IsGap};
 ghost use Rattle.view_rules.specs.Endpoints.{pair_cmp, pair_of};
 ghost use Rattle.row_places.specs.Rows.{row_at};
 
-use net_cidr::ip::{Ip, compare_ips};
-use std::cmp::Ordering;
+use crate::keyed::KeyedRow;
+use net_cidr::ip::Ip;
 use view_types::endpoint::EndpointRow;
 
-/// Where the row of an address and port stands, or where it would go.
-pub fn place(rows: &[EndpointRow], pair: &(Ip, u16)) -> Result<usize, usize>
-    requires { IsKeyed pair_cmp pair_of (λ row. row) rows.now }
-    ensures hit { IfOk result (IsHit (λ row. pair_cmp (pair_of row) pair.now) rows.now) }
-    ensures gap { IfErr result (IsGap (λ row. pair_cmp (pair_of row) pair.now) rows.now) }
+/// Where the row of a key stands, or where it would go.
+pub fn place<T: KeyedRow>(rows: &[T], key: &T::Key) -> Result<usize, usize>
+    requires { IsKeyed T.cmp T.key_of (λ row. row) rows.now }
+    ensures hit { IfOk result (IsHit (λ row. T.cmp (T.key_of row) key.now) rows.now) }
+    ensures gap { IfErr result (IsGap (λ row. T.cmp (T.key_of row) key.now) rows.now) }
 {
-    rows.binary_search_by(|row| compare(row, pair))
+    rows.binary_search_by(|row| row.compare_to(key))
 }
 
-fn compare(row: &EndpointRow, pair: &(Ip, u16)) -> Ordering
-    ensures { result ≡ pair_cmp (pair_of row.now) pair.now }
+/// Where the row stands that has the key of this one, or where this one would go.
+pub fn place_of<T: KeyedRow>(rows: &[T], one: &T) -> Result<usize, usize>
+    requires { IsKeyed T.cmp T.key_of (λ row. row) rows.now }
+    ensures hit { IfOk result (IsHit (λ row. T.cmp (T.key_of row) (T.key_of one.now)) rows.now) }
+    ensures gap { IfErr result (IsGap (λ row. T.cmp (T.key_of row) (T.key_of one.now)) rows.now) }
 {
-    match compare_ips(row.ip, pair.0) {
-        Ordering::Equal => row.port.cmp(&pair.1),
-        other => other,
-    }
+    rows.binary_search_by(|row| row.compare(one))
 }
 
 /// The row of an address and port, if there is one. Finding it costs the logarithm of the rows.

@@ -1,5 +1,6 @@
 pub mod Among
 pub mod Attached
+pub mod AuthzKeys
 pub mod Backends
 pub mod ByAddress
 pub mod Entries
@@ -10,8 +11,10 @@ pub mod Firsts
 pub mod FoundInOrder
 pub mod Given
 pub mod KeptOnce
+pub mod KeyMaps
 mod Least
 pub mod Orderly
+pub mod OrderlyViews
 pub mod Pairs
 pub mod RowMaps
 pub mod RowsOfPods

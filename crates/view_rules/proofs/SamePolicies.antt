@@ -25,13 +25,12 @@ use Rattle.view_types.specs.declared.server_view.Authn.{Authn}
 use Rattle.view_types.specs.declared.server_view.Authn.TheVariants.{Anyone, AnyTls, Clients}
 use Rattle.view_types.specs.declared.server_view.AuthzKind.{AuthzKind}
 use Rattle.view_types.specs.declared.server_view.AuthzKind.TheVariants.{ServerAuthorization, AuthorizationPolicy}
-use Rattle.view_types.specs.declared.server_view.AuthzRow.{AuthzRow}
 use Rattle.view_types.specs.declared.server_view.BackendRow.{BackendRow}
 use Rattle.view_types.specs.declared.server_view.RouteRow.{RouteRow}
 use Rattle.view_types.specs.declared.server_view.RuleRow.{RuleRow}
 use Rattle.view_types.specs.declared.server_view.ServerRow.{ServerRow}
 use Rattle.view_types.specs.declared.server_view.ServerView.TheVariants.{Absent, Present}
-use Rattle.view_rules.specs.Laws.{SameOutboundDecides, SameServerDecides}
+use Rattle.view_rules.specs.Laws.{SameAuthzDecides, SameOutboundDecides, SameServerDecides}
 use Rattle.view_rules.specs.Same.{same_label}
 use Rattle.view_rules.specs.SamePolicies.{same_authn, same_authz, same_backend, same_block, same_filter, same_match, same_name, same_net, same_path, same_route_row, same_rule, same_server_row}
 use Rattle.view_rules.proofs.SameRow.{ip_decides, label_decides, row_decides}
@@ -92,7 +91,7 @@ authn_decides (Clients ids suffixes everyone) (Clients other_ids other_suffixes 
     (Decides-and _ _ (Decides-and _ _ (texts_decide ids other_ids) (texts_decide suffixes other_suffixes)) (booleans_Decides everyone other_everyone))
 authn_decides _ _ = (λ e. cc, λ e. cc)
 
-authz_decides : (a b : AuthzRow) → Decides (same_authz a b) (a ≡ b)
+pub authz_decides : SameAuthzDecides
 unfolding same_authz
 authz_decides a b =
     Decides-like _
@@ -176,7 +175,7 @@ routes_decide = pointwise_decides {E = same_route_row} route_row_decides
 
 -- ---- views
 
-server_row_decides : (r s : ServerRow) → Decides (same_server_row r s) (r ≡ s)
+pub server_row_decides : (r s : ServerRow) → Decides (same_server_row r s) (r ≡ s)
 unfolding same_server_row
 server_row_decides r s =
     let server = option_decides bytes_eq bytes_decides r.server s.server in

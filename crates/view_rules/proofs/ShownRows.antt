@@ -21,8 +21,9 @@ use Rattle.view_types.specs.declared.server.ServerSpec.{ServerSpec}
 use Rattle.view_types.specs.declared.server_view.AuthzKind.{AuthzKind}
 use Rattle.view_types.specs.declared.server_view.AuthzKind.TheVariants.{ServerAuthorization, AuthorizationPolicy}
 use Rattle.view_types.specs.declared.server_view.AuthzRow.{AuthzRow}
+use Rattle.view_rules.specs.AuthzOrder.{RowsRise, authz_cmp, authz_key}
 use Rattle.view_rules.specs.Policies.{applies_to_route, applies_to_server, authz_row, authz_rows, is_on_route, is_on_server, policy_applies}
-use Rattle.view_rules.specs.PolicyLaws.{RowsAreInOrder, RowsAreOfThoseThatApply, RowsRise, row_cmp}
+use Rattle.view_rules.specs.PolicyLaws.{RowsAreInOrder, RowsAreOfThoseThatApply}
 use Rattle.view_rules.proofs.Among.{among_found, among_from, among_kept, contained, from_found, from_kept}
 use Rattle.view_rules.proofs.Entries.{held_somewhere, stands}
 use Rattle.view_rules.proofs.FoundInOrder.{found_in_order}
@@ -89,7 +90,7 @@ module _ (config : Config) (held : ObjectMap) (ns : List ℕ) (applies : Object 
         | false ↦ λ t e. absurd (cc e)
       ] refl
 
-  by_places : (o p : Object) (x y : AuthzRow) → shown o ≡ Some x → shown p ≡ Some y → key_cmp (key_of o) (key_of p) ≡ row_cmp (x.kind, x.name) (y.kind, y.name)
+  by_places : (o p : Object) (x y : AuthzRow) → shown o ≡ Some x → shown p ≡ Some y → key_cmp (key_of o) (key_of p) ≡ authz_cmp (authz_key x) (authz_key y)
   unfolding row_key
   by_places o p x y is is' =
       (λ i. key_cmp (shown_key o x is i) (shown_key p y is' i))
@@ -99,7 +100,7 @@ module _ (config : Config) (held : ObjectMap) (ns : List ℕ) (applies : Object 
   unfolding shown
   rows_rise at_keys =
       subst RowsRise (sym (found_behind applies (authz_row config held) (values held)))
-      (found_in_order row_cmp shown (λ (row : AuthzRow). (row.kind, row.name)) by_places held at_keys)
+      (found_in_order authz_cmp shown authz_key by_places held at_keys)
 
 pub policy_is_here : (held : ObjectMap) (ns : List ℕ) (is_target : RefKind → List ℕ → Bool) (policy : AuthzPolicy) → policy_applies held ns is_target policy ≡ true → policy.meta.ns ≡ ns
 policy_is_here held ns is_target policy e =

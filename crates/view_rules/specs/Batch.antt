@@ -1,23 +1,26 @@
 -- The messages that bring a subscriber from an old view, or from none, to a new one.
-use Rattle.std.specs.Prelude.{◌||◌, ◌==◌, ℕ, zero, suc, Bool, true, not, List, [], ◌∷◌, ◌++◌, length, map, take, drop, Option, Some, None, if◌then◌else◌}
+use Rattle.std.specs.Prelude.{◌||◌, ◌==◌, ℕ, zero, suc, Bool, true, false, not, List, [], ◌∷◌, ◌++◌, length, map, take, drop, Option, Some, None, if◌then◌else◌}
 use Rattle.std.specs.Bool.{beq}
-use Rattle.std.specs.List.{filter, list_any}
 use Rattle.std.specs.Ordering.{eq_by_cmp}
 use Rattle.mesh_base.specs.declared.limits.Limits.{Limits}
 use Rattle.net_cidr.specs.declared.ip.Ip.{Ip}
 use Rattle.view_types.specs.declared.endpoint.EndpointRow.{EndpointRow}
 use Rattle.view_types.specs.declared.endpoint.EndpointView.{EndpointView}
 use Rattle.view_types.specs.declared.message.Message.{Message}
-use Rattle.view_types.specs.declared.message.Message.TheVariants.{Add, Remove, NoEndpoints, Profile as WholeProfile, Server as WholeServer, Outbound as WholeOutbound}
+use Rattle.view_types.specs.declared.message.Message.TheVariants.{Add, Remove, NoEndpoints, Profile as WholeProfile, Server as WholeServer, Outbound as WholeOutbound, Whole, AuthzPut, AuthzGone}
 use Rattle.view_types.specs.declared.outbound.OutboundView.{OutboundView}
 use Rattle.view_types.specs.declared.outbound.ProfileView.{ProfileView}
+use Rattle.view_types.specs.declared.server_view.AuthzRow.{AuthzRow}
 use Rattle.view_types.specs.declared.server_view.ServerView.{ServerView}
+use Rattle.view_types.specs.declared.server_view.ServerView.TheVariants.{Present}
 use Rattle.view_types.specs.declared.view.View.{View}
-use Rattle.view_types.specs.declared.view.View.TheVariants.{Endpoints, Profile, Server, Outbound}
+use Rattle.view_types.specs.declared.view.View.TheVariants.{Endpoints, Profile, Server, Outbound, ServerRows}
+use Rattle.view_rules.specs.AuthzOrder.{authz_cmp, authz_key}
+use Rattle.view_rules.specs.ByKey.{changed_from, gone_keys, has_key, has_same}
 use Rattle.view_rules.specs.Endpoints.{pair_cmp, pair_of}
-use Rattle.view_rules.specs.Fold.{IsOrderly}
+use Rattle.view_rules.specs.Fold.{IsOrderly, authz_of}
 use Rattle.view_rules.specs.Same.{same_option, same_profile, same_row}
-use Rattle.view_rules.specs.SamePolicies.{same_outbound, same_server}
+use Rattle.view_rules.specs.SamePolicies.{same_authz, same_outbound, same_server, same_server_row}
 
 -- ---- pieces
 
@@ -37,18 +40,18 @@ abbrev pub same_pair : Ip × ℕ → Ip × ℕ → Bool
 same_pair = eq_by_cmp pair_cmp
 
 abbrev pub has_row : List EndpointRow → EndpointRow → Bool
-has_row rows row = list_any (same_row row) rows
+has_row = has_same same_row
 
 abbrev pub has_pair : List EndpointRow → Ip × ℕ → Bool
-has_pair rows pair = list_any (λ row. same_pair pair (pair_of row)) rows
+has_pair = has_key pair_cmp pair_of
 
 -- the rows that are new or have changed
 abbrev pub changed_rows : List EndpointRow → List EndpointRow → List EndpointRow
-changed_rows old new = filter (λ row. not (has_row old row)) new
+changed_rows = changed_from same_row
 
 -- the addresses at which there is no row any more
 abbrev pub gone_pairs : List EndpointRow → List EndpointRow → List (Ip × ℕ)
-gone_pairs old new = filter (λ pair. not (has_pair new pair)) (map pair_of old)
+gone_pairs = gone_keys pair_cmp pair_of
 
 -- the old view, if any, is in order
 abbrev pub IsOrderlyBefore : Option EndpointView → Type 0
@@ -70,9 +73,13 @@ is_news (Some old) exists = not (beq old.exists exists) || not (length old.rows 
 abbrev pub messages_to_none : Option EndpointView → Bool → List Message
 messages_to_none old exists = if is_news old exists then NoEndpoints exists ∷ [] else []
 
+-- first rows, then keys, each in messages of the size
+abbrev pub messages_of : {X K : Type 0} → (List X → Message) → (List K → Message) → ℕ → List X → List K → List Message
+messages_of put gone size rows keys = map put (in_pieces size rows) ++ map gone (in_pieces size keys)
+
 -- first the new and changed rows, then the addresses gone
 abbrev pub messages_to_rows : ℕ → List EndpointRow → List EndpointRow → List Message
-messages_to_rows size old new = map Add (in_pieces size (changed_rows old new)) ++ map Remove (in_pieces size (gone_pairs old new))
+messages_to_rows size old new = messages_of Add Remove size (changed_rows old new) (gone_pairs old new)
 
 abbrev pub messages_to : ℕ → Option EndpointView → Bool → List EndpointRow → List Message
 messages_to size old exists [] = messages_to_none old exists
@@ -84,6 +91,25 @@ endpoint_batch old new limits = messages_to limits.frame_addrs old new.exists ne
 -- a view that is sent whole, unless it was shown before as it is
 abbrev pub whole_batch : {X : Type 0} → (X → X → Bool) → (X → Message) → Option X → X → List Message
 whole_batch same message old new = if same_option same old (Some new) then [] else message new ∷ []
+
+-- ---- inbound views by rows
+
+-- both views are there, and nothing but the Server's own authorizations differs
+abbrev pub differ_in_authz : Option ServerView → ServerView → Bool
+differ_in_authz (Some (Present old)) (Present new) = same_server_row (record old { authz = new.authz }) new
+differ_in_authz _ _ = false
+
+abbrev pub authz_before : Option ServerView → List AuthzRow
+authz_before None = []
+authz_before (Some old) = authz_of old
+
+-- first the new and changed authorizations, then the kinds and names of those gone
+abbrev pub messages_to_authz : ℕ → List AuthzRow → List AuthzRow → List Message
+messages_to_authz size old new = messages_of AuthzPut AuthzGone size (changed_from same_authz old new) (gone_keys authz_cmp authz_key old new)
+
+-- what differs of the authorizations, where nothing else differs, and otherwise the view whole
+abbrev pub port_batch : ℕ → Option ServerView → ServerView → List Message
+port_batch size old new = if differ_in_authz old new then messages_to_authz size (authz_before old) (authz_of new) else whole_batch same_server Whole old new
 
 -- ---- views
 
@@ -107,9 +133,15 @@ abbrev pub outbound_in : Option View → Option OutboundView
 outbound_in (Some (Outbound view)) = Some view
 outbound_in _ = None
 
+-- the inbound view that is told by rows, if a view is one
+abbrev pub port_in : Option View → Option ServerView
+port_in (Some (ServerRows view)) = Some view
+port_in _ = None
+
 -- from the old view of a query, or from none, to the new one
 abbrev pub batch : Option View → View → Limits → List Message
 batch old (Endpoints new) limits = endpoint_batch (endpoints_in old) new limits
 batch old (Profile new) limits = whole_batch same_profile WholeProfile (profile_in old) new
 batch old (Server new) limits = whole_batch same_server WholeServer (server_in old) new
 batch old (Outbound new) limits = whole_batch same_outbound WholeOutbound (outbound_in old) new
+batch old (ServerRows new) limits = port_batch limits.frame_addrs (port_in old) new

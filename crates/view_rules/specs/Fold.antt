@@ -1,14 +1,19 @@
 -- What a subscriber sees who folds the messages that it is sent.
 use Rattle.std.specs.Prelude.{◌≡◌, ℕ, true, false, List, [], ◌∷◌, Option, Some, None, map}
-use Rattle.std.specs.FinMap.{FinMap, empty, insert, remove, values}
+use Rattle.std.specs.FinMap.{FinMap, values}
 use Rattle.std.specs.List.Sorted.{IsStrictlySortedBy}
 use Rattle.net_cidr.specs.declared.ip.Ip.{Ip}
 use Rattle.view_types.specs.declared.endpoint.EndpointRow.{EndpointRow}
 use Rattle.view_types.specs.declared.endpoint.EndpointView.{EndpointView}
 use Rattle.view_types.specs.declared.message.Message.{Message}
-use Rattle.view_types.specs.declared.message.Message.TheVariants.{Add, Remove, NoEndpoints, Profile as WholeProfile, Server as WholeServer, Outbound as WholeOutbound}
+use Rattle.view_types.specs.declared.message.Message.TheVariants.{Add, Remove, NoEndpoints, Profile as WholeProfile, Server as WholeServer, Outbound as WholeOutbound, Whole, AuthzPut, AuthzGone}
+use Rattle.view_types.specs.declared.server_view.AuthzRow.{AuthzRow}
+use Rattle.view_types.specs.declared.server_view.ServerView.{ServerView}
+use Rattle.view_types.specs.declared.server_view.ServerView.TheVariants.{Absent, Present}
 use Rattle.view_types.specs.declared.view.View.{View}
-use Rattle.view_types.specs.declared.view.View.TheVariants.{Endpoints, Profile, Server, Outbound}
+use Rattle.view_types.specs.declared.view.View.TheVariants.{Endpoints, Profile, Server, Outbound, ServerRows}
+use Rattle.view_rules.specs.AuthzOrder.{AuthzKey, RowsRise, authz_cmp, authz_key}
+use Rattle.view_rules.specs.ByKey.{map_of, put_all, take_all}
 use Rattle.view_rules.specs.Endpoints.{no_endpoints, pair_cmp, pair_of}
 
 -- rows by their addresses and ports
@@ -17,15 +22,26 @@ RowMap = FinMap pair_cmp EndpointRow
 
 -- each row in the place of that of its address and port
 abbrev pub put_rows : List EndpointRow → RowMap → RowMap
-put_rows [] m = m
-put_rows (r ∷ rs) m = put_rows rs (insert m (pair_of r) r)
+put_rows = put_all pair_cmp pair_of
 
 abbrev pub row_map : List EndpointRow → RowMap
-row_map rows = put_rows rows empty
+row_map = map_of pair_cmp pair_of
 
 abbrev pub take_out : List (Ip × ℕ) → RowMap → RowMap
-take_out [] m = m
-take_out (p ∷ ps) m = take_out ps (remove m p)
+take_out = take_all pair_cmp pair_of
+
+-- authorizations by their kinds and names
+abbrev pub AuthzMap : Type 0
+AuthzMap = FinMap authz_cmp AuthzRow
+
+abbrev pub put_authz : List AuthzRow → AuthzMap → AuthzMap
+put_authz = put_all authz_cmp authz_key
+
+abbrev pub authz_map : List AuthzRow → AuthzMap
+authz_map = map_of authz_cmp authz_key
+
+abbrev pub take_authz : List AuthzKey → AuthzMap → AuthzMap
+take_authz = take_all authz_cmp authz_key
 
 -- ---- messages
 
@@ -40,6 +56,21 @@ abbrev pub seen : Option View → EndpointView
 seen (Some (Endpoints view)) = view
 seen _ = no_endpoints
 
+-- the authorizations of the Server, if there is one
+abbrev pub authz_of : ServerView → List AuthzRow
+authz_of Absent = []
+authz_of (Present row) = row.authz
+
+-- with its authorizations edited; a view that is absent stays so
+abbrev pub with_authz : (AuthzMap → AuthzMap) → ServerView → ServerView
+with_authz edit Absent = Absent
+with_authz edit (Present row) = Present (record row { authz = values (edit (authz_map row.authz)) })
+
+-- the view of a port that is seen; before the first message it is absent
+abbrev pub seen_port : Option View → ServerView
+seen_port (Some (ServerRows view)) = view
+seen_port _ = Absent
+
 -- the view after one more message
 abbrev pub shown_after : Option View → Message → View
 shown_after shown (Add rows) = Endpoints (with_rows rows (seen shown))
@@ -48,6 +79,9 @@ shown_after shown (NoEndpoints exists) = Endpoints (record { exists = exists; ro
 shown_after shown (WholeProfile view) = Profile view
 shown_after shown (WholeServer view) = Server view
 shown_after shown (WholeOutbound view) = Outbound view
+shown_after shown (Whole view) = ServerRows (with_authz (λ authz. authz) view)
+shown_after shown (AuthzPut rows) = ServerRows (with_authz (put_authz rows) (seen_port shown))
+shown_after shown (AuthzGone keys) = ServerRows (with_authz (take_authz keys) (seen_port shown))
 
 abbrev pub folded_onto : Option View → List Message → Option View
 folded_onto view [] = view
@@ -63,7 +97,8 @@ pub record IsOrderly (view : EndpointView) : Type 0 where
   pub rise : IsStrictlySortedBy pair_cmp (map pair_of view.rows)
   pub absent : view.exists ≡ false → view.rows ≡ []
 
--- so it is of the endpoints that were shown, if any were
+-- so it is of the endpoints that were shown, and of the authorizations of a Server of which it is told what changes
 abbrev pub IsOrderlyIfShown : Option View → Type 0
 IsOrderlyIfShown (Some (Endpoints view)) = IsOrderly view
+IsOrderlyIfShown (Some (ServerRows view)) = RowsRise (authz_of view)
 IsOrderlyIfShown _ = Unit {0}

@@ -18,17 +18,20 @@ use Rattle.view_types.specs.declared.object.Object.TheVariants as object
 use Rattle.view_types.specs.declared.outbound.OutboundView.{OutboundView}
 use Rattle.view_types.specs.declared.outbound.ProfileView.{ProfileView}
 use Rattle.view_types.specs.declared.pod.Pod.{Pod}
+use Rattle.view_types.specs.declared.query.Query.{Query}
+use Rattle.view_types.specs.declared.server_view.AuthzRow.{AuthzRow}
 use Rattle.view_types.specs.declared.server_view.ServerView.{ServerView}
 use Rattle.view_types.specs.declared.service.NamedPort.{NamedPort}
 use Rattle.view_types.specs.declared.service.Service.{Service}
 use Rattle.view_types.specs.declared.slice.Point.{Point}
 use Rattle.view_types.specs.declared.slice.Slice.{Slice}
 use Rattle.view_rules.specs.Endpoints.{RowFor, endpoints, first_rows, has_addresses, pair_cmp, pair_of, port_name, service_held, service_key, service_of, slices_held}
-use Rattle.view_rules.specs.Fold.{IsOrderly}
+use Rattle.view_rules.specs.Fold.{IsOrderly, IsOrderlyIfShown}
 use Rattle.view_rules.specs.PodRows.{pod_key, row_for}
 use Rattle.view_rules.specs.Profiles.{has_ended, pod_at, service_at}
 use Rattle.view_rules.specs.Same.{same_profile, same_row}
-use Rattle.view_rules.specs.SamePolicies.{same_outbound, same_server}
+use Rattle.view_rules.specs.SamePolicies.{same_authz, same_outbound, same_server}
+use Rattle.view_rules.specs.Views.{view_of}
 
 -- the name of the Service port of the number, where the Service has endpoints
 abbrev pub name_of_port : ℕ → Option Service → Option (List ℕ)
@@ -78,6 +81,10 @@ SlicesByName = (held : ObjectMap) → AtKeys held → (ns name : List ℕ)
 -- the rows of each view are in order, and a Service that isn't there has none
 abbrev pub EndpointsAreOrderly : Type 0
 EndpointsAreOrderly = (config : Config) (held : ObjectMap) (ns name : List ℕ) (port : ℕ) → IsOrderly (endpoints config held ns name port)
+
+-- so are the rows of the view of each query, by which it is told what changes
+abbrev pub ViewsAreOrderly : Type 0
+ViewsAreOrderly = (config : Config) (held : ObjectMap) → AtKeys held → (query : Query) → IsOrderlyIfShown (Some (view_of config held query))
 
 -- ---- the place that a row comes from
 
@@ -132,6 +139,9 @@ SameRowDecides = (r s : EndpointRow) → Decides (same_row r s) (r ≡ s)
 
 abbrev pub SameProfileDecides : Type 0
 SameProfileDecides = (v w : ProfileView) → Decides (same_profile v w) (v ≡ w)
+
+abbrev pub SameAuthzDecides : Type 0
+SameAuthzDecides = (a b : AuthzRow) → Decides (same_authz a b) (a ≡ b)
 
 abbrev pub SameServerDecides : Type 0
 SameServerDecides = (v w : ServerView) → Decides (same_server v w) (v ≡ w)

@@ -1,4 +1,6 @@
+pub mod AuthzOrder
 pub mod Batch
+pub mod ByKey
 pub mod Endpoints
 pub mod Fold
 pub mod InOrder

@@ -5,14 +5,12 @@ use Rattle.std.specs.Cmp.{IsTotalOrder}
 use Rattle.std.specs.Cmp.Lexicographic.{slice_cmp}
 use Rattle.std.specs.FinMap.{get}
 use Rattle.std.specs.List.Sorted.{IsStrictlySortedBy}
-use Rattle.std.specs.Ordering.{nat_cmp, ordering_then}
-use Rattle.std.specs.declared.cmp.Ordering.{Ordering}
+use Rattle.std.specs.Ordering.{nat_cmp}
 use Rattle.label_select.specs.Selects.{LabelMap, Selects}
 use Rattle.label_select.specs.declared.selector.Selector.{Selector}
 use Rattle.mesh_base.specs.declared.key.Kind.TheVariants as kind
 use Rattle.mesh_base.specs.declared.key.ObjKey.{ObjKey}
 use Rattle.view_types.specs.Lawful.{IsLawful}
-use Rattle.view_types.specs.Numbers.{authz_number}
 use Rattle.view_types.specs.Objects.{AtKeys, ObjectMap, key_of}
 use Rattle.view_types.specs.declared.config.Config.{Config}
 use Rattle.view_types.specs.declared.object.Object.{Object}
@@ -24,10 +22,10 @@ use Rattle.view_types.specs.declared.route.Route.{Route}
 use Rattle.view_types.specs.declared.server.PortRef.{PortRef}
 use Rattle.view_types.specs.declared.server.PortRef.TheVariants.{Number, Named}
 use Rattle.view_types.specs.declared.server.ServerSpec.{ServerSpec}
-use Rattle.view_types.specs.declared.server_view.AuthzKind.{AuthzKind}
 use Rattle.view_types.specs.declared.server_view.AuthzRow.{AuthzRow}
 use Rattle.view_types.specs.declared.service.NamedPort.{NamedPort}
 use Rattle.view_types.specs.declared.service.Service.{Service}
+use Rattle.view_rules.specs.AuthzOrder.{RowsRise}
 use Rattle.view_rules.specs.Endpoints.{service_key}
 use Rattle.view_rules.specs.InOrder.{in_byte_order}
 use Rattle.view_rules.specs.Laws.{FindsLeast}
@@ -92,13 +90,6 @@ pub record IsShown (config : Config) (held : ObjectMap) (applies : Object → Bo
 abbrev pub RowsAreOfThoseThatApply : Type 0
 RowsAreOfThoseThatApply = (config : Config) (held : ObjectMap) → AtKeys held → (applies : Object → Bool) (row : AuthzRow)
     → Contains (authz_rows config held applies) row ↔ IsShown config held applies row
-
--- a ServerAuthorization before an AuthorizationPolicy, and then by name
-abbrev pub row_cmp : AuthzKind × List ℕ → AuthzKind × List ℕ → Ordering
-row_cmp a b = ordering_then (nat_cmp (authz_number a.0) (authz_number b.0)) (slice_cmp nat_cmp a.1 b.1)
-
-abbrev pub RowsRise : List AuthzRow → Type 0
-RowsRise rows = IsStrictlySortedBy row_cmp (map (λ (row : AuthzRow). (row.kind, row.name)) rows)
 
 -- the rows of a Server, and those of a route, rise by kind and name
 abbrev pub RowsAreInOrder : Type 0

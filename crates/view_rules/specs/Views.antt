@@ -3,9 +3,9 @@ use Rattle.std.specs.Prelude.{Option, option_map}
 use Rattle.view_types.specs.Objects.{ObjectMap}
 use Rattle.view_types.specs.declared.config.Config.{Config}
 use Rattle.view_types.specs.declared.query.Query.{Query}
-use Rattle.view_types.specs.declared.query.Query.TheVariants.{Get, Profile, Port, Traffic}
+use Rattle.view_types.specs.declared.query.Query.TheVariants.{Get, Profile, Port, Traffic, PortRows}
 use Rattle.view_types.specs.declared.view.View.{View}
-use Rattle.view_types.specs.declared.view.View.TheVariants.{Endpoints, Profile as TargetProfile, Server, Outbound}
+use Rattle.view_types.specs.declared.view.View.TheVariants.{Endpoints, Profile as TargetProfile, Server, Outbound, ServerRows}
 use Rattle.view_rules.specs.Endpoints.{endpoints}
 use Rattle.view_rules.specs.Inbound.{inbound}
 use Rattle.view_rules.specs.Outbound.{outbound}
@@ -17,6 +17,17 @@ view_of config held (Get ns name port ctx) = Endpoints (endpoints config held ns
 view_of config held (Profile target ctx) = TargetProfile (profile config held target ctx.ns)
 view_of config held (Port ns pod port) = Server (inbound config held ns pod port)
 view_of config held (Traffic target) = Outbound (outbound config held target)
+view_of config held (PortRows ns pod port) = ServerRows (inbound config held ns pod port)
+
+-- an inbound view, told by rows
+abbrev pub by_rows : View → View
+by_rows (Server view) = ServerRows view
+by_rows view = view
+
+-- the view of a query, from that of a query for the same rows: an inbound view is told by rows where it is asked for so
+abbrev pub as_asked : Query → View → View
+as_asked (PortRows ns pod port) view = by_rows view
+as_asked _ view = view
 
 -- the view of a query where this was held, if there was a moment at which it was
 abbrev pub view_before : Config → Query → Option ObjectMap → Option View

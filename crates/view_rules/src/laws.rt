@@ -1,4 +1,4 @@
-ghost use Rattle.view_rules.specs.Laws.{EndpointsAreOrderly, FirstRowsAreFirst, PairsAreGiven, PodsAreTheLeast, RowsAreOfTheLeast, SameOutboundDecides, SameProfileDecides, SameRowDecides, SameServerDecides, ServicesAreTheLeast, SlicesByName};
+ghost use Rattle.view_rules.specs.Laws.{EndpointsAreOrderly, FirstRowsAreFirst, PairsAreGiven, PodsAreTheLeast, RowsAreOfTheLeast, SameAuthzDecides, SameOutboundDecides, SameProfileDecides, SameRowDecides, SameServerDecides, ServicesAreTheLeast, SlicesByName, ViewsAreOrderly};
 ghost use Rattle.view_rules.specs.RowLaws.{RowOfSaysOfThePod, RowsSayOfTheirPods};
 
 /// A pair of address and port stands in a view exactly where some place gives it.
@@ -19,6 +19,11 @@ pub fn slices_by_name()
 /// The rows of each view are in order, and a Service that isn't there has none.
 pub fn endpoints_are_orderly()
     ensures { EndpointsAreOrderly }
+{}
+
+/// The rows of the view of each query, by which its subscribers are told what changes, are in order.
+pub fn views_are_orderly()
+    ensures { ViewsAreOrderly }
 {}
 
 /// The row of an address and port comes from the least place that gives it: by the slice's name, the endpoint, the
@@ -49,6 +54,11 @@ pub fn same_row_decides()
 /// The test of two profiles is true exactly where they are equal.
 pub fn same_profile_decides()
     ensures { SameProfileDecides }
+{}
+
+/// The test of two authorizations is true exactly where they are equal.
+pub fn same_authz_decides()
+    ensures { SameAuthzDecides }
 {}
 
 /// The test of two inbound views is true exactly where they are equal.

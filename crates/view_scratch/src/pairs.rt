@@ -3,7 +3,7 @@ ghost use Rattle.view_rules.specs.Endpoints.{first_rows};
 
 use mesh_base::list::List;
 use mesh_base::memory::Memory;
-use view_rules::order::keep_first;
+use row_places::order::keep_first;
 use view_types::endpoint::EndpointRow;
 
 /// Each pair of address and port once, in order, by the first row of the pair.

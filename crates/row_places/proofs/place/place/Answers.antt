@@ -2,12 +2,10 @@ use Rattle.std.proofs.Common.{rules}
 use Rattle.std.proofs.lemmas.Fn.{always_returns_same}
 use Rattle.mesh_base.proofs.Keyed.{searchable}
 use Rattle.mesh_base.proofs.Places.{searched}
-use Rattle.view_rules.proofs.Pairs.{pairs_exact, pairs_total}
-use Rattle.view_rules.specs.Endpoints.{pair_cmp, pair_of}
 use Rattle.row_places.proofs.place.place.Goals as goal
 
 pub returns : goal.returns
-returns c =
+returns g c =
     let facts = c.binary_search_by.ensures in
-    let by_pair = facts.position (λ row. pair_cmp (pair_of row) c.args.pair.now) (always_returns_same _ _ _ (λ a r g called. (search rules, search rules))) in
-    searched _ _ (searchable pairs_total pairs_exact pair_of (λ row. row) c.args.rows.now c.requires c.args.pair.now) _ facts.bound by_pair
+    let by_key = facts.position (λ row. g.T.KeyedRow.cmp (g.T.KeyedRow.key_of row) c.args.key.now) (always_returns_same _ _ _ (λ a r h called. (search rules, search rules))) in
+    searched _ _ (searchable g.met.T.KeyedRow.total g.met.T.KeyedRow.exact g.T.KeyedRow.key_of (λ row. row) c.args.rows.now c.requires c.args.key.now) _ facts.bound by_key
