@@ -1,147 +1,154 @@
--- Folding a batch on top of the old view gives the new one.
-use Rattle.std.proofs.Common.{◌≡◌, Bool, true, false, cond, not, ◌||◌, List, [], ◌∷◌, Some, None, refl, sym, ap, ◌∙◌}
+-- Folding a batch on top of the old rows gives the new ones.
+use Rattle.std.proofs.Common.{◌≡◌, Bool, true, false, cond, not, ◌||◌, List, [], ◌∷◌, Option, Some, None, refl, sym, ap, ◌∙◌}
 use lib.Dec.{T}
-use Rattle.std.specs.Cmp.{tied_itself}
-use Rattle.std.specs.FinMap.{get, same_map}
+use Rattle.std.specs.Bool.{Decides}
+use Rattle.std.specs.Cmp.{IsTotalOrder, tied_itself}
+use Rattle.std.specs.FinMap.{FinMap, IsAntisymmetric, get, same_map}
 use Rattle.std.specs.FinMap.Entries.{below_all}
 use Rattle.std.specs.List.{AllByRecursion, filter, list_any}
-use Rattle.std.specs.Ordering.{ordering_reverse}
+use Rattle.std.specs.Ordering.{eq_by_cmp, ordering_reverse}
+use Rattle.std.specs.declared.cmp.Ordering.{Ordering}
 use Rattle.std.specs.declared.cmp.Ordering.TheVariants.{Less, Equal, Greater}
 use Rattle.mesh_base.specs.Keyed.{keyed}
-use Rattle.view_rules.proofs.Pairs.{pairs_exact, pairs_total}
-use Rattle.view_rules.specs.Batch.{changed_rows, gone_pairs, has_pair, has_row, same_pair}
-use Rattle.view_rules.specs.Same.{same_row}
-use Rattle.view_rules.specs.Endpoints.{pair_cmp, pair_of}
-use Rattle.view_rules.specs.Fold.{RowMap, put_rows, row_map, take_out}
-use Rattle.view_types.specs.declared.endpoint.EndpointRow.{EndpointRow}
+use Rattle.view_rules.specs.ByKey.{changed_from, gone_keys, has_key, has_same, map_of, put_all, take_all}
 use Rattle.view_rules.proofs.Entries.{first, less, second}
-use Rattle.view_rules.proofs.RowMaps.{Pair, IsRising, found, at_pair, found_own, found_there, not_there, only_one, put_none, put_same, put_there, taken, get_rising, either_none}
-use Rattle.view_rules.proofs.SameRow.{row_decides}
+use Rattle.view_rules.proofs.KeyMaps as maps
+use Rattle.view_rules.proofs.KeyMaps.{at_key, found_own, found_there, not_there, only_one, put_none, put_same, put_there, taken, get_rising, either_none}
 
--- ---- what is found
+module _ {X K : Type 0} {R : K → K → Ordering} (o : IsTotalOrder R) (exact : IsAntisymmetric R) (key : X → K) (same : X → X → Bool) (decides : (r s : X) → Decides (same r s) (r ≡ s)) where
+  abbrev pub IsRising : List X → Type 0
+  IsRising = maps.IsRising o exact key
 
-below_row : (x r : EndpointRow) (xs : List EndpointRow) → T (below_all pair_cmp (pair_of x) (keyed pair_cmp pair_of (λ row. row) xs)) → has_row xs r ≡ true → pair_cmp (pair_of x) (pair_of r) ≡ Less
-below_row x r [] h e = cc
-below_row x r (y ∷ ys) h e =
-    elim (same_row r y) as (λ b. same_row r y ≡ b → (b || has_row ys r) ≡ true → pair_cmp (pair_of x) (pair_of r) ≡ Less) [
-      | true ↦ λ t e. ap (λ z. pair_cmp (pair_of x) (pair_of z)) ((row_decides r y).0 t) ∙ less _ (first _ _ h)
-      | false ↦ λ t e. below_row x r ys (second _ _ h) e
-    ] refl e
+  abbrev found : K → List X → Option X
+  found = maps.found o exact key
 
--- a row among them is found at its pair
-found_row : (rows : List EndpointRow) (r : EndpointRow) → IsRising rows → has_row rows r ≡ true → found (pair_of r) rows ≡ Some r
-found_row [] r h e = cc
-found_row (x ∷ xs) r h e =
-    elim (same_row r x) as (λ b. same_row r x ≡ b → (b || has_row xs r) ≡ true → found (pair_of r) (x ∷ xs) ≡ Some r) [
-      | true ↦ λ t e.
-          let is : r ≡ x = (row_decides r x).0 t in
-          let tied : pair_cmp (pair_of r) (pair_of x) ≡ Equal = ap (λ z. pair_cmp (pair_of r) (pair_of z)) (sym is) ∙ tied_itself pairs_total (pair_of r) in
-          rw tied (ap Some (sym is))
-      | false ↦ λ t e.
-          let after : pair_cmp (pair_of r) (pair_of x) ≡ Greater = pairs_total.antisymm (pair_of r) (pair_of x) ∙ ap ordering_reverse (below_row x r xs (first _ _ h) e) in
-          rw after (found_row xs r (second _ _ h) e)
-    ] refl e
+  abbrev same_key : K → K → Bool
+  same_key = eq_by_cmp R
 
--- ---- filters
+  -- ---- what is found
 
-all_kept : (P : EndpointRow → Type 0) (p : EndpointRow → Bool) (rows : List EndpointRow) → AllByRecursion P rows → AllByRecursion P (filter p rows)
-all_kept P p [] h = tt
-all_kept P p (r ∷ rs) h = elim (p r) as (λ b. AllByRecursion P (cond b (r ∷ filter p rs) (filter p rs))) [
-  | true ↦ (h.0, all_kept P p rs h.1)
-  | false ↦ all_kept P p rs h.1
-]
+  below_row : (x r : X) (xs : List X) → T (below_all R (key x) (keyed R key (λ x. x) xs)) → has_same same xs r ≡ true → R (key x) (key r) ≡ Less
+  below_row x r [] h e = cc
+  below_row x r (y ∷ ys) h e =
+      elim (same r y) as (λ b. same r y ≡ b → (b || has_same same ys r) ≡ true → R (key x) (key r) ≡ Less) [
+        | true ↦ λ t e. ap (λ z. R (key x) (key z)) ((decides r y).0 t) ∙ less _ (first _ _ h)
+        | false ↦ λ t e. below_row x r ys (second _ _ h) e
+      ] refl e
 
-kept_there : (p : EndpointRow → Bool) (rows : List EndpointRow) (q : Pair) (x : EndpointRow) → found q rows ≡ Some x → p x ≡ true → has_pair (filter p rows) q ≡ true
-kept_there p [] q x e h = cc
-kept_there p (r ∷ rs) q x e h =
-    elim (same_pair q (pair_of r)) as (λ b. same_pair q (pair_of r) ≡ b → cond b (Some r) (found q rs) ≡ Some x → has_pair (cond (p r) (r ∷ filter p rs) (filter p rs)) q ≡ true) [
-      | true ↦ λ t e.
-          let is : x ≡ r = cc e in
-          let kept : p r ≡ true = ap p (sym is) ∙ h in
-          rw (kept, t) refl
-      | false ↦ λ t e. elim (p r) as (λ b. has_pair (cond b (r ∷ filter p rs) (filter p rs)) q ≡ true) [
-        | true ↦ rw t (kept_there p rs q x e h)
-        | false ↦ kept_there p rs q x e h
-      ]
-    ] refl e
+  -- a row among them is found at its key
+  found_row : (rows : List X) (r : X) → IsRising rows → has_same same rows r ≡ true → found (key r) rows ≡ Some r
+  found_row [] r h e = cc
+  found_row (x ∷ xs) r h e =
+      elim (same r x) as (λ b. same r x ≡ b → (b || has_same same xs r) ≡ true → found (key r) (x ∷ xs) ≡ Some r) [
+        | true ↦ λ t e.
+            let is : r ≡ x = (decides r x).0 t in
+            let tied : R (key r) (key x) ≡ Equal = ap (λ z. R (key r) (key z)) (sym is) ∙ tied_itself o (key r) in
+            rw tied (ap Some (sym is))
+        | false ↦ λ t e.
+            let after : R (key r) (key x) ≡ Greater = o.antisymm (key r) (key x) ∙ ap ordering_reverse (below_row x r xs (first _ _ h) e) in
+            rw after (found_row xs r (second _ _ h) e)
+      ] refl e
 
-none_kept : (p : EndpointRow → Bool) (rows : List EndpointRow) (q : Pair) → has_pair rows q ≡ false → has_pair (filter p rows) q ≡ false
-none_kept p [] q e = refl
-none_kept p (r ∷ rs) q e =
-    elim (same_pair q (pair_of r)) as (λ b. same_pair q (pair_of r) ≡ b → (b || has_pair rs q) ≡ false → has_pair (cond (p r) (r ∷ filter p rs) (filter p rs)) q ≡ false) [
-      | true ↦ λ t e. cc e
-      | false ↦ λ t e. elim (p r) as (λ b. has_pair (cond b (r ∷ filter p rs) (filter p rs)) q ≡ false) [
-        | true ↦ rw t (none_kept p rs q e)
-        | false ↦ none_kept p rs q e
-      ]
-    ] refl e
+  -- ---- filters
 
--- a pair that the new rows have isn't gone
-stays : (new olds : List EndpointRow) (q : Pair) → has_pair new q ≡ true → list_any (same_pair q) (gone_pairs olds new) ≡ false
-stays new [] q e = refl
-stays new (w ∷ ws) q e =
-    elim (has_pair new (pair_of w)) as (λ b. has_pair new (pair_of w) ≡ b → list_any (same_pair q) (cond (not b) (pair_of w ∷ gone_pairs ws new) (gone_pairs ws new)) ≡ false) [
-      | true ↦ λ t. stays new ws q e
-      | false ↦ λ t. elim (same_pair q (pair_of w)) as (λ b. same_pair q (pair_of w) ≡ b → (b || list_any (same_pair q) (gone_pairs ws new)) ≡ false) [
-        | true ↦ λ s. absurd (let no : true ≡ false = sym e ∙ ap (has_pair new) (at_pair q (pair_of w) s) ∙ t in cc)
-        | false ↦ λ s. stays new ws q e
-      ] refl
-    ] refl
+  all_kept : (P : X → Type 0) (p : X → Bool) (rows : List X) → AllByRecursion P rows → AllByRecursion P (filter p rows)
+  all_kept P p [] h = tt
+  all_kept P p (r ∷ rs) h = elim (p r) as (λ b. AllByRecursion P (cond b (r ∷ filter p rs) (filter p rs))) [
+    | true ↦ (h.0, all_kept P p rs h.1)
+    | false ↦ all_kept P p rs h.1
+  ]
 
--- one that only the old rows have is
-goes : (new olds : List EndpointRow) (q : Pair) → has_pair new q ≡ false → has_pair olds q ≡ true → list_any (same_pair q) (gone_pairs olds new) ≡ true
-goes new [] q e h = cc
-goes new (w ∷ ws) q e h =
-    elim (same_pair q (pair_of w)) as (λ b. same_pair q (pair_of w) ≡ b → (b || has_pair ws q) ≡ true → list_any (same_pair q) (cond (not (has_pair new (pair_of w))) (pair_of w ∷ gone_pairs ws new) (gone_pairs ws new)) ≡ true) [
-      | true ↦ λ t h.
-          let none : has_pair new (pair_of w) ≡ false = ap (has_pair new) (sym (at_pair q (pair_of w) t)) ∙ e in
-          rw (none, t) refl
-      | false ↦ λ t h. elim (not (has_pair new (pair_of w))) as (λ b. list_any (same_pair q) (cond b (pair_of w ∷ gone_pairs ws new) (gone_pairs ws new)) ≡ true) [
-        | true ↦ rw t (goes new ws q e h)
-        | false ↦ goes new ws q e h
-      ]
-    ] refl h
+  kept_there : (p : X → Bool) (rows : List X) (q : K) (x : X) → found q rows ≡ Some x → p x ≡ true → has_key R key (filter p rows) q ≡ true
+  kept_there p [] q x e h = cc
+  kept_there p (r ∷ rs) q x e h =
+      elim (same_key q (key r)) as (λ b. same_key q (key r) ≡ b → cond b (Some r) (found q rs) ≡ Some x → has_key R key (cond (p r) (r ∷ filter p rs) (filter p rs)) q ≡ true) [
+        | true ↦ λ t e.
+            let is : x ≡ r = cc e in
+            let kept : p r ≡ true = ap p (sym is) ∙ h in
+            rw (kept, t) refl
+        | false ↦ λ t e. elim (p r) as (λ b. has_key R key (cond b (r ∷ filter p rs) (filter p rs)) q ≡ true) [
+          | true ↦ rw t (kept_there p rs q x e h)
+          | false ↦ kept_there p rs q x e h
+        ]
+      ] refl e
 
--- ---- what a map has after it all
+  none_kept : (p : X → Bool) (rows : List X) (q : K) → has_key R key rows q ≡ false → has_key R key (filter p rows) q ≡ false
+  none_kept p [] q e = refl
+  none_kept p (r ∷ rs) q e =
+      elim (same_key q (key r)) as (λ b. same_key q (key r) ≡ b → (b || has_key R key rs q) ≡ false → has_key R key (cond (p r) (r ∷ filter p rs) (filter p rs)) q ≡ false) [
+        | true ↦ λ t e. cc e
+        | false ↦ λ t e. elim (p r) as (λ b. has_key R key (cond b (r ∷ filter p rs) (filter p rs)) q ≡ false) [
+          | true ↦ rw t (none_kept p rs q e)
+          | false ↦ none_kept p rs q e
+        ]
+      ] refl e
 
-module _ (old new : List EndpointRow) (olds : IsRising old) (news : IsRising new) where
-  folded_map : RowMap
-  folded_map = take_out (gone_pairs old new) (put_rows (changed_rows old new) (row_map old))
-
-  get_old : (q : Pair) → get (row_map old) q ≡ found q old
-  get_old q = get_rising old q olds
-
-  at_row : (q : Pair) (r : EndpointRow) → found q new ≡ Some r → get (put_rows (changed_rows old new) (row_map old)) q ≡ Some r
-  at_row q r e =
-      let one = all_kept (λ x. same_pair q (pair_of x) ≡ true → x ≡ r) (λ row. not (has_row old row)) new (only_one new q r news e) in
-      elim (has_row old r) as (λ b. has_row old r ≡ b → get (put_rows (changed_rows old new) (row_map old)) q ≡ Some r) [
-        | true ↦ λ t. put_same (changed_rows old new) (row_map old) q r one (get_old q ∙ ap (λ p. found p old) (sym (found_own new q r e)) ∙ found_row old r olds t)
-        | false ↦ λ t. put_there (changed_rows old new) (row_map old) q r one (kept_there (λ row. not (has_row old row)) new q r e (ap not t))
+  -- a key that the new rows have isn't gone
+  stays : (new olds : List X) (q : K) → has_key R key new q ≡ true → list_any (same_key q) (gone_keys R key olds new) ≡ false
+  stays new [] q e = refl
+  stays new (w ∷ ws) q e =
+      elim (has_key R key new (key w)) as (λ b. has_key R key new (key w) ≡ b → list_any (same_key q) (cond (not b) (key w ∷ gone_keys R key ws new) (gone_keys R key ws new)) ≡ false) [
+        | true ↦ λ t. stays new ws q e
+        | false ↦ λ t. elim (same_key q (key w)) as (λ b. same_key q (key w) ≡ b → (b || list_any (same_key q) (gone_keys R key ws new)) ≡ false) [
+          | true ↦ λ s. absurd (let no : true ≡ false = sym e ∙ ap (has_key R key new) (at_key o exact key q (key w) s) ∙ t in cc)
+          | false ↦ λ s. stays new ws q e
+        ] refl
       ] refl
 
-  at_gap : (q : Pair) → found q new ≡ None → get folded_map q ≡ None
-  unfolding folded_map
-  at_gap q e =
-      let none = not_there new q e in
-      let put = put_none (changed_rows old new) (row_map old) q (none_kept (λ row. not (has_row old row)) new q none) in
-      taken (gone_pairs old new) (put_rows (changed_rows old new) (row_map old)) q
-      ∙ ap (cond (list_any (same_pair q) (gone_pairs old new)) None) (put ∙ get_old q)
-      ∙ elim (found q old) as (λ o. found q old ≡ o → cond (list_any (same_pair q) (gone_pairs old new)) None o ≡ None) [
-        | None ↦ λ t. either_none (list_any (same_pair q) (gone_pairs old new))
-        | Some x ↦ λ t. ap (λ b. cond b None (Some x)) (goes new old q none (found_there old q x t))
-      ] refl
+  -- one that only the old rows have is
+  goes : (new olds : List X) (q : K) → has_key R key new q ≡ false → has_key R key olds q ≡ true → list_any (same_key q) (gone_keys R key olds new) ≡ true
+  goes new [] q e h = cc
+  goes new (w ∷ ws) q e h =
+      elim (same_key q (key w)) as (λ b. same_key q (key w) ≡ b → (b || has_key R key ws q) ≡ true → list_any (same_key q) (cond (not (has_key R key new (key w))) (key w ∷ gone_keys R key ws new) (gone_keys R key ws new)) ≡ true) [
+        | true ↦ λ t h.
+            let none : has_key R key new (key w) ≡ false = ap (has_key R key new) (sym (at_key o exact key q (key w) t)) ∙ e in
+            rw (none, t) refl
+        | false ↦ λ t h. elim (not (has_key R key new (key w))) as (λ b. list_any (same_key q) (cond b (key w ∷ gone_keys R key ws new) (gone_keys R key ws new)) ≡ true) [
+          | true ↦ rw t (goes new ws q e h)
+          | false ↦ goes new ws q e h
+        ]
+      ] refl h
 
-  folds_at : (q : Pair) → get folded_map q ≡ get (row_map new) q
-  unfolding folded_map
-  folds_at q =
-      elim (found q new) as (λ o. found q new ≡ o → get folded_map q ≡ o) [
-        | None ↦ λ t. at_gap q t
-        | Some r ↦ λ t. taken (gone_pairs old new) (put_rows (changed_rows old new) (row_map old)) q
-            ∙ ap (λ b. cond b None (get (put_rows (changed_rows old new) (row_map old)) q)) (stays new old q (found_there new q r t))
-            ∙ at_row q r t
-      ] refl
-      ∙ sym (get_rising new q news)
+  -- ---- what a map has after it all
 
-  pub folds_rows : take_out (gone_pairs old new) (put_rows (changed_rows old new) (row_map old)) ≡ row_map new
-  unfolding folded_map
-  folds_rows = same_map pairs_total pairs_exact _ _ folds_at
+  module _ (old new : List X) (olds : IsRising old) (news : IsRising new) where
+    folded_map : FinMap R X
+    folded_map = take_all R key (gone_keys R key old new) (put_all R key (changed_from same old new) (map_of R key old))
+
+    get_old : (q : K) → get (map_of R key old) q ≡ found q old
+    get_old q = get_rising o exact key old q olds
+
+    at_row : (q : K) (r : X) → found q new ≡ Some r → get (put_all R key (changed_from same old new) (map_of R key old)) q ≡ Some r
+    at_row q r e =
+        let one = all_kept (λ x. same_key q (key x) ≡ true → x ≡ r) (λ row. not (has_same same old row)) new (only_one o exact key new q r news e) in
+        elim (has_same same old r) as (λ b. has_same same old r ≡ b → get (put_all R key (changed_from same old new) (map_of R key old)) q ≡ Some r) [
+          | true ↦ λ t. put_same o exact key (changed_from same old new) (map_of R key old) q r one (get_old q ∙ ap (λ p. found p old) (sym (found_own o exact key new q r e)) ∙ found_row old r olds t)
+          | false ↦ λ t. put_there o exact key (changed_from same old new) (map_of R key old) q r one (kept_there (λ row. not (has_same same old row)) new q r e (ap not t))
+        ] refl
+
+    at_gap : (q : K) → found q new ≡ None → get folded_map q ≡ None
+    unfolding folded_map
+    at_gap q e =
+        let none = not_there o exact key new q e in
+        let put = put_none o exact key (changed_from same old new) (map_of R key old) q (none_kept (λ row. not (has_same same old row)) new q none) in
+        taken o exact key (gone_keys R key old new) (put_all R key (changed_from same old new) (map_of R key old)) q
+        ∙ ap (cond (list_any (same_key q) (gone_keys R key old new)) None) (put ∙ get_old q)
+        ∙ elim (found q old) as (λ f. found q old ≡ f → cond (list_any (same_key q) (gone_keys R key old new)) None f ≡ None) [
+          | None ↦ λ t. either_none o exact key (list_any (same_key q) (gone_keys R key old new))
+          | Some x ↦ λ t. ap (λ b. cond b None (Some x)) (goes new old q none (found_there o exact key old q x t))
+        ] refl
+
+    folds_at : (q : K) → get folded_map q ≡ get (map_of R key new) q
+    unfolding folded_map
+    folds_at q =
+        elim (found q new) as (λ f. found q new ≡ f → get folded_map q ≡ f) [
+          | None ↦ λ t. at_gap q t
+          | Some r ↦ λ t. taken o exact key (gone_keys R key old new) (put_all R key (changed_from same old new) (map_of R key old)) q
+              ∙ ap (λ b. cond b None (get (put_all R key (changed_from same old new) (map_of R key old)) q)) (stays new old q (found_there o exact key new q r t))
+              ∙ at_row q r t
+        ] refl
+        ∙ sym (get_rising o exact key new q news)
+
+    pub folds_rows : take_all R key (gone_keys R key old new) (put_all R key (changed_from same old new) (map_of R key old)) ≡ map_of R key new
+    unfolding folded_map
+    folds_rows = same_map o exact _ _ folds_at

@@ -3,4 +3,7 @@ mod Folding
 mod FoldsBack
 mod MessagesFold
 mod NoMessages
+mod PiecesFold
+mod PortsFold
 mod Sizes
+mod WholeFolds

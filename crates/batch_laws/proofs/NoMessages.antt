@@ -2,17 +2,26 @@
 use Rattle.std.proofs.Common.{◌≡◌, ◌∷◌, ◌||◌, ℕ, Bool, true, false, not, List, [], Some, refl, ap}
 use Rattle.std.specs.Prelude.{map}
 use Rattle.std.specs.Bool.{Decides, beq}
+use Rattle.std.specs.Cmp.{IsTotalOrder}
 use Rattle.std.specs.List.{AllByRecursion, filter, list_any}
-use Rattle.std.specs.Ordering.{is_eq}
+use Rattle.std.specs.Ordering.{eq_by_cmp, is_eq}
+use Rattle.std.specs.declared.cmp.Ordering.{Ordering}
 use Rattle.std.proofs.lemmas.Cmp.{tied_itself}
 use Rattle.view_types.specs.declared.endpoint.EndpointRow.{EndpointRow}
 use Rattle.view_types.specs.declared.message.Message.{Message}
 use Rattle.view_types.specs.declared.message.Message.TheVariants as messages
+use Rattle.view_types.specs.declared.server_view.ServerRow.{ServerRow}
+use Rattle.view_types.specs.declared.server_view.ServerView.{ServerView}
+use Rattle.view_types.specs.declared.server_view.ServerView.TheVariants.{Absent, Present}
 use Rattle.view_types.specs.declared.view.View.TheVariants as views
-use Rattle.view_rules.specs.Batch.{changed_rows, gone_pairs, messages_to, same_pair, whole_batch}
+use Rattle.view_rules.specs.AuthzOrder.{authz_key}
+use Rattle.view_rules.specs.Batch.{messages_to, port_batch, whole_batch}
+use Rattle.view_rules.specs.ByKey.{changed_from, gone_keys}
 use Rattle.view_rules.specs.Endpoints.{pair_of}
-use Rattle.view_rules.specs.Laws.{SameOutboundDecides, SameProfileDecides, SameRowDecides, SameServerDecides}
+use Rattle.view_rules.specs.Laws.{SameAuthzDecides, SameOutboundDecides, SameProfileDecides, SameRowDecides, SameServerDecides}
 use Rattle.view_rules.specs.Same.{same_row}
+use Rattle.view_rules.specs.SamePolicies.{same_authz, same_server_row}
+use Rattle.view_rules.proofs.AuthzKeys.{authz_total}
 use Rattle.view_rules.proofs.Pairs.{pairs_total}
 use Rattle.batch_laws.specs.Laws.{SameViewSendsNothing}
 
@@ -34,13 +43,23 @@ module _ {X Y : Type 0} (test : Y → X → Bool) where
   none_left xs [] all = refl
   none_left xs (y ∷ ys) all = rw all.0 (none_left xs ys all.1)
 
-rows_found : SameRowDecides → (rows : List EndpointRow) → AreFound (λ row other. same_row row other) rows rows
-rows_found same [] = tt
-rows_found same (r ∷ rs) = (rw ((same r r).1 refl) refl, found_in_more (λ row other. same_row row other) r rs rs (rows_found same rs))
+module _ {X K : Type 0} {R : K → K → Ordering} (o : IsTotalOrder R) (key : X → K) (same : X → X → Bool) (decides : (r s : X) → Decides (same r s) (r ≡ s)) where
+  rows_found : (rows : List X) → AreFound same rows rows
+  rows_found [] = tt
+  rows_found (r ∷ rs) = (rw ((decides r r).1 refl) refl, found_in_more same r rs rs (rows_found rs))
 
-pairs_found : (rows : List EndpointRow) → AreFound (λ pair row. same_pair pair (pair_of row)) rows (map pair_of rows)
-pairs_found [] = tt
-pairs_found (r ∷ rs) = (rw (ap is_eq (tied_itself pairs_total (pair_of r))) refl, found_in_more (λ pair row. same_pair pair (pair_of row)) r rs (map pair_of rs) (pairs_found rs))
+  abbrev is_at : K → X → Bool
+  is_at k row = eq_by_cmp R k (key row)
+
+  keys_found : (rows : List X) → AreFound is_at rows (map key rows)
+  keys_found [] = tt
+  keys_found (r ∷ rs) = (rw (ap is_eq (tied_itself o (key r))) refl, found_in_more is_at r rs (map key rs) (keys_found rs))
+
+  pub none_changed : (rows : List X) → changed_from same rows rows ≡ []
+  none_changed rows = none_left same rows rows (rows_found rows)
+
+  pub none_gone : (rows : List X) → gone_keys R key rows rows ≡ []
+  none_gone rows = none_left is_at rows (map key rows) (keys_found rows)
 
 -- ---- batches
 
@@ -51,19 +70,25 @@ beq_same : (b : Bool) → beq b b ≡ true
 beq_same true = refl
 beq_same false = refl
 
-module _ (rows_same : SameRowDecides) (profiles_same : SameProfileDecides) (servers_same : SameServerDecides) (outbound_same : SameOutboundDecides) where
-  changed : (rows : List EndpointRow) → changed_rows rows rows ≡ []
-  changed rows = none_left (λ row other. same_row row other) rows rows (rows_found rows_same rows)
+-- nothing but the authorizations differs, as these do not either
+row_itself : SameServerDecides → (row : ServerRow) → same_server_row row row ≡ true
+row_itself servers_same row = (servers_same (Present row) (Present row)).1 refl
 
-  gone : (rows : List EndpointRow) → gone_pairs rows rows ≡ []
-  gone rows = none_left (λ pair row. same_pair pair (pair_of row)) rows (map pair_of rows) (pairs_found rows)
-
+module _ (rows_same : SameRowDecides) (profiles_same : SameProfileDecides) (authz_same : SameAuthzDecides) (servers_same : SameServerDecides) (outbound_same : SameOutboundDecides) where
   rows_unsent : (size : ℕ) (exists : Bool) (rows : List EndpointRow) → messages_to size (Some (record { exists = exists; rows = rows })) exists rows ≡ []
   rows_unsent size exists [] = rw (beq_same exists) refl
-  rows_unsent size exists (r ∷ rs) = rw (changed (r ∷ rs)) (rw (gone (r ∷ rs)) refl)
+  rows_unsent size exists (r ∷ rs) =
+      rw (none_changed pairs_total pair_of same_row rows_same (r ∷ rs)) (rw (none_gone pairs_total pair_of same_row rows_same (r ∷ rs)) refl)
+
+  port_unsent : (size : ℕ) (view : ServerView) → port_batch size (Some view) view ≡ []
+  port_unsent size Absent = refl
+  port_unsent size (Present row) =
+      rw (row_itself servers_same row)
+      (rw (none_changed authz_total authz_key same_authz authz_same row.authz) (rw (none_gone authz_total authz_key same_authz authz_same row.authz) refl))
 
   pub no_messages : SameViewSendsNothing
   no_messages (views.Endpoints view) limits = rows_unsent limits.frame_addrs view.exists view.rows
   no_messages (views.Profile view) limits = whole_same _ profiles_same messages.Profile view
   no_messages (views.Server view) limits = whole_same _ servers_same messages.Server view
   no_messages (views.Outbound view) limits = whole_same _ outbound_same messages.Outbound view
+  no_messages (views.ServerRows view) limits = port_unsent limits.frame_addrs view

@@ -4,7 +4,7 @@ use Rattle.std.specs.List.{All, flat_map}
 use Rattle.std.proofs.lemmas.List.{length-drop, length-take, take-append-drop}
 use Rattle.std.proofs.lemmas.List.Elements.{All-cons, All-nil}
 use Rattle.view_rules.specs.Batch.{in_pieces, pieces_up_to}
-use Rattle.batch_laws.specs.Laws.{IsCut, PairsAreCut, RowsAreCut}
+use Rattle.batch_laws.specs.Laws.{AuthzIsCut, AuthzKeysAreCut, IsCut, PairsAreCut, RowsAreCut}
 
 joined : {X : Type 0} (n size : ℕ) (xs : List X) → 1 ≤ size → length xs ≤ n → flat_map (λ piece. piece) (pieces_up_to n size xs) ≡ xs
 joined zero size [] one few = refl
@@ -55,3 +55,9 @@ rows_cut size rows one = cut size rows one
 
 pub pairs_cut : PairsAreCut
 pairs_cut size pairs one = cut size pairs one
+
+pub authz_cut : AuthzIsCut
+authz_cut size rows one = cut size rows one
+
+pub authz_keys_cut : AuthzKeysAreCut
+authz_keys_cut size keys one = cut size keys one

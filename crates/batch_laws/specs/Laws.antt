@@ -1,12 +1,14 @@
 -- What a batch carries, and what is seen by folding it.
-use Rattle.std.specs.Prelude.{◌≡◌, ◌+◌, ◌<◌, ◌≤◌, ℕ, List, [], Option, Some, length, slice_index_or, All, flat_map}
+use Rattle.std.specs.Prelude.{◌≡◌, ◌+◌, ◌<◌, ◌≤◌, ℕ, List, [], Option, Some, None, length, slice_index_or, All, flat_map}
 use Rattle.mesh_base.specs.declared.limits.Limits.{Limits}
 use Rattle.net_cidr.specs.declared.ip.Ip.{Ip}
-use Rattle.view_types.specs.Objects.{ObjectMap}
+use Rattle.view_types.specs.Objects.{AtKeys, ObjectMap}
 use Rattle.view_types.specs.declared.config.Config.{Config}
 use Rattle.view_types.specs.declared.endpoint.EndpointRow.{EndpointRow}
 use Rattle.view_types.specs.declared.query.Query.{Query}
+use Rattle.view_types.specs.declared.server_view.AuthzRow.{AuthzRow}
 use Rattle.view_types.specs.declared.view.View.{View}
+use Rattle.view_rules.specs.AuthzOrder.{AuthzKey}
 use Rattle.view_rules.specs.Batch.{batch, in_pieces}
 use Rattle.view_rules.specs.Fold.{IsOrderlyIfShown, folded_onto}
 use Rattle.view_rules.specs.Views.{view_before, view_of}
@@ -26,16 +28,27 @@ RowsAreCut = (size : ℕ) (rows : List EndpointRow) → 1 ≤ size → IsCut siz
 abbrev pub PairsAreCut : Type 0
 PairsAreCut = (size : ℕ) (pairs : List (Ip × ℕ)) → 1 ≤ size → IsCut size pairs (in_pieces size pairs)
 
+abbrev pub AuthzIsCut : Type 0
+AuthzIsCut = (size : ℕ) (rows : List AuthzRow) → 1 ≤ size → IsCut size rows (in_pieces size rows)
+
+abbrev pub AuthzKeysAreCut : Type 0
+AuthzKeysAreCut = (size : ℕ) (keys : List AuthzKey) → 1 ≤ size → IsCut size keys (in_pieces size keys)
+
 -- Folding the messages of a batch on top of the old view, if there was one, gives the new view. The views need not come from
--- objects: their rows are in order, each address and port once, and a Service that isn't there has none.
+-- objects: their rows are in order, each key once, and a Service that isn't there has none.
 abbrev pub BatchesFold : Type 0
 BatchesFold = (old : Option View) (new : View) (limits : Limits) → 1 ≤ limits.frame_addrs → IsOrderlyIfShown old → IsOrderlyIfShown (Some new)
     → folded_onto old (batch old new limits) ≡ Some new
 
+-- each object that was held, if there was such a moment, stood at its own key
+abbrev pub WereAtKeys : Option ObjectMap → Type 0
+WereAtKeys None = Unit {0}
+WereAtKeys (Some held) = AtKeys held
+
 -- Whatever was held when a query's view was last shown, if it was, and whatever is held now, folding the messages of the
 -- query on top of the view then gives the view now.
 abbrev pub MessagesFold : Type 0
-MessagesFold = (config : Config) (before : Option ObjectMap) (held : ObjectMap) (query : Query) (limits : Limits) → 1 ≤ limits.frame_addrs
+MessagesFold = (config : Config) (before : Option ObjectMap) (held : ObjectMap) (query : Query) (limits : Limits) → 1 ≤ limits.frame_addrs → WereAtKeys before → AtKeys held
     → folded_onto (view_before config query before) (batch (view_before config query before) (view_of config held query) limits) ≡ Some (view_of config held query)
 
 -- No message leads from a view to itself.

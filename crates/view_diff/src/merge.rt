@@ -1,33 +1,29 @@
 //! What a view shows that the one before it did not, by one pass over both.
 ghost use Rattle.std.specs.Prelude.{◌≡◌, ◌≢◌, ◌∷◌, ◌++◌, [], IfOk, OnOk, map, if◌then◌else◌};
 ghost use Rattle.mesh_base.specs.Keyed.{IsKeyed};
-ghost use Rattle.view_rules.specs.Batch.{changed_rows, gone_pairs};
-ghost use Rattle.view_rules.specs.Same.{same_row};
-ghost use Rattle.view_rules.specs.Endpoints.{pair_cmp, pair_of};
+ghost use Rattle.view_rules.specs.ByKey.{changed_from, gone_keys};
 ghost use Rattle.view_diff.specs.Passing.{Passes};
 
 use mesh_base::copied::Copied;
 use mesh_base::list::List;
 use mesh_base::memory::Memory;
 use mesh_base::same::Same;
-use net_cidr::ip::Ip;
+use row_places::keyed::KeyedRow;
 use std::alloc::Global;
 use std::cmp::Ordering;
-use view_rules::order::compare_rows;
-use view_types::endpoint::EndpointRow;
 
 /// What has changed between two views.
 #[derive(Drop)]
-pub struct Changes {
+pub struct Changes<T, K> {
     /// The rows that are new or have changed.
-    pub changed: List<EndpointRow>,
-    /// The addresses at which there is no row any more.
-    pub gone: List<(Ip, u16)>,
+    pub changed: List<T>,
+    /// The keys at which there is no row any more.
+    pub gone: List<K>,
 }
 
-impl Changes {
+impl<T, K> Changes<T, K> {
     /// Nothing has changed yet.
-    pub fn new(alloc: Global) -> Changes
+    pub fn new(alloc: Global) -> Changes<T, K>
         ensures { result ≡ record { changed = []; gone = [] } }
     {
         Changes {
@@ -37,16 +33,16 @@ impl Changes {
     }
 }
 
-/// Both lists are in the order of the addresses, each address with its port once.
-pub fn find_changes(
+/// Both lists are in the order of the keys, each key once.
+pub fn find_changes<T: KeyedRow>(
     alloc: Global,
-    old: &[EndpointRow],
-    new: &[EndpointRow],
-) -> Result<Changes, Memory>
-    requires old { IsKeyed pair_cmp pair_of (λ row. row) old.now }
-    requires new { IsKeyed pair_cmp pair_of (λ row. row) new.now }
-    ensures changed { IfOk result (λ found. found.changed ≡ changed_rows old.now new.now) }
-    ensures gone { IfOk result (λ found. found.gone ≡ gone_pairs old.now new.now) }
+    old: &[T],
+    new: &[T],
+) -> Result<Changes<T, T::Key>, Memory>
+    requires old { IsKeyed T.cmp T.key_of (λ row. row) old.now }
+    requires new { IsKeyed T.cmp T.key_of (λ row. row) new.now }
+    ensures changed { IfOk result (λ found. found.changed ≡ changed_from T.same old.now new.now) }
+    ensures gone { IfOk result (λ found. found.gone ≡ gone_keys T.cmp T.key_of old.now new.now) }
 {
     let mut found = Changes::new(alloc);
     let mut olds = old;
@@ -59,24 +55,25 @@ pub fn find_changes(
     Ok(found)
 }
 
-/// Passes the lesser of the first two rows, or both where they are at one address and port.
-fn pass<'a>(
+/// Passes the lesser of the first two rows, or both where they are at one key.
+fn pass<'a, T: KeyedRow>(
     alloc: Global,
-    found: &mut Changes,
-    olds: &'a [EndpointRow],
-    news: &'a [EndpointRow],
-) -> Result<(&'a [EndpointRow], &'a [EndpointRow]), Memory>
-    requires old { IsKeyed pair_cmp pair_of (λ row. row) olds.now }
-    requires new { IsKeyed pair_cmp pair_of (λ row. row) news.now }
+    found: &mut Changes<T, T::Key>,
+    olds: &'a [T],
+    news: &'a [T],
+) -> Result<(&'a [T], &'a [T]), Memory>
+    requires old { IsKeyed T.cmp T.key_of (λ row. row) olds.now }
+    requires new { IsKeyed T.cmp T.key_of (λ row. row) news.now }
     requires some_old { olds.now ≢ [] }
     requires some_new { news.now ≢ [] }
-    ensures { IfOk result (λ rest. Passes olds.now news.now rest.0.now rest.1.now found.old found.new) }
+    ensures { IfOk result (λ rest. Passes T.cmp T.key_of T.same olds.now news.now rest.0.now
+        rest.1.now found.old found.new) }
 {
     let (was, olds_after) = first(olds);
     let (row, news_after) = first(news);
-    match compare_rows(was, row) {
+    match was.compare(row) {
         Ordering::Less => {
-            found.gone.add((was.ip, was.port))?;
+            found.gone.add(was.key()?)?;
             Ok((olds_after, news))
         }
         Ordering::Equal => {
@@ -90,7 +87,7 @@ fn pass<'a>(
     }
 }
 
-fn first<'a>(rows: &'a [EndpointRow]) -> (&'a EndpointRow, &'a [EndpointRow])
+fn first<'a, T>(rows: &'a [T]) -> (&'a T, &'a [T])
     requires { rows.now ≢ [] }
     ensures { rows.now ≡ result.0.now ∷ result.1.now }
 {
@@ -98,14 +95,14 @@ fn first<'a>(rows: &'a [EndpointRow]) -> (&'a EndpointRow, &'a [EndpointRow])
 }
 
 /// Adds the row, unless it is the same as the one that was there.
-pub fn add_if_changed(
+pub fn add_if_changed<T: KeyedRow>(
     alloc: Global,
-    changed: &mut List<EndpointRow>,
-    was: &EndpointRow,
-    row: &EndpointRow,
+    changed: &mut List<T>,
+    was: &T,
+    row: &T,
 ) -> Result<(), Memory>
     ensures { OnOk result (changed.new
-        ≡ changed.old ++ (if same_row row.now was.now then [] else row.now ∷ [])) }
+        ≡ changed.old ++ (if T.same row.now was.now then [] else row.now ∷ [])) }
 {
     if row.is_same(was) {
         return Ok(());
@@ -113,20 +110,16 @@ pub fn add_if_changed(
     changed.add(row.copy(alloc)?)
 }
 
-fn add_gone(gone: &mut List<(Ip, u16)>, rows: &[EndpointRow]) -> Result<(), Memory>
-    ensures { OnOk result (gone.new ≡ gone.old ++ map pair_of rows.now) }
+fn add_gone<T: KeyedRow>(gone: &mut List<T::Key>, rows: &[T]) -> Result<(), Memory>
+    ensures { OnOk result (gone.new ≡ gone.old ++ map T.key_of rows.now) }
 {
     for row in rows {
-        gone.add((row.ip, row.port))?;
+        gone.add(row.key()?)?;
     }
     Ok(())
 }
 
-fn add_changed(
-    alloc: Global,
-    changed: &mut List<EndpointRow>,
-    rows: &[EndpointRow],
-) -> Result<(), Memory>
+fn add_changed<T: KeyedRow>(alloc: Global, changed: &mut List<T>, rows: &[T]) -> Result<(), Memory>
     ensures { OnOk result (changed.new ≡ changed.old ++ rows.now) }
 {
     for row in rows {

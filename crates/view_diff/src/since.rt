@@ -7,7 +7,7 @@ ghost use Rattle.view_rules.specs.Batch.{endpoint_batch, is_news, messages_to_no
 ghost use Rattle.view_rules.specs.Endpoints.{pair_cmp, pair_of};
 ghost use Rattle.view_rules.specs.Fold.{IsOrderly};
 
-use crate::batch::messages_of;
+use crate::keyed::messages_of;
 use crate::merge::{Changes, add_if_changed};
 use mesh_base::copied::Copied;
 use mesh_base::limits::Limits;
@@ -89,7 +89,7 @@ fn to_rows(
         messages ≡ messages_to_rows size (earlier_rows before.now rows.now) rows.now) }
 {
     let found = find_changes(alloc, before, rows)?;
-    messages_of(alloc, found, size)
+    messages_of::<EndpointRow>(alloc, found, size)
 }
 
 /// What has changed at these addresses.
@@ -97,7 +97,7 @@ fn find_changes(
     alloc: Global,
     before: &[(Ip, u16, Option<EndpointRow>)],
     rows: &[EndpointRow],
-) -> Result<Changes, Memory>
+) -> Result<Changes<EndpointRow, (Ip, u16)>, Memory>
     requires { IsKeyed pair_cmp pair_of (λ row. row) rows.now }
     ensures changed { IfOk result (λ found.
         found.changed ≡ filter_map (changed_at rows.now) before.now) }
@@ -115,7 +115,7 @@ fn find_changes(
 /// Adds what has changed at an address, by the row that stood there and the one that does now.
 fn add_change(
     alloc: Global,
-    found: &mut Changes,
+    found: &mut Changes<EndpointRow, (Ip, u16)>,
     was: Option<&EndpointRow>,
     row: Option<&EndpointRow>,
 ) -> Result<(), Memory>

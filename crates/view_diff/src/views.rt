@@ -1,10 +1,11 @@
 ghost use Rattle.std.specs.Prelude.{◌≡◌, ◌≤◌, IfOk, Some};
 ghost use Rattle.std.specs.Option.{option_copied};
-ghost use Rattle.view_rules.specs.Batch.{batch, endpoints_in, outbound_in, profile_in, server_in};
+ghost use Rattle.view_rules.specs.Batch.{batch, endpoints_in, outbound_in, port_in, profile_in, server_in};
 ghost use Rattle.view_rules.specs.Fold.{IsOrderlyIfShown};
 
 use crate::batch::endpoint_batch;
-use crate::whole::whole_batch;
+use crate::port::port_batch;
+use crate::whole::{Ports, Profiles, Targets, whole_batch};
 use mesh_base::limits::Limits;
 use mesh_base::list::List;
 use mesh_base::memory::Memory;
@@ -16,7 +17,7 @@ use view_types::server_view::ServerView;
 use view_types::view::View;
 
 /// The messages that bring a subscriber from the old view, or from none, to the new one. Views of endpoints are sent by
-/// what has changed, and the others whole.
+/// what has changed, and so are inbound views of which only the Server's authorizations have; the others are sent whole.
 pub fn batch(
     alloc: Global,
     old: Option<&View>,
@@ -30,9 +31,10 @@ pub fn batch(
 {
     match new {
         View::Endpoints(view) => endpoint_batch(alloc, endpoints_in(old), view, limits),
-        View::Profile(view) => whole_batch(alloc, profile_in(old), view),
-        View::Server(view) => whole_batch(alloc, server_in(old), view),
-        View::Outbound(view) => whole_batch(alloc, outbound_in(old), view),
+        View::Profile(view) => whole_batch::<Profiles>(alloc, profile_in(old), view),
+        View::Server(view) => whole_batch::<Ports>(alloc, server_in(old), view),
+        View::Outbound(view) => whole_batch::<Targets>(alloc, outbound_in(old), view),
+        View::ServerRows(view) => port_batch(alloc, port_in(old), view, limits),
     }
 }
 
@@ -68,6 +70,15 @@ fn outbound_in<'a>(view: Option<&'a View>) -> Option<&'a OutboundView>
 {
     match view {
         Some(View::Outbound(view)) => Some(view),
+        _ => None,
+    }
+}
+
+fn port_in<'a>(view: Option<&'a View>) -> Option<&'a ServerView>
+    ensures { option_copied result ≡ port_in (option_copied view.entry) }
+{
+    match view {
+        Some(View::ServerRows(view)) => Some(view),
         _ => None,
     }
 }

@@ -18,54 +18,88 @@ use view_types::message::Message;
 use view_types::outbound::{OutboundView, ProfileView};
 use view_types::server_view::ServerView;
 
-/// A view that is sent whole.
-pub trait Whole: Copied + Same {
+/// How views of one kind are sent whole.
+pub trait Whole {
+    type View: Copied + Same;
+
     /// Whether two views are the same.
-    ghost same: { Self → Self → Bool };
+    ghost same: { Self.View → Self.View → Bool };
 
     /// The message that has the view.
-    ghost whole: { Self → TheMessage };
+    ghost whole: { Self.View → TheMessage };
 
-    fn into_message(self) -> Message
-        ensures { result ≡ whole self };
+    fn message(view: Self::View) -> Message
+        ensures { result ≡ whole view };
 
     /// The same views are equal, and equal ones the same.
-    ghost decides: { (v w : Self) → Decides (same v w) (v ≡ w) };
+    ghost decides: { (v w : Self.View) → Decides (same v w) (v ≡ w) };
 }
 
-impl Whole for ProfileView {
+/// Profiles of targets.
+pub struct Profiles;
+
+/// Inbound views of ports of Pods.
+pub struct Ports;
+
+/// Outbound views of targets.
+pub struct Targets;
+
+/// Inbound views of which later messages tell what changes.
+pub struct PortRows;
+
+impl Whole for Profiles {
+    type View = ProfileView;
+
     ghost same = { same_profile };
 
     ghost whole = { message.Profile };
 
     ghost decides = { profile_decides };
 
-    fn into_message(self) -> Message {
-        Message::Profile(self)
+    fn message(view: ProfileView) -> Message {
+        Message::Profile(view)
     }
 }
 
-impl Whole for ServerView {
+impl Whole for Ports {
+    type View = ServerView;
+
     ghost same = { same_server };
 
     ghost whole = { message.Server };
 
     ghost decides = { server_decides };
 
-    fn into_message(self) -> Message {
-        Message::Server(self)
+    fn message(view: ServerView) -> Message {
+        Message::Server(view)
     }
 }
 
-impl Whole for OutboundView {
+impl Whole for Targets {
+    type View = OutboundView;
+
     ghost same = { same_outbound };
 
     ghost whole = { message.Outbound };
 
     ghost decides = { outbound_decides };
 
-    fn into_message(self) -> Message {
-        Message::Outbound(self)
+    fn message(view: OutboundView) -> Message {
+        Message::Outbound(view)
+    }
+}
+
+impl Whole for PortRows {
+    type View = ServerView;
+
+    ghost same = { same_server };
+
+    ghost whole = { message.Whole };
+
+    ghost decides = { server_decides };
+
+    fn message(view: ServerView) -> Message {
+        Message::Whole(view)
     }
 }
 
@@ -73,20 +107,20 @@ impl Whole for OutboundView {
 /// view that it carries is copied.
 pub fn whole_batch<T: Whole>(
     alloc: Global,
-    old: Option<&T>,
-    new: &T,
+    old: Option<&T::View>,
+    new: &T::View,
 ) -> Result<List<Message>, Memory>
     ensures { IfOk result (λ messages.
         messages ≡ whole_batch T.same T.whole (option_copied old.entry) new.now) }
 {
     let mut messages = List::new(alloc);
-    if !is_shown(old, new) {
-        messages.add(new.copy(alloc)?.into_message())?;
+    if !is_shown::<T>(old, new) {
+        messages.add(T::message(new.copy(alloc)?))?;
     }
     Ok(messages)
 }
 
-fn is_shown<T: Whole>(old: Option<&T>, new: &T) -> bool
+fn is_shown<T: Whole>(old: Option<&T::View>, new: &T::View) -> bool
     ensures { result ≡ same_option T.same (option_copied old.entry) (Some new.now) }
 {
     match old {

@@ -1,3 +1,3 @@
 mod Folded
 pub mod Orderly
-mod Seen
+mod Searched

@@ -1,3 +1,3 @@
 pub mod Laws
 pub mod Rise
-pub mod Sets
+pub mod Sorted

@@ -1,24 +1,22 @@
 //! Many rows at once, put in order or taken out by one pass over all rows.
-ghost use Rattle.std.specs.Prelude.{◌≡◌, OnOk, OnErr, IfOk, not};
+ghost use Rattle.std.specs.Prelude.{◌≡◌, OnOk, OnErr, not};
 ghost use Rattle.std.specs.FinMap.{values};
 ghost use Rattle.std.specs.List.{filter, list_any};
+ghost use Rattle.std.specs.List.Sorted.{IsPermutation};
+ghost use Rattle.std.specs.Ordering.{eq_by_cmp};
 ghost use Rattle.mesh_base.specs.Keyed.{IsKeyed};
-ghost use Rattle.view_rules.specs.Batch.{same_pair};
-ghost use Rattle.view_rules.specs.Endpoints.{pair_cmp, pair_of};
-ghost use Rattle.view_rules.specs.Fold.{put_rows, row_map, take_out};
-ghost use Rattle.view_fold.specs.Sets.{IsSetOf};
+ghost use Rattle.view_rules.specs.ByKey.{map_of, put_all, take_all};
+ghost use Rattle.view_fold.specs.Sorted.{AreSorted};
 
 use crate::order::put_in_order;
 use mesh_base::memory::Memory;
-use net_cidr::ip::Ip;
-use std::alloc::Global;
-use std::collections::BTreeSet;
-use view_types::endpoint::EndpointRow;
+use row_places::keyed::KeyedRow;
+use std::cmp::Ordering;
 
-/// Puts rows in the places of those of their addresses and ports. Where memory runs out all stay as they are.
-pub fn put_many(rows: &mut Vec<EndpointRow>, added: Vec<EndpointRow>) -> Result<(), Memory>
+/// Puts rows in the places of those of their keys. Where memory runs out all stay as they are.
+pub fn put_many<T: KeyedRow>(rows: &mut Vec<T>, added: Vec<T>) -> Result<(), Memory>
     ensures ok { OnOk result (rows.new.items
-        ≡ values (put_rows added.items (row_map rows.old.items))) }
+        ≡ values (put_all T.cmp T.key_of added.items (map_of T.cmp T.key_of rows.old.items))) }
     ensures err { OnErr result (rows.new.items ≡ rows.old.items) }
 {
     let count = rows.len();
@@ -33,41 +31,46 @@ pub fn put_many(rows: &mut Vec<EndpointRow>, added: Vec<EndpointRow>) -> Result<
     }
 }
 
-/// Takes the rows at these addresses and ports out. Where memory runs out all stay as they are.
-pub fn take_many(
-    alloc: Global,
-    rows: &mut Vec<EndpointRow>,
-    pairs: &[(Ip, u16)],
-) -> Result<(), Memory>
-    requires { IsKeyed pair_cmp pair_of (λ row. row) rows.old.items }
+/// Takes the rows at these keys out. Where memory runs out all stay as they are.
+pub fn take_many<T: KeyedRow>(rows: &mut Vec<T>, keys: Vec<T::Key>) -> Result<(), Memory>
+    requires { IsKeyed T.cmp T.key_of (λ row. row) rows.old.items }
     ensures ok { OnOk result (rows.new.items
-        ≡ values (take_out pairs.now (row_map rows.old.items))) }
+        ≡ values (take_all T.cmp T.key_of keys.items (map_of T.cmp T.key_of rows.old.items))) }
     ensures err { OnErr result (rows.new.items ≡ rows.old.items) }
 {
-    let gone = set_of(alloc, pairs)?;
-    drop_from(rows, &gone);
+    let mut gone = keys;
+    sort_keys::<T>(&mut gone)?;
+    drop_from(rows, gone.as_slice());
     Ok(())
 }
 
-fn drop_from(rows: &mut Vec<EndpointRow>, gone: &BTreeSet<(Ip, u16)>)
-    ensures { rows.new.items
-        ≡ filter (λ row. not (list_any (same_pair (pair_of row)) gone.now.keys)) rows.old.items }
+fn sort_keys<T: KeyedRow>(keys: &mut Vec<T::Key>) -> Result<(), Memory>
+    ensures sorted { OnOk result (AreSorted T.cmp keys.new.items) }
+    ensures same { IsPermutation keys.old.items keys.new.items }
+{
+    keys.sort_by(|key, other| T::compare_keys(key, other))?;
+    Ok(())
+}
+
+/// The keys are sorted.
+fn drop_from<T: KeyedRow>(rows: &mut Vec<T>, gone: &[T::Key])
+    requires { AreSorted T.cmp gone.now }
+    ensures { rows.new.items ≡ filter (λ row. not
+        (list_any (eq_by_cmp T.cmp (T.key_of row)) gone.now)) rows.old.items }
 {
     rows.retain(|row| !is_gone(gone, row));
 }
 
-fn is_gone(gone: &BTreeSet<(Ip, u16)>, row: &EndpointRow) -> bool
-    ensures { result ≡ list_any (same_pair (pair_of row.now)) gone.now.keys }
+/// Whether the row stands at one of the keys, where these are sorted.
+fn is_gone<T: KeyedRow>(gone: &[T::Key], row: &T) -> bool
+    ensures { AreSorted T.cmp gone.now
+        → result ≡ list_any (eq_by_cmp T.cmp (T.key_of row.now)) gone.now }
 {
-    gone.contains(&(row.ip, row.port))
+    gone.binary_search_by(|key| compare_from(key, row)).is_ok()
 }
 
-fn set_of(alloc: Global, pairs: &[(Ip, u16)]) -> Result<BTreeSet<(Ip, u16)>, Memory>
-    ensures { IfOk result (λ set. IsSetOf set pairs.now) }
+fn compare_from<T: KeyedRow>(key: &T::Key, row: &T) -> Ordering
+    ensures { result ≡ T.cmp key.now (T.key_of row.now) }
 {
-    let mut set = BTreeSet::new(alloc);
-    for pair in pairs {
-        set.insert(*pair)?;
-    }
-    Ok(set)
+    row.compare_to(key).reverse()
 }

@@ -1,14 +1,14 @@
 ghost use Rattle.std.specs.Prelude.{◌≡◌, OnOk, OnErr, reverse};
-ghost use Rattle.view_rules.specs.Endpoints.{first_rows};
+ghost use Rattle.view_rules.specs.InOrder.{in_order_by};
 
 use mesh_base::memory::Memory;
-use view_rules::order::keep_first;
-use view_types::endpoint::EndpointRow;
+use row_places::keyed::KeyedRow;
+use row_places::order::keep_first;
 
-/// Puts rows into the order of their addresses and ports, each pair once, by its last row. Where memory runs out
-/// they stay as they are.
-pub fn put_in_order(rows: &mut Vec<EndpointRow>) -> Result<(), Memory>
-    ensures ok { OnOk result (rows.new.items ≡ first_rows (reverse rows.old.items)) }
+/// Puts rows into the order of their keys, each key once, by its last row. Where memory runs out they stay as they are.
+pub fn put_in_order<T: KeyedRow>(rows: &mut Vec<T>) -> Result<(), Memory>
+    ensures ok { OnOk result
+        (rows.new.items ≡ in_order_by T.cmp T.key_of (reverse rows.old.items)) }
     ensures err { OnErr result (rows.new.items ≡ rows.old.items) }
 {
     rows.reverse();

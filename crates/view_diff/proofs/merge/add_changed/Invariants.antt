@@ -3,4 +3,4 @@ use Rattle.view_diff.proofs.merge.add_changed.Given as goal
 
 -- the rows so far are copied
 abbrev pub invariant-loop-row : goal.invariant-loop-row
-invariant-loop-row l = l.changed ≡ l.initial.changed ++ take l.row-index l.rows
+invariant-loop-row g l = l.changed ≡ l.initial.changed ++ take l.row-index l.rows

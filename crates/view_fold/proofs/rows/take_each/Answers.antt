@@ -1,21 +1,28 @@
-use Rattle.std.proofs.Common.{take, sym, ap, ◌∙◌}
+use Rattle.std.proofs.Common.{[], ◌∷◌, ◌++◌, take, sym, ap, ◌∙◌}
 use Rattle.std.specs.FinMap.{values}
 use Rattle.std.proofs.lemmas.List.{take_all, take_more}
-use Rattle.net_cidr.specs.declared.ip.Ip.TheVariants.{V4}
-use Rattle.view_rules.proofs.RowMaps.{rows_shown}
-use Rattle.view_rules.specs.Fold.{row_map, take_out}
+use Rattle.view_rules.proofs.KeyMaps.{rows_shown}
+use Rattle.view_rules.specs.ByKey as by_key
+use Rattle.view_rules.specs.ByKey.{map_of}
 use Rattle.view_fold.proofs.Folded.{taken_more}
 use Rattle.view_fold.proofs.rows.take_each.Goals as goal
 
-pub loop-pair-preserved : goal.loop-pair-preserved
-loop-pair-preserved c = record {
+pub loop-key-preserved : goal.loop-key-preserved
+loop-key-preserved g c = record {
   taken =
-      rw (take_more c.args.pairs.now c.loop-pair.pair-index (V4 0, 0) c.loop-pair-test.true)
-      (taken_more (take c.loop-pair.pair-index c.args.pairs.now) (row_map c.args.rows.now.items) (row_map c.loop-pair.rows.items) (row_map c.take_row.new.rows.items) _ c.loop-pair.invariant.taken c.take_row.ensures.taken);
+      let cmp = g.T.KeyedRow.cmp in
+      let key = g.T.KeyedRow.key_of in
+      let so_far = take c.loop-key.key-index c.args.keys.now in
+      rw (take_more c.args.keys.now c.loop-key.key-index c.key-item.result c.loop-key-test.true)
+      (taken_more g.met.T.KeyedRow.total g.met.T.KeyedRow.exact key so_far (map_of cmp key c.args.rows.now.items) (map_of cmp key c.loop-key.rows.items) (map_of cmp key c.take_row.new.rows.items)
+      c.key-item.result c.loop-key.invariant.taken c.take_row.ensures.taken
+      ∙ ap (λ k. by_key.take_all cmp key (so_far ++ k ∷ []) (map_of cmp key c.args.rows.now.items)) c.key-item.is);
   keyed = c.take_row.ensures.keyed;
 }
 
 pub returns : goal.returns
-returns c =
-    sym (rows_shown c.loop-pair.rows.items c.loop-pair.invariant.keyed)
-    ∙ ap values (c.loop-pair.invariant.taken ∙ ap (λ pairs. take_out pairs (row_map c.args.rows.now.items)) (take_all c.loop-pair.pair-index c.args.pairs.now c.loop-pair-test.false))
+returns g c =
+    let cmp = g.T.KeyedRow.cmp in
+    let key = g.T.KeyedRow.key_of in
+    sym (rows_shown g.met.T.KeyedRow.total g.met.T.KeyedRow.exact g.T.KeyedRow.key_of c.loop-key.rows.items c.loop-key.invariant.keyed)
+    ∙ ap values (c.loop-key.invariant.taken ∙ ap (λ keys. by_key.take_all cmp key keys (map_of cmp key c.args.rows.now.items)) (take_all c.loop-key.key-index c.args.keys.now c.loop-key-test.false))
