@@ -17,14 +17,14 @@ use Rattle.view_types.specs.declared.server_view.AuthzKind.TheVariants.{ServerAu
 use Rattle.view_types.specs.declared.server_view.AuthzRow.{AuthzRow}
 use Rattle.proto_wire.specs.Wire.{spelling}
 use Rattle.proxy_proto.specs.declared.table.Schema.TheVariants as schemas
-use Rattle.proxy_proto.specs.AuthorizationReading.{authn_in, authz_in, authz_kind, block_in, clients_in, net_from, net_in}
-use Rattle.proxy_proto.specs.Authorizations.{authn_records, authz_records, block_records, clients_records, net_records}
+use Rattle.proxy_proto.specs.AuthorizationReading.{authn_in, authz_in, authz_key_in, authz_kind, block_in, clients_in, net_from, net_in}
+use Rattle.proxy_proto.specs.Authorizations.{authn_records, authz_key_records, authz_records, block_records, clients_records, net_records}
 use Rattle.proxy_proto.specs.EndpointReading.{ip_in}
 use Rattle.proxy_proto.specs.Endpoints.{ip_records, half_records}
 use Rattle.proxy_proto.specs.Faults.{bits_of, end_fault}
 use Rattle.proxy_proto.specs.FieldRecords.{chunk, number_field, bool_field, text_field, texts_field, each_field}
 use Rattle.proxy_proto.specs.LookUps.{number_from, value_at}
-use Rattle.proxy_proto.specs.Sendable.{AreSendableClients, IsSendableAuthn, IsSendableAuthz}
+use Rattle.proxy_proto.specs.Sendable.{AreSendableClients, IsSendableAuthn, IsSendableAuthz, IsSendableAuthzKey}
 use Rattle.proxy_proto.specs.Tables.{fields_of}
 use Rattle.message_laws.proofs.Coming.{each_comes, first_inside}
 use Rattle.message_laws.proofs.EndpointRound.{ip_comes}
@@ -232,3 +232,37 @@ authz_back row fits short =
 pub authz_comes : (row : AuthzRow) → IsSendableAuthz row → ComesIfShort schemas.Authz authz_in (authz_records row) row
 authz_comes row fits =
     rw (authz_laid row) (λ short. laid_comes schemas.Authz authz_in (authz_blocks row) row (authz_written row fits) refl (authz_ends row fits) (authz_back row fits short) short)
+
+-- ---- the kind and name of an authorization
+
+abbrev key_blocks : AuthzKind × List ℕ → List FieldBlock
+key_blocks key = block 1 (number_field 1 (authz_number key.0)) ∷ block 2 (text_field 2 key.1) ∷ []
+
+key_laid : (key : AuthzKind × List ℕ) → authz_key_records key ≡ laid (key_blocks key)
+unfolding authz_key_records laid
+key_laid key = refl
+
+key_written : (key : AuthzKind × List ℕ) → IsSendableAuthzKey key → AllWritten schemas.AuthzKey (key_blocks key)
+key_written key fits = (
+  number_written schemas.AuthzKey 1 2 (authz_number key.0) (lit< tt, lit< tt) refl (kind_most key.0) (lit< tt),
+  (text_written schemas.AuthzKey 2 key.1 (lit< tt, lit< tt) refl fits, tt),
+)
+
+key_ends : (key : AuthzKind × List ℕ) → IsSendableAuthzKey key → end_fault schemas.AuthzKey (fields_of schemas.AuthzKey) (record { records = laid (key_blocks key); fault = None }) ≡ None
+key_ends key fits =
+    let s = schemas.AuthzKey in
+    let bs = key_blocks key in
+    let kind : (number_from (value_at 1 (laid bs)) == 0) ≡ false = ap (λ n. n == 0) (number_read s bs (key_written key fits) 1 (authz_number key.0) refl) ∙ kind_some key.0 in
+    rw kind refl
+
+key_back : (key : AuthzKind × List ℕ) → IsSendableAuthzKey key → authz_key_in (laid (key_blocks key)) ≡ key
+unfolding authz_key_in
+key_back key fits =
+    let s = schemas.AuthzKey in
+    let bs = key_blocks key in
+    let w = key_written key fits in
+    rw (number_read s bs w 1 (authz_number key.0) refl, kind_back key.0, text_read s bs w 2 key.1 refl fits) refl
+
+pub key_comes : (key : AuthzKind × List ℕ) → IsSendableAuthzKey key → ComesIfShort schemas.AuthzKey authz_key_in (authz_key_records key) key
+key_comes key fits =
+    rw (key_laid key) (λ short. laid_comes schemas.AuthzKey authz_key_in (key_blocks key) key (key_written key fits) refl (key_ends key fits) (key_back key fits) short)

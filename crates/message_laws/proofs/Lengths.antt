@@ -7,7 +7,7 @@ use Rattle.net_cidr.specs.declared.ip.Ip.{Ip}
 use Rattle.net_cidr.specs.declared.ip.Ip.TheVariants.{V4, V6}
 use Rattle.view_types.specs.declared.endpoint.EndpointRow.{EndpointRow}
 use Rattle.view_types.specs.declared.message.Message.{Message}
-use Rattle.view_types.specs.declared.message.Message.TheVariants.{Add, Remove, NoEndpoints, Profile, Server, Outbound}
+use Rattle.view_types.specs.declared.message.Message.TheVariants.{Add, Remove, NoEndpoints, Profile, Server, Outbound, Whole, AuthzPut, AuthzGone}
 use Rattle.proto_wire.specs.declared.record.Rec.{Rec}
 use Rattle.proto_wire.specs.declared.record.WireValue.TheVariants.{Varint, Fixed64, Fixed32}
 use Rattle.proto_wire.specs.Wire.{varint_up_to, spelled, spelling}
@@ -121,6 +121,9 @@ plain_length (NoEndpoints exists) plain = none_most exists
 plain_length (Profile view) plain = absurd plain
 plain_length (Server view) plain = absurd plain
 plain_length (Outbound view) plain = absurd plain
+plain_length (Whole view) plain = absurd plain
+plain_length (AuthzPut rows) plain = absurd plain
+plain_length (AuthzGone keys) plain = absurd plain
 
 -- a message of at most a thousand plain rows or addresses fits a frame
 pub plain_fits : (message : Message) → IsPlainMessage message → count_in message ≤ 1000 → length (canonical message) < 2 ^ 32

@@ -1,3 +1,4 @@
+mod Asked
 pub mod Checking
 pub mod LabelMaps
 pub mod MatchReading

@@ -43,3 +43,6 @@ authz_in rs = record {
   blocks = each_message 3 block_in rs;
   authn = authn_in (inside 4 rs);
 }
+
+unfoldable pub authz_key_in : List Rec → AuthzKind × List ℕ
+authz_key_in rs = (authz_kind (number_in 1 rs), string_in 2 rs)

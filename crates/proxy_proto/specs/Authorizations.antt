@@ -5,6 +5,7 @@ use Rattle.net_cidr.specs.declared.net.Net.{Net}
 use Rattle.view_types.specs.Numbers.{authz_number}
 use Rattle.view_types.specs.declared.server_view.Authn.{Authn}
 use Rattle.view_types.specs.declared.server_view.Authn.TheVariants.{Anyone, AnyTls, Clients}
+use Rattle.view_types.specs.declared.server_view.AuthzKind.{AuthzKind}
 use Rattle.view_types.specs.declared.server_view.AuthzRow.{AuthzRow}
 use Rattle.proto_wire.specs.declared.record.Rec.{Rec}
 use Rattle.proto_wire.specs.Wire.{spelling}
@@ -37,3 +38,8 @@ authz_records row =
     ++ (text_field 2 row.name
     ++ (each_field 3 block_records row.blocks
     ++ chunk 4 (spelling (authn_records row.authn)) ∷ []))
+
+-- ---- AuthzKey
+
+unfoldable pub authz_key_records : AuthzKind × List ℕ → List Rec
+authz_key_records key = number_field 1 (authz_number key.0) ++ text_field 2 key.1

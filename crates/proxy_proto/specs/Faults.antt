@@ -14,7 +14,7 @@ use Rattle.proxy_proto.specs.declared.table.FieldKind.TheVariants.{Number, Fixed
 use Rattle.proxy_proto.specs.declared.table.Label.{Label}
 use Rattle.proxy_proto.specs.declared.table.Label.TheVariants.{Single, Required, Choice, Repeated, Map}
 use Rattle.proxy_proto.specs.declared.table.Schema.{Schema}
-use Rattle.proxy_proto.specs.declared.table.Schema.TheVariants.{Duration, IpNetwork, Server, Authz, HttpRoute, PathMatch, PortSpec}
+use Rattle.proxy_proto.specs.declared.table.Schema.TheVariants.{Duration, IpNetwork, Server, Authz, AuthzKey, HttpRoute, PathMatch, PortSpec}
 use Rattle.proxy_proto.specs.LookUps.{records_in, value_at, has, number_from, nanoseconds_in, chunk_from, chunk_in, inside}
 use Rattle.proxy_proto.specs.Tables.{number_of, label_of, kind_of, fields_of}
 
@@ -119,6 +119,7 @@ whole_fault Duration rs = fault_if (not (nat_lt (nanoseconds_in rs) (2 ^ 63))) (
 whole_fault IpNetwork rs = fault_if (has 1 rs && nat_lt (bits_of (inside 1 rs)) (number_in 2 rs)) (Range 2)
 whole_fault Server rs = fault_if (not (number_in 1 rs == 0) && number_in 2 rs == 0) (Range 2)
 whole_fault Authz rs = zero_fault 1 rs
+whole_fault AuthzKey rs = zero_fault 1 rs
 whole_fault HttpRoute rs = zero_fault 1 rs
 whole_fault PathMatch rs = zero_fault 1 rs
 whole_fault PortSpec rs = zero_fault 2 rs

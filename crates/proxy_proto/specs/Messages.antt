@@ -4,15 +4,17 @@
 use Rattle.std.specs.Prelude.{ℕ, List, [], ◌∷◌}
 use Rattle.net_cidr.specs.declared.ip.Ip.{Ip}
 use Rattle.view_types.specs.declared.message.Message.{Message}
-use Rattle.view_types.specs.declared.message.Message.TheVariants.{Add, Remove, NoEndpoints, Profile, Server, Outbound}
+use Rattle.view_types.specs.declared.message.Message.TheVariants.{Add, Remove, NoEndpoints, Profile, Server, Outbound, Whole, AuthzPut, AuthzGone}
 use Rattle.proto_wire.specs.declared.record.Rec.{Rec}
 use Rattle.proto_wire.specs.Wire.{spelling}
+use Rattle.proxy_proto.specs.Authorizations.{authz_key_records, authz_records}
 use Rattle.proxy_proto.specs.FieldRecords.{chunk, bool_field, each_field}
 use Rattle.proxy_proto.specs.Endpoints.{address_records, row_records}
 use Rattle.proxy_proto.specs.Policies.{outbound_records, server_records}
 use Rattle.proxy_proto.specs.Profiles.{profile_records}
 
--- ---- Update: a choice of WeightedAddrSet, AddrSet and NoEndpoints; or DestinationProfile, Server or OutboundPolicy
+-- ---- Update: a choice of WeightedAddrSet, AddrSet and NoEndpoints; or DestinationProfile, Server or OutboundPolicy; or
+-- ServerUpdate: a choice of Server, AuthzSet and AuthzKeys
 
 abbrev pub pair_records : Ip × ℕ → List Rec
 pair_records pair = address_records pair.0 pair.1
@@ -24,6 +26,9 @@ message_records (NoEndpoints exists) = chunk 3 (spelling (bool_field 1 exists)) 
 message_records (Profile view) = profile_records view
 message_records (Server view) = server_records view
 message_records (Outbound view) = outbound_records view
+message_records (Whole view) = chunk 1 (spelling (server_records view)) ∷ []
+message_records (AuthzPut rows) = chunk 2 (spelling (each_field 1 authz_records rows)) ∷ []
+message_records (AuthzGone keys) = chunk 3 (spelling (each_field 1 authz_key_records keys)) ∷ []
 
 -- the one spelling of a message
 abbrev pub canonical : Message → List ℕ

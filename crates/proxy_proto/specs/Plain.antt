@@ -5,7 +5,7 @@ use Rattle.std.specs.FinMap.{entries}
 use Rattle.net_cidr.specs.declared.ip.Ip.{Ip}
 use Rattle.view_types.specs.declared.endpoint.EndpointRow.{EndpointRow}
 use Rattle.view_types.specs.declared.message.Message.{Message}
-use Rattle.view_types.specs.declared.message.Message.TheVariants.{Add, Remove, Profile, Server, Outbound}
+use Rattle.view_types.specs.declared.message.Message.TheVariants.{Add, Remove, Profile, Server, Outbound, Whole, AuthzPut, AuthzGone}
 
 pub record IsPlain (row : EndpointRow) : Type 0 where
   pub labels : entries row.labels ≡ []
@@ -30,4 +30,7 @@ abbrev pub IsPlainMessage : Message → Type 0
 IsPlainMessage (Profile view) = ⊥
 IsPlainMessage (Server view) = ⊥
 IsPlainMessage (Outbound view) = ⊥
+IsPlainMessage (Whole view) = ⊥
+IsPlainMessage (AuthzPut rows) = ⊥
+IsPlainMessage (AuthzGone keys) = ⊥
 IsPlainMessage message = All IsPlain (rows_in message)

@@ -4,12 +4,14 @@ use Rattle.mesh_text.specs.Contexts.{context_of}
 use Rattle.mesh_text.specs.Targets.{target_of}
 use Rattle.mesh_text.specs.Workloads.{workload_of}
 use Rattle.net_cidr.specs.declared.ip.Ip.{Ip}
+use Rattle.view_types.specs.Ports.{query_by_rows, query_whole}
 use Rattle.view_types.specs.declared.config.Config.{Config}
 use Rattle.view_types.specs.declared.query.Context.{Context}
 use Rattle.view_types.specs.declared.query.Method.{Method}
 use Rattle.view_types.specs.declared.query.Method.TheVariants as method
+use Rattle.view_types.specs.declared.query.PodPort.{PodPort}
 use Rattle.view_types.specs.declared.query.Query.{Query}
-use Rattle.view_types.specs.declared.query.Query.TheVariants.{Get, Profile, Port, Traffic}
+use Rattle.view_types.specs.declared.query.Query.TheVariants.{Get, Profile, Traffic}
 use Rattle.view_types.specs.declared.query.Target.{Target}
 use Rattle.view_types.specs.declared.query.Target.TheVariants.{Service, Address}
 use Rattle.proto_wire.specs.declared.record.Rec.{Rec}
@@ -33,11 +35,19 @@ abbrev pub profile_query : Option Target → Context → Result Query ProtoFault
 profile_query (Some target) ctx = Ok (Profile target ctx)
 profile_query None ctx = Err BadAuthority
 
--- ---- WatchPort and Watch
+-- ---- WatchPort, WatchPort2 and Watch
 
-abbrev pub port_query : Option (List ℕ × List ℕ) → ℕ → Result Query ProtoFault
-port_query (Some (ns, pod)) port = Ok (Port ns pod port)
-port_query None port = Err BadWorkload
+abbrev pub port_of : Option (List ℕ × List ℕ) → ℕ → Result PodPort ProtoFault
+port_of (Some (ns, pod)) port = Ok (record { ns = ns; pod = pod; port = port })
+port_of None port = Err BadWorkload
+
+abbrev pub asked_of : (PodPort → Query) → Result PodPort ProtoFault → Result Query ProtoFault
+asked_of ask (Ok port) = Ok (ask port)
+asked_of ask (Err fault) = Err fault
+
+-- what the message asks of a port of a Pod
+abbrev pub port_query : (PodPort → Query) → List Rec → Result Query ProtoFault
+port_query ask rs = asked_of ask (port_of (workload_of (chunk_in 1 rs)) (number_below 65536 2 rs))
 
 abbrev pub address_target : Ip × ℕ → Target
 address_target pair = Address pair.0 pair.1
@@ -58,13 +68,15 @@ request_schema method.Get = GetDestination
 request_schema method.GetProfile = GetDestination
 request_schema method.WatchPort = PortSpec
 request_schema method.Watch = TrafficSpec
+request_schema method.WatchPort2 = PortSpec
 
 -- of Get and GetProfile, the path leads to the target, and the token tells the client's context
 abbrev pub query_in : Config → Method → List Rec → Result Query ProtoFault
 query_in config method.Get rs = endpoints_query (target_of config (chunk_in 2 rs)) (context_of (chunk_in 3 rs))
 query_in config method.GetProfile rs = profile_query (target_of config (chunk_in 2 rs)) (context_of (chunk_in 3 rs))
-query_in config method.WatchPort rs = port_query (workload_of (chunk_in 1 rs)) (number_below 65536 2 rs)
+query_in config method.WatchPort rs = port_query query_whole rs
 query_in config method.Watch rs = traffic_query (traffic_target config rs)
+query_in config method.WatchPort2 rs = port_query query_by_rows rs
 
 abbrev pub request_of : Config → Method → List ℕ → Result Query ProtoFault
 request_of config method bytes = or_first (fault_of (request_schema method) bytes) (query_in config method (records_in bytes))

@@ -12,14 +12,15 @@ use Rattle.net_cidr.specs.declared.ip.Ip.{Ip}
 use Rattle.view_types.specs.Lawful.{IsLawfulBlock, IsLawfulFilter, IsLawfulMatch, IsLawfulOverride, IsLawfulProfileRoute}
 use Rattle.view_types.specs.declared.endpoint.EndpointRow.{EndpointRow}
 use Rattle.view_types.specs.declared.message.Message.{Message}
-use Rattle.view_types.specs.declared.message.Message.TheVariants.{Add, Remove, NoEndpoints, Profile, Server, Outbound}
+use Rattle.view_types.specs.declared.message.Message.TheVariants.{Add, Remove, NoEndpoints, Profile, Server, Outbound, Whole, AuthzPut, AuthzGone}
 use Rattle.view_types.specs.declared.outbound.OutboundView.{OutboundView}
 use Rattle.view_types.specs.declared.outbound.OutboundView.TheVariants as outbound
 use Rattle.view_types.specs.declared.outbound.ProfileView.{ProfileView}
 use Rattle.view_types.specs.declared.query.Method.{Method}
-use Rattle.view_types.specs.declared.query.Method.TheVariants.{Get, GetProfile, WatchPort, Watch}
+use Rattle.view_types.specs.declared.query.Method.TheVariants.{Get, GetProfile, WatchPort, Watch, WatchPort2}
 use Rattle.view_types.specs.declared.server_view.Authn.{Authn}
 use Rattle.view_types.specs.declared.server_view.Authn.TheVariants.{Anyone, AnyTls, Clients}
+use Rattle.view_types.specs.declared.server_view.AuthzKind.{AuthzKind}
 use Rattle.view_types.specs.declared.server_view.AuthzRow.{AuthzRow}
 use Rattle.view_types.specs.declared.server_view.BackendRow.{BackendRow}
 use Rattle.view_types.specs.declared.server_view.RouteRow.{RouteRow}
@@ -149,6 +150,9 @@ IsSendableOutbound (outbound.Service ns name port opaque routes) = IsSendableSer
 
 -- ---- messages
 
+abbrev pub IsSendableAuthzKey : AuthzKind × List ℕ → Type 0
+IsSendableAuthzKey key = IsUtf8 key.1
+
 abbrev pub AreSendableParts : Message → Type 0
 AreSendableParts (Add rows) = AllByRecursion IsSendableRow rows
 AreSendableParts (Remove pairs) = AllByRecursion IsSendablePair pairs
@@ -156,6 +160,9 @@ AreSendableParts (NoEndpoints exists) = Unit {0}
 AreSendableParts (Profile view) = IsSendableProfile view
 AreSendableParts (Server view) = IsSendableServer view
 AreSendableParts (Outbound view) = IsSendableOutbound view
+AreSendableParts (Whole view) = IsSendableServer view
+AreSendableParts (AuthzPut rows) = AllByRecursion IsSendableAuthz rows
+AreSendableParts (AuthzGone keys) = AllByRecursion IsSendableAuthzKey keys
 
 pub record IsSendable (message : Message) : Type 0 where
   pub parts : AreSendableParts message
@@ -166,4 +173,7 @@ abbrev pub method_of : Message → Method
 method_of (Profile view) = GetProfile
 method_of (Server view) = WatchPort
 method_of (Outbound view) = Watch
+method_of (Whole view) = WatchPort2
+method_of (AuthzPut rows) = WatchPort2
+method_of (AuthzGone keys) = WatchPort2
 method_of _ = Get

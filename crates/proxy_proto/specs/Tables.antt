@@ -183,3 +183,8 @@ fields_of schema.GetDestination = field 1 Single Text ∷ field 2 Single Text �
 fields_of schema.PortSpec = field 1 Single Text ∷ field 2 Single uint16 ∷ []
 -- what asks where traffic goes: a workload, which is passed over, and an address or a target
 fields_of schema.TrafficSpec = field 1 Single Text ∷ field 2 Choice (Message schema.TcpAddress) ∷ field 3 Choice Text ∷ []
+-- of a port whose subscriber is told what changes: the whole, authorizations that are new or have changed, or keys of those gone
+fields_of schema.ServerUpdate = field 1 Choice (Message schema.Server) ∷ field 2 Choice (Message schema.AuthzSet) ∷ field 3 Choice (Message schema.AuthzKeys) ∷ []
+fields_of schema.AuthzSet = field 1 Repeated (Message schema.Authz) ∷ []
+fields_of schema.AuthzKeys = field 1 Repeated (Message schema.AuthzKey) ∷ []
+fields_of schema.AuthzKey = field 1 Single one_of_two ∷ field 2 Single Text ∷ []

@@ -1,8 +1,7 @@
 //! Authorizations as messages.
 ghost use Rattle.std.specs.Prelude.{◌≡◌, ◌++◌, OnOk};
-ghost use Rattle.view_types.specs.Numbers.{authz_number};
 ghost use Rattle.proto_wire.specs.Wire.{spelling};
-ghost use Rattle.proxy_proto.specs.Authorizations.{net_records, block_records, clients_records, authn_records, authz_records};
+ghost use Rattle.proxy_proto.specs.Authorizations.{net_records, block_records, clients_records, authn_records, authz_key_records, authz_records};
 
 use crate::fields::{put_bool_field, put_number_field, put_text_field, put_texts};
 use crate::part::{Part, write_each, write_in};
@@ -71,23 +70,24 @@ impl Part for Authn {
     }
 }
 
-fn authz_number(kind: AuthzKind) -> u64
-    ensures { result ≡ authz_number kind }
-{
-    match kind {
-        AuthzKind::ServerAuthorization => 1,
-        AuthzKind::AuthorizationPolicy => 2,
-    }
-}
-
 impl Part for AuthzRow {
     ghost records = { authz_records };
 
     #[tactic(auto, using(proto_wire::proofs::Spellings::spellings), unfolding(crate::specs::Authorizations::authz_records))]
     fn write(&self, alloc: Global, out: &mut List<u8>) -> Result<(), Memory> {
-        put_number_field(out, 1, authz_number(self.kind))?;
+        put_number_field(out, 1, self.kind.number() as u64)?;
         put_text_field(out, 2, self.name.as_bytes())?;
         write_each(alloc, out, 3, self.blocks.as_slice())?;
         write_in(alloc, out, 4, &self.authn)
+    }
+}
+
+impl Part for (AuthzKind, Text) {
+    ghost records = { authz_key_records };
+
+    #[tactic(auto, using(proto_wire::proofs::Spellings::spellings), unfolding(crate::specs::Authorizations::authz_key_records))]
+    fn write(&self, _alloc: Global, out: &mut List<u8>) -> Result<(), Memory> {
+        put_number_field(out, 1, self.0.number() as u64)?;
+        put_text_field(out, 2, self.1.as_bytes())
     }
 }

@@ -2,11 +2,12 @@
 ghost use Rattle.std.specs.Prelude.{◌≡◌, ◌≤◌, ◌*◌, ◌/◌, ◌^◌, map, IfOk};
 ghost use Rattle.net_cidr.specs.Network.{net_round, width};
 ghost use Rattle.proto_wire.specs.Given.{view_record};
-ghost use Rattle.proxy_proto.specs.AuthorizationReading.{net_from, net_in, block_in, clients_in, authn_in, authz_kind, authz_in};
+ghost use Rattle.proxy_proto.specs.AuthorizationReading.{net_from, net_in, block_in, clients_in, authn_in, authz_kind, authz_in, authz_key_in};
 
 use crate::from_records::{FromRecords, read_each, read_in};
 use crate::look_up::{flag_in, inside, is_there, number_in, text_in, texts_in};
 use mesh_base::memory::Memory;
+use mesh_base::text::Text;
 use net_cidr::block::Block;
 use net_cidr::ip::Ip;
 use net_cidr::net::Net;
@@ -128,5 +129,17 @@ impl FromRecords for AuthzRow {
             blocks: read_each::<Block>(alloc, records, 3)?,
             authn: read_in::<Authn>(alloc, records, 4)?,
         })
+    }
+}
+
+impl FromRecords for (AuthzKind, Text) {
+    ghost said = { authz_key_in };
+
+    #[tactic(auto, unfolding(crate::specs::AuthorizationReading::authz_key_in))]
+    fn read(alloc: Global, records: &[RecRef<'_>]) -> Result<(AuthzKind, Text), Memory> {
+        Ok((
+            authz_kind(number_in(records, 1)),
+            text_in(alloc, records, 2)?,
+        ))
     }
 }

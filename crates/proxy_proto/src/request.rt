@@ -2,9 +2,10 @@
 ghost use Rattle.std.specs.Prelude.{◌≡◌, map, Some};
 ghost use Rattle.mesh_text.specs.Workloads.{workload_of};
 ghost use Rattle.proto_wire.specs.Given.{view_record};
+ghost use Rattle.view_types.specs.Ports.{query_by_rows, query_whole};
 ghost use Rattle.view_types.specs.declared.query.Method.TheVariants as methods;
 ghost use Rattle.proxy_proto.specs.Given.{Gives};
-ghost use Rattle.proxy_proto.specs.RequestReading.{endpoints_query, port_query, request_schema, query_in, request_of};
+ghost use Rattle.proxy_proto.specs.RequestReading.{endpoints_query, port_of, port_query, request_schema, query_in, request_of};
 ghost use Rattle.proxy_proto.specs.LookUps.{chunk_in, number_below};
 
 use crate::check::check;
@@ -19,7 +20,7 @@ use net_cidr::ip::Ip;
 use proto_wire::scan::RecRef;
 use std::alloc::Global;
 use view_types::config::Config;
-use view_types::query::{Context, Method, Query, Target};
+use view_types::query::{Context, Method, PodPort, Query, Target};
 
 fn endpoints_query(target: Target, ctx: Context) -> Result<Query, ProtoFault>
     ensures { Gives result (endpoints_query (Some target) ctx) }
@@ -65,16 +66,34 @@ fn read_profile_query(
     }
 }
 
-fn read_port_query(alloc: Global, records: &[RecRef<'_>]) -> Result<Query, ProtoFault>
+fn read_port(alloc: Global, records: &[RecRef<'_>]) -> Result<PodPort, ProtoFault>
     ensures { Gives result
-        (port_query (workload_of (chunk_in 1 (map view_record records.now)))
+        (port_of (workload_of (chunk_in 1 (map view_record records.now)))
         (number_below 65536 2 (map view_record records.now))) }
 {
     let port = u16_in(records, 2);
     match read_workload(alloc, chunk_in(records, 1)) {
-        Ok((ns, pod)) => Ok(Query::Port { ns, pod, port }),
+        Ok((ns, pod)) => Ok(PodPort { ns, pod, port }),
         Err(TargetFault::Bad) => Err(ProtoFault::BadWorkload),
         Err(TargetFault::Memory) => Err(ProtoFault::Memory),
+    }
+}
+
+fn read_port_query(alloc: Global, records: &[RecRef<'_>]) -> Result<Query, ProtoFault>
+    ensures { Gives result (port_query query_whole (map view_record records.now)) }
+{
+    match read_port(alloc, records) {
+        Ok(port) => Ok(port.whole()),
+        Err(fault) => Err(fault),
+    }
+}
+
+fn read_port_rows_query(alloc: Global, records: &[RecRef<'_>]) -> Result<Query, ProtoFault>
+    ensures { Gives result (port_query query_by_rows (map view_record records.now)) }
+{
+    match read_port(alloc, records) {
+        Ok(port) => Ok(port.by_rows()),
+        Err(fault) => Err(fault),
     }
 }
 
@@ -108,6 +127,7 @@ fn request_schema(method: Method) -> Schema
         Method::GetProfile => Schema::GetDestination,
         Method::WatchPort => Schema::PortSpec,
         Method::Watch => Schema::TrafficSpec,
+        Method::WatchPort2 => Schema::PortSpec,
     }
 }
 
@@ -124,6 +144,7 @@ fn read_query(
         Method::GetProfile => read_profile_query(alloc, records, config),
         Method::WatchPort => read_port_query(alloc, records),
         Method::Watch => read_traffic_query(alloc, records, config),
+        Method::WatchPort2 => read_port_rows_query(alloc, records),
     }
 }
 

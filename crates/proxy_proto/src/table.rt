@@ -56,6 +56,10 @@ pub enum Schema {
     GetDestination,
     PortSpec,
     TrafficSpec,
+    ServerUpdate,
+    AuthzSet,
+    AuthzKeys,
+    AuthzKey,
 }
 
 /// How often a field may come.
@@ -334,6 +338,18 @@ const TRAFFIC_SPEC: [Field; 3] = [
     Field(3, Choice, Text),
 ];
 
+const SERVER_UPDATE: [Field; 3] = [
+    Field(1, Choice, Message(Schema::Server)),
+    Field(2, Choice, Message(Schema::AuthzSet)),
+    Field(3, Choice, Message(Schema::AuthzKeys)),
+];
+
+const AUTHZ_SET: [Field; 1] = [Field(1, Repeated, Message(Schema::Authz))];
+
+const AUTHZ_KEYS: [Field; 1] = [Field(1, Repeated, Message(Schema::AuthzKey))];
+
+const AUTHZ_KEY: [Field; 2] = [Field(1, Single, ONE_OF_TWO), Field(2, Single, Text)];
+
 /// The fields of a message.
 pub fn fields(schema: Schema) -> &'static [Field]
     ensures { result.now ≡ fields_of schema }
@@ -387,5 +403,9 @@ pub fn fields(schema: Schema) -> &'static [Field]
         Schema::GetDestination => &GET_DESTINATION,
         Schema::PortSpec => &PORT_SPEC,
         Schema::TrafficSpec => &TRAFFIC_SPEC,
+        Schema::ServerUpdate => &SERVER_UPDATE,
+        Schema::AuthzSet => &AUTHZ_SET,
+        Schema::AuthzKeys => &AUTHZ_KEYS,
+        Schema::AuthzKey => &AUTHZ_KEY,
     }
 }

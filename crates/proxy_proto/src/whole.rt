@@ -25,6 +25,7 @@ pub fn whole(
         Schema::IpNetwork => of_network(alloc, records),
         Schema::Server => Ok(of_server(records)),
         Schema::Authz => Ok(of_number(records, 1)),
+        Schema::AuthzKey => Ok(of_number(records, 1)),
         Schema::HttpRoute => Ok(of_number(records, 1)),
         Schema::PathMatch => Ok(of_number(records, 1)),
         Schema::PortSpec => Ok(of_number(records, 2)),

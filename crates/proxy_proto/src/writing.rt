@@ -5,7 +5,7 @@ ghost use Rattle.proto_wire.specs.Wire.{spelling};
 ghost use Rattle.proxy_proto.specs.Messages.{message_records, canonical};
 
 use crate::fields::put_bool_field;
-use crate::part::{Part, write_each};
+use crate::part::{Part, write_each, write_in};
 use bytes::Bytes;
 use mesh_base::list::List;
 use mesh_base::memory::Memory;
@@ -36,6 +36,15 @@ impl Part for Message {
             Message::Profile(view) => view.write(alloc, out),
             Message::Server(view) => view.write(alloc, out),
             Message::Outbound(view) => view.write(alloc, out),
+            Message::Whole(view) => write_in(alloc, out, 1, view),
+            Message::AuthzPut(rows) => {
+                write_each(alloc, &mut inside, 1, rows.as_slice())?;
+                put_chunk(out, 2, inside.as_slice())
+            }
+            Message::AuthzGone(keys) => {
+                write_each(alloc, &mut inside, 1, keys.as_slice())?;
+                put_chunk(out, 3, inside.as_slice())
+            }
         }
     }
 }

@@ -8,8 +8,10 @@ use Rattle.mesh_text.specs.Targets.{target_of}
 use Rattle.mesh_text.specs.Workloads.{workload_of}
 use Rattle.net_cidr.specs.Texts.{FitsIp}
 use Rattle.net_cidr.specs.declared.ip.Ip.{Ip}
+use Rattle.view_types.specs.Ports.{query_by_rows, query_whole}
 use Rattle.view_types.specs.declared.config.Config.{Config}
 use Rattle.view_types.specs.declared.query.Method.TheVariants as method
+use Rattle.view_types.specs.declared.query.PodPort.{PodPort}
 use Rattle.view_types.specs.declared.query.Query.{Query}
 use Rattle.view_types.specs.declared.query.Query.TheVariants.{Traffic}
 use Rattle.view_types.specs.declared.query.Target.TheVariants.{Address}
@@ -27,7 +29,7 @@ use Rattle.proxy_proto.specs.Faults.{end_fault, fault_at, fault_if, fault_of, fi
 use Rattle.proxy_proto.specs.FieldRecords.{chunk, number_field, text_field}
 use Rattle.proxy_proto.specs.LookUps.{chunk_from, chunk_in, number_from, records_in, value_at}
 use Rattle.proxy_proto.specs.MessageReading.{or_first}
-use Rattle.proxy_proto.specs.RequestReading.{address_target, endpoints_query, port_query, profile_query, query_in, request_of, traffic_query, traffic_target}
+use Rattle.proxy_proto.specs.RequestReading.{address_target, asked_of, endpoints_query, port_of, profile_query, query_in, request_of, traffic_query, traffic_target}
 use Rattle.proxy_proto.specs.Tables.{field, fields_of}
 use Rattle.proxy_proto.proofs.Checking.{known}
 use Rattle.message_laws.proofs.Coming.{first_inside, first_short}
@@ -35,12 +37,12 @@ use Rattle.message_laws.proofs.EndpointRound.{address_comes}
 use Rattle.message_laws.proofs.Found.{IsSound, found_text, kept, not_number, not_text, only_number, only_text, recorded, scanned, skip, sound_append, sound_chunk, sound_number, sound_text}
 use Rattle.message_laws.proofs.Passing.{Inner, chosen, pass_number, pass_text, pass_then}
 use Rattle.request_writing.specs.declared.ask.Ask.{Ask}
-use Rattle.request_writing.specs.declared.ask.Ask.TheVariants.{Get, GetProfile, WatchPort, Watch}
+use Rattle.request_writing.specs.declared.ask.Ask.TheVariants.{Get, GetProfile, WatchPort, Watch, WatchPort2}
 use Rattle.request_writing.specs.declared.ask.GetDestination.{GetDestination}
 use Rattle.request_writing.specs.declared.ask.PortSpec.{PortSpec}
 use Rattle.request_writing.specs.declared.ask.TrafficSpec.TheVariants.{Addr, Authority}
 use Rattle.request_writing.specs.Asks.{canonical_ask, destination_records, method_of_ask, port_records, traffic_records}
-use Rattle.request_writing.specs.Meanings.{meaning}
+use Rattle.request_writing.specs.Meanings.{meaning, port_meaning}
 use Rattle.request_writing.specs.Sendable.{IsSendableAsk, IsSendableDestination, IsSendablePort}
 
 -- ---- records that are read to their end
@@ -100,7 +102,7 @@ module _ (destination : GetDestination) where
         to_end schemas.GetDestination (λ rs. query_in config method.GetProfile rs) (destination_records destination) (profile_query (target_of config destination.path) (context_of destination.token)) destination_sound short (destination_passes fits)
         (rw (path_found, token_found) refl)
 
--- ---- WatchPort
+-- ---- WatchPort and WatchPort2
 
 then_none : (fault : Option ProtoFault) → or_fault fault None ≡ fault
 then_none None = refl
@@ -138,14 +140,23 @@ module _ (spec : PortSpec) (fits : IsSendablePort spec) where
   port_fault : fault_together schemas.PortSpec (port_records spec) ≡ fault_if (spec.port == 0) (Range 2)
   port_fault = rw number_found (then_none (fault_if (spec.port == 0) (Range 2)))
 
-  abbrev asked : Result Query ProtoFault
-  asked = port_query (workload_of spec.workload) spec.port
+  abbrev asked : (PodPort → Query) → Result Query ProtoFault
+  asked ask = asked_of ask (port_of (workload_of spec.workload) spec.port)
 
-  port_back : (config : Config) → length (spelling (port_records spec)) < 2 ^ 64 → request_of config method.WatchPort (spelling (port_records spec)) ≡ (if spec.port == 0 then Err (Range 2) else asked)
-  port_back config short =
-      to_end schemas.PortSpec (λ rs. query_in config method.WatchPort rs) (port_records spec) asked port_sound short port_passes (rw (workload_found, number_found, kept 65536 spec.port fits.port) refl)
-      ∙ ap (λ fault. or_first fault asked) port_fault
-      ∙ zero_first (spec.port == 0) asked
+  module _ (config : Config) (short : length (spelling (port_records spec)) < 2 ^ 64) where
+    whole_back : request_of config method.WatchPort (spelling (port_records spec)) ≡ port_meaning query_whole spec
+    whole_back =
+        to_end schemas.PortSpec (λ rs. query_in config method.WatchPort rs) (port_records spec) (asked query_whole) port_sound short port_passes
+        (rw (workload_found, number_found, kept 65536 spec.port fits.port) refl)
+        ∙ ap (λ fault. or_first fault (asked query_whole)) port_fault
+        ∙ zero_first (spec.port == 0) (asked query_whole)
+
+    rows_back : request_of config method.WatchPort2 (spelling (port_records spec)) ≡ port_meaning query_by_rows spec
+    rows_back =
+        to_end schemas.PortSpec (λ rs. query_in config method.WatchPort2 rs) (port_records spec) (asked query_by_rows) port_sound short port_passes
+        (rw (workload_found, number_found, kept 65536 spec.port fits.port) refl)
+        ∙ ap (λ fault. or_first fault (asked query_by_rows)) port_fault
+        ∙ zero_first (spec.port == 0) (asked query_by_rows)
 
 -- ---- Watch
 
@@ -175,6 +186,7 @@ authority_back config authority utf8 short =
 pub ask_back : (config : Config) (ask : Ask) → IsSendableAsk ask → request_of config (method_of_ask ask) (canonical_ask ask) ≡ meaning config ask
 ask_back config (Get destination) fits = get_back destination config fits.contents fits.short
 ask_back config (GetProfile destination) fits = profile_back destination config fits.contents fits.short
-ask_back config (WatchPort spec) fits = port_back spec fits.contents config fits.short
+ask_back config (WatchPort spec) fits = whole_back spec fits.contents config fits.short
 ask_back config (Watch (Addr ip port)) fits = addr_back config ip port fits.contents.0 fits.contents.1 fits.short
 ask_back config (Watch (Authority authority)) fits = authority_back config authority fits.contents fits.short
+ask_back config (WatchPort2 spec) fits = rows_back spec fits.contents config fits.short

@@ -3,11 +3,12 @@ use Rattle.std.proofs.Common.{◌≡◌, ◌==◌, ◌<◌, ◌^◌, ℕ, List, 
 use Rattle.std.proofs.lemmas.Bool.Decides.{nat_tests}
 use Rattle.k8s_meta.specs.Scalars.{is_name}
 use Rattle.mesh_text.specs.Contexts.{context_of}
+use Rattle.view_types.specs.Ports.{query_by_rows, query_whole}
 use Rattle.view_types.specs.declared.config.Config.{Config}
 use Rattle.view_types.specs.declared.query.Query.{Query}
 use Rattle.view_types.specs.declared.query.Query.TheVariants as query
 use Rattle.view_types.specs.declared.query.Target.TheVariants.{Service, Address}
-use Rattle.proxy_proto.specs.RequestReading.{endpoints_query, port_query, profile_query, request_of, traffic_query}
+use Rattle.proxy_proto.specs.RequestReading.{asked_of, endpoints_query, port_of, profile_query, request_of, traffic_query}
 use Rattle.request_writing.specs.Asks.{canonical_ask, method_of_ask}
 use Rattle.request_writing.specs.Meanings.{meaning}
 use Rattle.request_writing.specs.Queries.{IsAskable, ask_for}
@@ -24,9 +25,10 @@ module _ (config : Config) (token : List ℕ) (is_domain : is_name config.cluste
       ap (λ target. endpoints_query target (context_of token)) (target_reads config (Service ns name port) is_domain fits.0) ∙ ap (λ c. endpoints_query (Some (Service ns name port)) c) fits.1.says
   meant (query.Profile target ctx) fits =
       ap (λ target. profile_query target (context_of token)) (target_reads config target is_domain fits.0) ∙ ap (λ c. profile_query (Some target) c) fits.1.says
-  meant (query.Port ns pod port) fits = rw (not_zero port fits.2.some) (ap (λ names. port_query names port) (workload_reads ns pod fits.0 fits.1))
+  meant (query.Port ns pod port) fits = rw (not_zero port fits.2.some) (ap (λ names. asked_of query_whole (port_of names port)) (workload_reads ns pod fits.0 fits.1))
   meant (query.Traffic (Address ip port)) fits = refl
   meant (query.Traffic (Service ns name port)) fits = ap traffic_query (target_reads config (Service ns name port) is_domain fits)
+  meant (query.PortRows ns pod port) fits = rw (not_zero port fits.2.some) (ap (λ names. asked_of query_by_rows (port_of names port)) (workload_reads ns pod fits.0 fits.1))
 
   sendable : (q : Query) → IsAskable token q → AreSendableContents (ask_for config token q)
   sendable (query.Get ns name port ctx) fits = record { path = target_utf8 config (Service ns name port) is_domain fits.0; token = fits.1.utf8 }
@@ -34,6 +36,7 @@ module _ (config : Config) (token : List ℕ) (is_domain : is_name config.cluste
   sendable (query.Port ns pod port) fits = record { workload = workload_utf8 ns pod fits.0 fits.1; port = fits.2.number }
   sendable (query.Traffic (Address ip port)) fits = fits
   sendable (query.Traffic (Service ns name port)) fits = target_utf8 config (Service ns name port) is_domain fits
+  sendable (query.PortRows ns pod port) fits = record { workload = workload_utf8 ns pod fits.0 fits.1; port = fits.2.number }
 
   pub query_back : (q : Query) → IsAskable token q → length (canonical_ask (ask_for config token q)) < 2 ^ 64 → request_of config (method_of_ask (ask_for config token q)) (canonical_ask (ask_for config token q)) ≡ Ok q
   query_back q fits short = ask_back config (ask_for config token q) (record { contents = sendable q fits; short = short }) ∙ meant q fits

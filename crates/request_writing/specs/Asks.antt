@@ -8,7 +8,7 @@ use Rattle.proto_wire.specs.Wire.{spelling}
 use Rattle.proxy_proto.specs.Endpoints.{address_records}
 use Rattle.proxy_proto.specs.FieldRecords.{chunk, number_field, text_field}
 use Rattle.request_writing.specs.declared.ask.Ask.{Ask}
-use Rattle.request_writing.specs.declared.ask.Ask.TheVariants.{Get, GetProfile, WatchPort, Watch}
+use Rattle.request_writing.specs.declared.ask.Ask.TheVariants.{Get, GetProfile, WatchPort, Watch, WatchPort2}
 use Rattle.request_writing.specs.declared.ask.GetDestination.{GetDestination}
 use Rattle.request_writing.specs.declared.ask.PortSpec.{PortSpec}
 use Rattle.request_writing.specs.declared.ask.TrafficSpec.{TrafficSpec}
@@ -29,6 +29,7 @@ ask_records (Get destination) = destination_records destination
 ask_records (GetProfile destination) = destination_records destination
 ask_records (WatchPort spec) = port_records spec
 ask_records (Watch spec) = traffic_records spec
+ask_records (WatchPort2 spec) = port_records spec
 
 -- the one spelling of an ask
 abbrev pub canonical_ask : Ask → List ℕ
@@ -40,3 +41,4 @@ method_of_ask (Get destination) = method.Get
 method_of_ask (GetProfile destination) = method.GetProfile
 method_of_ask (WatchPort spec) = method.WatchPort
 method_of_ask (Watch spec) = method.Watch
+method_of_ask (WatchPort2 spec) = method.WatchPort2

@@ -15,7 +15,7 @@ use Rattle.view_types.specs.declared.query.Query.TheVariants as query
 use Rattle.view_types.specs.declared.query.Target.{Target}
 use Rattle.view_types.specs.declared.query.Target.TheVariants.{Service, Address}
 use Rattle.request_writing.specs.declared.ask.Ask.{Ask}
-use Rattle.request_writing.specs.declared.ask.Ask.TheVariants.{Get, GetProfile, WatchPort, Watch}
+use Rattle.request_writing.specs.declared.ask.Ask.TheVariants.{Get, GetProfile, WatchPort, Watch, WatchPort2}
 use Rattle.request_writing.specs.declared.ask.TrafficSpec.{TrafficSpec}
 use Rattle.request_writing.specs.declared.ask.TrafficSpec.TheVariants.{Addr, Authority}
 
@@ -42,6 +42,7 @@ ask_for config token (query.Get ns name port ctx) = Get (record { path = target_
 ask_for config token (query.Profile target ctx) = GetProfile (record { path = target_text config target; token = token })
 ask_for config token (query.Port ns pod port) = WatchPort (record { workload = workload_text ns pod; port = port })
 ask_for config token (query.Traffic target) = Watch (traffic_spec config target)
+ask_for config token (query.PortRows ns pod port) = WatchPort2 (record { workload = workload_text ns pod; port = port })
 
 -- ---- which queries can be asked
 
@@ -69,3 +70,4 @@ IsAskable token (query.Get ns name port ctx) = IsTextTarget (Service ns name por
 IsAskable token (query.Profile target ctx) = IsTextTarget target × IsTokenOf token ctx
 IsAskable token (query.Port ns pod port) = IsTrue (is_name ns) × IsTrue (is_name pod) × IsTextPort port
 IsAskable token (query.Traffic target) = IsTrafficTarget target
+IsAskable token (query.PortRows ns pod port) = IsTrue (is_name ns) × IsTrue (is_name pod) × IsTextPort port

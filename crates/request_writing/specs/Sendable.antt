@@ -3,7 +3,7 @@ use Rattle.std.specs.Prelude.{◌<◌, ◌^◌, IsUtf8, length}
 use Rattle.k8s_meta.specs.Lawful.{IsPort}
 use Rattle.net_cidr.specs.Texts.{FitsIp}
 use Rattle.request_writing.specs.declared.ask.Ask.{Ask}
-use Rattle.request_writing.specs.declared.ask.Ask.TheVariants.{Get, GetProfile, WatchPort, Watch}
+use Rattle.request_writing.specs.declared.ask.Ask.TheVariants.{Get, GetProfile, WatchPort, Watch, WatchPort2}
 use Rattle.request_writing.specs.declared.ask.GetDestination.{GetDestination}
 use Rattle.request_writing.specs.declared.ask.PortSpec.{PortSpec}
 use Rattle.request_writing.specs.declared.ask.TrafficSpec.{TrafficSpec}
@@ -27,6 +27,7 @@ AreSendableContents (Get destination) = IsSendableDestination destination
 AreSendableContents (GetProfile destination) = IsSendableDestination destination
 AreSendableContents (WatchPort spec) = IsSendablePort spec
 AreSendableContents (Watch spec) = IsSendableTraffic spec
+AreSendableContents (WatchPort2 spec) = IsSendablePort spec
 
 pub record IsSendableAsk (ask : Ask) : Type 0 where
   pub contents : AreSendableContents ask

@@ -35,4 +35,5 @@ pub enum Ask {
     GetProfile(GetDestination),
     WatchPort(PortSpec),
     Watch(TrafficSpec),
+    WatchPort2(PortSpec),
 }

@@ -46,6 +46,7 @@ fn put_ask(alloc: Global, out: &mut List<u8>, ask: &Ask) -> Result<(), Memory>
         Ask::GetProfile(destination) => put_destination(out, destination),
         Ask::WatchPort(spec) => put_port(out, spec),
         Ask::Watch(spec) => put_traffic(alloc, out, spec),
+        Ask::WatchPort2(spec) => put_port(out, spec),
     }
 }
 
