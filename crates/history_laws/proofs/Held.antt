@@ -1,11 +1,9 @@
--- What is held is lawful and stands at its own key, and a live query is lawful, since the row that told it says so.
-use Rattle.std.proofs.Common.{◌≡◌, ℕ, Bool, true, false, cond, eqb, ◌&&◌, List, [], ◌∷◌, Option, Some, None, Ordering, refl, sym, ap, ◌∙◌, subst, ◌⊎◌, inl, inr}
+-- What is held is lawful, and a live query is lawful, since the row that told it says so.
+use Rattle.std.proofs.Common.{◌≡◌, ℕ, Bool, true, false, cond, eqb, ◌&&◌, List, [], ◌∷◌, Option, Some, None, sym, ap, ◌∙◌, subst, ◌⊎◌, inl, inr}
 use Rattle.std.specs.Prelude.{Result, Ok, Err}
 use Rattle.std.specs.List.{AllByRecursion}
-use Rattle.std.specs.Ordering.{eq_by_cmp, is_eq}
-use Rattle.std.specs.declared.cmp.Ordering.TheVariants.{Less, Equal, Greater}
+use Rattle.std.specs.Ordering.{eq_by_cmp}
 use Rattle.mesh_base.specs.KeyOrder.{key_cmp}
-use Rattle.mesh_base.proofs.KeyOrder.{keys_exact}
 use Rattle.mesh_base.specs.declared.key.ObjKey.{ObjKey}
 use Rattle.view_types.specs.declared.object.Object.{Object}
 use Rattle.view_types.specs.Lawful.{IsLawful}
@@ -19,7 +17,7 @@ use Rattle.feed_history.specs.declared.refusal.Refusal.{Refusal}
 use Rattle.view_types.specs.declared.query.Query.{Query}
 use Rattle.watch_events.specs.Lawful.{IsLawfulQuery}
 use Rattle.feed_history.specs.History.{State, after, refusal_after}
-use Rattle.feed_history.specs.Lawful.{HeldAreLawful, HeldAtKeys, QueriesAreLawful, ReadsLawfully}
+use Rattle.feed_history.specs.Lawful.{HeldAreLawful, QueriesAreLawful, ReadsLawfully}
 use Rattle.feed_history.specs.Live.{asked_by, live_at, meets_too_long}
 use Rattle.feed_history.specs.LookBack.{told_by, last_told, held_at}
 use Rattle.feed_history.specs.Marks.{MarkedRow}
@@ -27,26 +25,17 @@ use Rattle.feed_history.specs.Program.{Program, reading}
 use Rattle.history_laws.proofs.Lives.{live_by_the_last}
 use Rattle.history_laws.proofs.Telling.{AreLawful, row_lawful, told_by_the_last}
 
-equal : (r : Ordering) → is_eq r ≡ true → r ≡ Equal
-equal Less e = cc
-equal Equal e = refl
-equal Greater e = cc
+right_at : (o object : Object) → IsLawful o → (b : Bool) → cond b (Some (Some o)) None ≡ Some (Some object) → IsLawful object
+right_at o object lawful true is = let same : o ≡ object = cc is in subst IsLawful same lawful
+right_at o object lawful false is = absurd (cc is)
 
--- the object is lawful and has the key
-abbrev IsRight : ObjKey → Object → Type 0
-IsRight key object = IsLawful object × (key_of object ≡ key)
-
-right_at : (key : ObjKey) (o object : Object) → IsLawful o → (b : Bool) → eq_by_cmp key_cmp key (key_of o) ≡ b → cond b (Some (Some o)) None ≡ Some (Some object) → IsRight key object
-right_at key o object lawful true tied is = let same : o ≡ object = cc is in subst (IsRight key) same (lawful, sym (keys_exact key (key_of o) (equal _ tied)))
-right_at key o object lawful false tied is = absurd (cc is)
-
-right_item : (key : ObjKey) (items : List Object) (object : Object) → AllByRecursion IsLawful items → item_at key items ≡ Some object → IsRight key object
+right_item : (key : ObjKey) (items : List Object) (object : Object) → AllByRecursion IsLawful items → item_at key items ≡ Some object → IsLawful object
 right_item key [] object lawful is = absurd (cc is)
 right_item key (o ∷ os) object lawful is =
-    elim (eq_by_cmp key_cmp key (key_of o)) as (λ b. eq_by_cmp key_cmp key (key_of o) ≡ b → cond b (Some o) (item_at key os) ≡ Some object → IsRight key object) [
-      | true ↦ λ tied is. let same : o ≡ object = cc is in subst (IsRight key) same (lawful.0, sym (keys_exact key (key_of o) (equal _ tied)))
-      | false ↦ λ tied is. right_item key os object lawful.1 is
-    ] refl is
+    elim (eq_by_cmp key_cmp key (key_of o)) as (λ b. cond b (Some o) (item_at key os) ≡ Some object → IsLawful object) [
+      | true ↦ λ is. let same : o ≡ object = cc is in subst IsLawful same lawful.0
+      | false ↦ λ is. right_item key os object lawful.1 is
+    ] is
 
 of_list : (b : Bool) (item : Option Object) (object : Object) → cond b (Some item) None ≡ Some (Some object) → item ≡ Some object
 of_list true item object is = cc is
@@ -56,8 +45,8 @@ gone : (b : Bool) (object : Object) → cond b (Some None) None ≡ Some (Some o
 gone true object is = cc is
 gone false object is = cc is
 
-told_right : (line : Result Line LineFault) (key : ObjKey) (object : Object) → AreLawful line → told_by line key ≡ Some (Some object) → IsRight key object
-told_right (Ok (lines.Event (Set o))) key object lawful is = right_at key o object lawful (eq_by_cmp key_cmp key (key_of o)) refl is
+told_right : (line : Result Line LineFault) (key : ObjKey) (object : Object) → AreLawful line → told_by line key ≡ Some (Some object) → IsLawful object
+told_right (Ok (lines.Event (Set o))) key object lawful is = right_at o object lawful (eq_by_cmp key_cmp key (key_of o)) is
 told_right (Ok (lines.Event (Delete key_gone))) key object lawful is = absurd (gone (eq_by_cmp key_cmp key key_gone) object is)
 told_right (Ok (lines.Event (Relist kind items))) key object lawful is = right_item key items object lawful.1 (of_list (is_of kind key) (item_at key items) object is)
 told_right (Ok (lines.Event Bookmark)) key object lawful is = absurd (cc is)
@@ -75,7 +64,7 @@ told_or_before (Some refusal) told before x is = inr is
 told_or_before None None before x is = inr is
 told_or_before None (Some told) before x is = inl (ap Some is)
 
-right : (program : Program) → ReadsLawfully program → (past : List MarkedRow) (key : ObjKey) (object : Object) → held_at program past key ≡ Some object → IsRight key object
+right : (program : Program) → ReadsLawfully program → (past : List MarkedRow) (key : ObjKey) (object : Object) → held_at program past key ≡ Some object → IsLawful object
 right program reads [] key object is = absurd (cc is)
 right program reads (row ∷ past) key object is = elim (told_or_before (refusal_after program past row) (told_by (reading program row) key) (held_at program past key) object is) [
   | inl told ↦ told_right (reading program row) key object (row_lawful program reads row) told
@@ -83,10 +72,7 @@ right program reads (row ∷ past) key object is = elim (told_or_before (refusal
 ]
 
 pub held_are_lawful : (program : Program) → ReadsLawfully program → HeldAreLawful program
-held_are_lawful program reads past key object is = (right program reads past key object (sym (told_by_the_last program reads past key) ∙ is)).0
-
-pub held_at_keys : (program : Program) → ReadsLawfully program → HeldAtKeys program
-held_at_keys program reads past key object is = (right program reads past key object (sym (told_by_the_last program reads past key) ∙ is)).1
+held_are_lawful program reads past key object is = right program reads past key object (sym (told_by_the_last program reads past key) ∙ is)
 
 -- ---- queries
 

@@ -1,3 +1,4 @@
+mod AtKeys
 pub mod Deliveries
 pub mod Held
 pub mod LastDrain

@@ -1,13 +1,15 @@
 -- What is sent of lawful objects is sendable: the rows of their endpoints, and their other views.
-use Rattle.std.proofs.Common.{◌≡◌, ℕ, zero, suc, ◌<◌, ◌≤◌, ◌^◌, Bool, true, false, cond, List, [], ◌∷◌, length, map, drop, Option, Some, None, refl, sym, ap, subst, arith, lit<}
+use Rattle.std.proofs.Common.{◌≡◌, ℕ, zero, suc, ◌<◌, ◌≤◌, ◌^◌, Bool, true, false, cond, List, [], ◌∷◌, length, map, take, drop, Option, Some, None, refl, sym, ap, subst, arith, lit<}
 use Rattle.std.specs.Prelude.{Ok, codes, nat_lt, not, option_map}
 use Rattle.std.specs.List.{AllByRecursion}
 use lib.Utf8.{encode}
 use Rattle.std.specs.Str.{chars, is_utf8}
 use Rattle.std.proofs.lemmas.Bool.{ltb-false}
 use Rattle.std.proofs.lemmas.Str.{IsUtf8-from_is_utf8}
-use Rattle.net_cidr.specs.declared.ip.Ip.{Ip}
-use Rattle.view_rules.specs.Batch.{batch, changed_rows, gone_pairs, has_pair, has_row, in_pieces, is_news, messages_to, outbound_in, pieces_up_to, profile_in, rows_before, server_in, whole_batch}
+use Rattle.view_rules.specs.AuthzOrder.{authz_cmp, authz_key}
+use Rattle.view_rules.specs.Batch.{authz_before, batch, changed_rows, differ_in_authz, gone_pairs, has_pair, has_row, in_pieces, is_news, messages_to, messages_to_authz, outbound_in, pieces_up_to, port_batch, profile_in, rows_before, server_in, whole_batch}
+use Rattle.view_rules.specs.ByKey.{changed_from, gone_keys, has_key, has_same}
+use Rattle.view_rules.specs.Fold.{authz_of}
 use Rattle.view_rules.specs.Views.{view_before, view_of}
 use Rattle.view_rules.specs.Endpoints.{endpoints, pair_of}
 use Rattle.view_types.specs.Defaults.{usual_config}
@@ -15,12 +17,15 @@ use Rattle.view_types.specs.Objects.{ObjectMap}
 use Rattle.view_types.specs.declared.endpoint.EndpointRow.{EndpointRow}
 use Rattle.view_types.specs.declared.endpoint.EndpointView.{EndpointView}
 use Rattle.view_types.specs.declared.message.Message.{Message}
-use Rattle.view_types.specs.declared.message.Message.TheVariants.{Add, Remove, NoEndpoints, Profile as WholeProfile, Server as WholeServer, Outbound as WholeOutbound}
+use Rattle.view_types.specs.declared.message.Message.TheVariants.{Add, Remove, NoEndpoints, Profile as WholeProfile, Server as WholeServer, Outbound as WholeOutbound, Whole, AuthzPut, AuthzGone}
 use Rattle.view_types.specs.declared.query.Query.{Query}
+use Rattle.view_types.specs.declared.server_view.AuthzRow.{AuthzRow}
+use Rattle.view_types.specs.declared.server_view.ServerView.{ServerView}
+use Rattle.view_types.specs.declared.server_view.ServerView.TheVariants.{Absent, Present}
 use Rattle.view_types.specs.declared.query.Query.TheVariants as queries
 use Rattle.proxy_proto.specs.Messages.{canonical}
 use Rattle.proxy_proto.specs.MessageReading.{message_of}
-use Rattle.proxy_proto.specs.Sendable.{AreSendableParts, IsSendable, IsSendablePair, IsSendableRow, method_of}
+use Rattle.proxy_proto.specs.Sendable.{AreSendableParts, IsSendable, IsSendableAuthz, IsSendableAuthzKey, IsSendablePair, IsSendableRow, IsSendableServer, method_of}
 use Rattle.message_laws.proofs.Round.{message_back}
 use Rattle.feed_history.specs.Drains.{too_long}
 use Rattle.feed_history.specs.History.{Asked, State, after, asked_at, messages_due, too_long_for}
@@ -36,7 +41,7 @@ use Rattle.view_rules.specs.Profiles.{profile}
 use Rattle.view_rules.specs.Inbound.{inbound}
 use Rattle.view_rules.specs.Outbound.{outbound}
 use Rattle.view_rules.specs.Same.{same_option, same_profile}
-use Rattle.view_rules.specs.SamePolicies.{same_outbound, same_server}
+use Rattle.view_rules.specs.SamePolicies.{same_authz, same_outbound, same_server}
 use Rattle.watch_events.specs.Lawful.{IsLawfulQuery}
 use Rattle.history_laws.proofs.SendableInbound.{inbound_is_sendable}
 use Rattle.history_laws.proofs.SendableOutbound.{outbound_is_sendable}
@@ -49,21 +54,18 @@ use Rattle.history_laws.proofs.SendableRows.{AreLawfulHeld, shown_are_sendable}
 abbrev IsSendableIf : Message → Type 0
 IsSendableIf message = length (canonical message) < 2 ^ 64 → IsSendable message
 
-adds_are_sendable : (n size : ℕ) (rows : List EndpointRow) → AllByRecursion IsSendableRow rows → AllByRecursion IsSendableIf (map Add (pieces_up_to n size rows))
-adds_are_sendable zero size rows good = tt
-adds_are_sendable (suc n) size [] good = tt
-adds_are_sendable (suc n) size (r ∷ rs) good = (
-  λ short. record { parts = all_taken IsSendableRow size (r ∷ rs) good; short = short },
-  adds_are_sendable n size (drop size (r ∷ rs)) (all_left IsSendableRow size (r ∷ rs) good),
-)
+-- so can each message of some pieces of items that can
+module _ {X : Type 0} (message : List X → Message) (Is : X → Type 0) (parts : (xs : List X) → AllByRecursion Is xs → AreSendableParts (message xs)) where
+  up_to_are_sendable : (n size : ℕ) (xs : List X) → AllByRecursion Is xs → AllByRecursion IsSendableIf (map message (pieces_up_to n size xs))
+  up_to_are_sendable zero size xs good = tt
+  up_to_are_sendable (suc n) size [] good = tt
+  up_to_are_sendable (suc n) size (x ∷ xs) good = (
+    λ short. record { parts = parts (take size (x ∷ xs)) (all_taken Is size (x ∷ xs) good); short = short },
+    up_to_are_sendable n size (drop size (x ∷ xs)) (all_left Is size (x ∷ xs) good),
+  )
 
-removes_are_sendable : (n size : ℕ) (pairs : List (Ip × ℕ)) → AllByRecursion IsSendablePair pairs → AllByRecursion IsSendableIf (map Remove (pieces_up_to n size pairs))
-removes_are_sendable zero size pairs good = tt
-removes_are_sendable (suc n) size [] good = tt
-removes_are_sendable (suc n) size (p ∷ ps) good = (
-  λ short. record { parts = all_taken IsSendablePair size (p ∷ ps) good; short = short },
-  removes_are_sendable n size (drop size (p ∷ ps)) (all_left IsSendablePair size (p ∷ ps) good),
-)
+  pieces_are_sendable : (size : ℕ) (xs : List X) → AllByRecursion Is xs → AllByRecursion IsSendableIf (map message (in_pieces size xs))
+  pieces_are_sendable size xs good = up_to_are_sendable (length xs) size xs good
 
 pairs_are_sendable : (rows : List EndpointRow) → AllByRecursion IsSendableRow rows → AllByRecursion IsSendablePair (map pair_of rows)
 pairs_are_sendable rows good = all_mapped IsSendableRow IsSendablePair pair_of (λ row good. record { ip = good.ip; port = good.port }) rows good
@@ -75,8 +77,8 @@ batch_is_sendable size old exists (r ∷ rs) old_good good =
     let changed = changed_rows (rows_before old) (r ∷ rs) in
     let gone = gone_pairs (rows_before old) (r ∷ rs) in
     all_joined IsSendableIf (map Add (in_pieces size changed)) (map Remove (in_pieces size gone))
-    (adds_are_sendable (length changed) size changed (all_kept IsSendableRow (λ row. not (has_row (rows_before old) row)) (r ∷ rs) good))
-    (removes_are_sendable (length gone) size gone (all_kept IsSendablePair (λ pair. not (has_pair (r ∷ rs) pair)) (map pair_of (rows_before old)) (pairs_are_sendable (rows_before old) old_good)))
+    (pieces_are_sendable Add IsSendableRow (λ rows good. good) size changed (all_kept IsSendableRow (λ row. not (has_row (rows_before old) row)) (r ∷ rs) good))
+    (pieces_are_sendable Remove IsSendablePair (λ pairs good. good) size gone (all_kept IsSendablePair (λ pair. not (has_pair (r ∷ rs) pair)) (map pair_of (rows_before old)) (pairs_are_sendable (rows_before old) old_good)))
 
 whole_is_sendable : {X : Type 0} (same : X → X → Bool) (message : X → Message) (old : Option X) (new : X) → AreSendableParts (message new) → AllByRecursion IsSendableIf (whole_batch same message old new)
 whole_is_sendable same message old new good = if_new (same_option same old (Some new))
@@ -84,6 +86,30 @@ whole_is_sendable same message old new good = if_new (same_option same old (Some
     if_new : (shown : Bool) → AllByRecursion IsSendableIf (cond shown [] (message new ∷ []))
     if_new true = tt
     if_new false = (λ short. record { parts = good; short = short }, tt)
+
+-- ---- inbound views by rows
+
+authz_are_sendable : (view : ServerView) → IsSendableServer view → AllByRecursion IsSendableAuthz (authz_of view)
+authz_are_sendable Absent good = tt
+authz_are_sendable (Present row) good = good.authz
+
+keys_are_sendable : (rows : List AuthzRow) → AllByRecursion IsSendableAuthz rows → AllByRecursion IsSendableAuthzKey (map authz_key rows)
+keys_are_sendable rows good = all_mapped IsSendableAuthz IsSendableAuthzKey authz_key (λ row good. good.name) rows good
+
+port_is_sendable : (size : ℕ) (old : Option ServerView) (new : ServerView) → AllByRecursion IsSendableAuthz (authz_before old) → IsSendableServer new → AllByRecursion IsSendableIf (port_batch size old new)
+port_is_sendable size old new old_good good = if_alone (differ_in_authz old new)
+  where
+    if_alone : (alone : Bool) → AllByRecursion IsSendableIf (cond alone (messages_to_authz size (authz_before old) (authz_of new)) (whole_batch same_server Whole old new))
+    if_alone true =
+        let changed = changed_from same_authz (authz_before old) (authz_of new) in
+        let gone = gone_keys authz_cmp authz_key (authz_before old) (authz_of new) in
+        all_joined IsSendableIf (map AuthzPut (in_pieces size changed)) (map AuthzGone (in_pieces size gone))
+        (pieces_are_sendable AuthzPut IsSendableAuthz (λ rows good. good) size changed (all_kept IsSendableAuthz (λ row. not (has_same same_authz (authz_before old) row)) (authz_of new) (authz_are_sendable new good)))
+        (pieces_are_sendable AuthzGone IsSendableAuthzKey (λ keys good. good) size gone
+        (all_kept IsSendableAuthzKey (λ key. not (has_key authz_cmp authz_key (authz_of new) key)) (map authz_key (authz_before old)) (keys_are_sendable (authz_before old) old_good)))
+    if_alone false = whole_is_sendable same_server Whole old new good
+
+-- ---- lengths
 
 -- none is too long
 abbrev AreShort : List Message → Type 0
@@ -136,6 +162,12 @@ module _ (program : Program) (lawful : HeldAreLawful program) (asked_lawful : Qu
       by_query (queries.Traffic target) lawful before told =
           whole_is_sendable same_outbound WholeOutbound (outbound_in (view_before program.config (queries.Traffic target) before)) (outbound program.config held target)
           (outbound_is_sendable held now program.config usual target lawful)
+      by_query (queries.PortRows ns pod port) lawful None told =
+          port_is_sendable program.limits.frame_addrs None (inbound program.config held ns pod port) tt (inbound_is_sendable program.config usual held now ns pod port)
+      by_query (queries.PortRows ns pod port) lawful (Some before) told =
+          port_is_sendable program.limits.frame_addrs (Some (inbound program.config before ns pod port)) (inbound program.config held ns pod port)
+          (authz_are_sendable (inbound program.config before ns pod port) (inbound_is_sendable program.config usual before told ns pod port))
+          (inbound_is_sendable program.config usual held now ns pod port)
 
   sent_are_sendable : HasLimit program → (past : List MarkedRow) (id : ℕ) → AllByRecursion IsSendable (sent_now program (after program past) id)
   sent_are_sendable small past id = by_found (asked_at id now.subs) refl

@@ -59,7 +59,7 @@ pub fn held_are_lawful()
 
 /// Each object that is held stands at its own key.
 pub fn held_at_their_keys()
-    ensures { (program : Program) → ReadsLawfully program → HeldAtKeys program }
+    ensures { (program : Program) → HeldAtKeys program }
 {}
 
 /// Each live query is as its reader gives it.

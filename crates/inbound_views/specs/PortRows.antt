@@ -5,11 +5,11 @@ use Rattle.mesh_base.specs.declared.key.ObjKey.{ObjKey}
 use Rattle.view_types.specs.Objects.{ObjectMap}
 use Rattle.view_types.specs.declared.config.Config.{Config}
 use Rattle.view_types.specs.declared.query.Query.{Query}
-use Rattle.view_types.specs.declared.query.Query.TheVariants.{Port}
+use Rattle.view_types.specs.declared.query.Query.TheVariants.{Port, PortRows}
 use Rattle.view_types.specs.declared.server_view.AuthzRow.{AuthzRow}
 use Rattle.view_types.specs.declared.server_view.RouteRow.{RouteRow}
 use Rattle.view_rules.specs.PolicyLaws.{server_key}
-use Rattle.view_rules.specs.Views.{view_of}
+use Rattle.view_rules.specs.Views.{as_asked, view_of}
 use Rattle.mark_rules.specs.Reads.{authz_reads, route_reads, server_reads}
 use Rattle.mark_rules.specs.Rows.{ServerPart, authz_row, key_of_row, rows, server_part, server_routes}
 use Rattle.mark_rules.specs.declared.keys.RouteKey.{RouteKey}
@@ -19,20 +19,23 @@ use Rattle.mark_rules.specs.declared.keys.ServerKey.{ServerKey}
 use Rattle.row_table.specs.IndexRows.{Filter}
 use Rattle.row_views.specs.Queries.{ShowsSame, rows_at}
 
--- a query of a port; of no other is the view kept
+-- A query of a port is kept as one of its view in whole. Of no other is the view kept.
 abbrev pub port_query : Query → Option Query
 port_query (Port ns pod port) = Some (Port ns pod port)
+port_query (PortRows ns pod port) = Some (Port ns pod port)
 port_query _ = None
 
 -- the query of a key
 abbrev pub query_for : ServerKey → Query
 query_for key = Port key.ns key.pod key.port
 
--- it is kept as it is
 pub ports_same : ShowsSame port_query
 ports_same (Port ns pod port) asked is config held =
     let same : Port ns pod port ≡ asked = cc is in
     (ap (view_of config held) (sym same), ap (rows config held) (sym same))
+ports_same (PortRows ns pod port) asked is config held =
+    let same : Port ns pod port ≡ asked = cc is in
+    (ap (λ q. as_asked (PortRows ns pod port) (view_of config held q)) (sym same), ap (rows config held) (sym same))
 ports_same _ asked is config held = absurd (cc is)
 
 -- ---- the rows of the three indexes, and what each reads

@@ -1,6 +1,7 @@
 // The keys of the rows behind ports.
 ghost use Rattle.std.specs.Prelude.{◌≡◌, ◌↔◌, ◌++◌, IfOk, IsTrue, OnOk, map, option_map};
 ghost use Rattle.std.specs.Option.{option_copied};
+ghost use Rattle.view_types.specs.declared.query.Query.TheVariants.{Port};
 ghost use Rattle.view_rules.specs.PolicyLaws.{server_key};
 ghost use Rattle.mark_rules.specs.Rows.{key_of_row, name_in};
 ghost use Rattle.inbound_views.specs.PortRows.{listed, port_query, query_for};
@@ -21,13 +22,20 @@ pub(crate) fn port_key(query: &Query) -> Result<Option<ServerKey>, Memory>
     ensures { IfOk result (λ key. option_map query_for key ≡ port_query query.now) }
 {
     match query {
-        Query::Port { ns, pod, port } => Ok(Some(ServerKey {
-            ns: ns.copy()?,
-            pod: pod.copy()?,
-            port: *port,
-        })),
+        Query::Port { ns, pod, port } => Ok(Some(key_of_port(ns, pod, *port)?)),
+        Query::PortRows { ns, pod, port } => Ok(Some(key_of_port(ns, pod, *port)?)),
         _ => Ok(None),
     }
+}
+
+fn key_of_port(ns: &Text, pod: &Text, port: u16) -> Result<ServerKey, Memory>
+    ensures { IfOk result (λ key. query_for key ≡ Port ns.now pod.now port) }
+{
+    Ok(ServerKey {
+        ns: ns.copy()?,
+        pod: pod.copy()?,
+        port,
+    })
 }
 
 /// The name of the Server that a port is served by, if it is by one.

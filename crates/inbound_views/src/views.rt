@@ -189,7 +189,7 @@ impl QueryViews for InboundViews {
 
     fn keeps(query: &Query) -> bool {
         match query {
-            Query::Port { .. } => true,
+            Query::Port { .. } | Query::PortRows { .. } => true,
             _ => false,
         }
     }

@@ -76,6 +76,12 @@ module _ (a b c : ℕ → Option Query) (x y z : ℕ → Option Query) {P Q R X 
     ports_apart = λ n query is. third n ∙ old.ports_apart n query (sym (second n) ∙ is);
   }
 
+-- an id that is open in no part is set in that of ports
+pub set_port : (a b c later : ℕ → Option Query) {P Q R Y : Type 0} → PartsStand P Q R a b c → Y → (id : ℕ) (q : Option Query) → first_of (a id) (b id) (c id) ≡ None → SetsAt id q b later → PartsStand P Y R a later c
+set_port a b c later old ports id q free sets =
+    set_parts a b c a later c old old.profiles ports old.outbound id None q None (λ query is. absurd (cc is)) (λ query is. refl)
+    (unset id a (none_first (a id) _ free)) sets (unset id c (none_second (b id) (c id) (none_second (a id) _ free)))
+
 -- ---- what is shown
 
 module _ (config : Config) (held : ObjectMap) where

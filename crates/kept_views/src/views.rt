@@ -74,8 +74,8 @@ impl QueryViews for KeptViews {
 
     fn keeps(query: &Query) -> bool {
         match query {
-            Query::Profile { .. } | Query::Port { .. } | Query::Traffic { .. } => true,
             Query::Get { .. } => false,
+            _ => true,
         }
     }
 
@@ -89,6 +89,7 @@ impl QueryViews for KeptViews {
         match query {
             Query::Profile { .. } => self.profiles.open(store, id, query, steps),
             Query::Port { .. } => self.ports.open(store, id, query, steps),
+            Query::PortRows { .. } => self.ports.open(store, id, query, steps),
             Query::Traffic { .. } => self.outbound.open(store, id, query, steps),
             Query::Get { .. } => Ok(()),
         }

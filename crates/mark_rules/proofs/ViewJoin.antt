@@ -81,3 +81,4 @@ views_are_joined config held at_keys lawful (query.Get ns name port ctx) = refl
 views_are_joined config held at_keys lawful (query.Profile target ctx) = refl
 views_are_joined config held at_keys lawful (query.Port ns pod port) = ap view.Server (pod_joined config held at_keys lawful ns port (pod_held held (Some (ns, pod))))
 views_are_joined config held at_keys lawful (query.Traffic target) = refl
+views_are_joined config held at_keys lawful (query.PortRows ns pod port) = ap view.ServerRows (pod_joined config held at_keys lawful ns port (pod_held held (Some (ns, pod))))

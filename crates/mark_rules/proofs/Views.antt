@@ -16,7 +16,7 @@ use Rattle.mark_rules.specs.Changes.{Leads}
 use Rattle.mark_rules.specs.Laws.{QueriesAskByRows, QueriesStay, ViewsStay}
 use Rattle.mark_rules.specs.Marks.{has_mark, meets}
 use Rattle.mark_rules.specs.Reads.{authz_reads, endpoint_reads, outbound_reads, profile_reads, query_reads, reads, route_reads, server_reads}
-use Rattle.mark_rules.specs.Rows.{ServerPart, authz_behind, authz_row, join_inbound, view_of_rows, key_of_row, keys_behind, name_in, routes_behind, row_joined, rows, server_part, server_routes, with_authz}
+use Rattle.mark_rules.specs.Rows.{ServerPart, authz_behind, authz_row, join_inbound, view_of_rows, key_of_row, keys_behind, name_in, port_rows, routes_behind, row_joined, rows, server_joined, server_part, server_routes, with_authz}
 use Rattle.mark_rules.specs.declared.keys.EndpointKey.{EndpointKey}
 use Rattle.mark_rules.specs.declared.keys.ProfileKey.{ProfileKey}
 use Rattle.mark_rules.specs.declared.keys.RouteKey.{RouteKey}
@@ -108,14 +108,21 @@ module _ {changed : List Mark} {before after : ObjectMap} (leads : Leads changed
   only_left : (marks : List Mark) → meets (marks ++ []) changed ≡ false → meets marks changed ≡ false
   only_left marks misses = misses_left changed marks [] misses
 
+  port_rows_stay : (key : ServerKey) → meets (query_reads config before (query.Port key.ns key.pod key.port)) changed ≡ false → port_rows config after key ≡ port_rows config before key
+  port_rows_stay key misses =
+      ap (λ keys. row.Server key ∷ keys)
+      (ap (λ part. keys_behind (server_routes after) key.ns (name_in part)) (its_part key misses) ∙ keys_stay key.ns (name_in (server_part config before key)) (of_behind key misses))
+
+  server_stays : (key : ServerKey) → meets (query_reads config before (query.Port key.ns key.pod key.port)) changed ≡ false → server_joined config after key ≡ server_joined config before key
+  server_stays key misses =
+      ap (join_inbound (server_routes after) (authz_row config after) key.ns) (its_part key misses) ∙ part_joined key.ns (server_part config before key) (of_behind key misses)
+
   rows_stay : (q : Query) → meets (query_reads config before q) changed ≡ false → rows config after q ≡ rows config before q
   rows_stay (query.Get ns name port ctx) misses = refl
   rows_stay (query.Profile target ctx) misses = refl
-  rows_stay (query.Port ns pod port) misses =
-      let key : ServerKey = record { ns = ns; pod = pod; port = port } in
-      ap (λ keys. row.Server key ∷ keys)
-      (ap (λ part. keys_behind (server_routes after) ns (name_in part)) (its_part key misses) ∙ keys_stay ns (name_in (server_part config before key)) (of_behind key misses))
+  rows_stay (query.Port ns pod port) misses = port_rows_stay (record { ns = ns; pod = pod; port = port }) misses
   rows_stay (query.Traffic target) misses = refl
+  rows_stay (query.PortRows ns pod port) misses = port_rows_stay (record { ns = ns; pod = pod; port = port }) misses
 
   joined_stays : (q : Query) → meets (query_reads config before q) changed ≡ false → view_of_rows config after q ≡ view_of_rows config before q
   joined_stays (query.Get ns name port ctx) misses =
@@ -124,12 +131,9 @@ module _ {changed : List Mark} {before after : ObjectMap} (leads : Leads changed
   joined_stays (query.Profile target ctx) misses =
       let key : ProfileKey = record { target = target; client = ctx.ns } in
       ap view.Profile (profiles_stay config key changed before after leads (only_left (profile_reads config before key) misses)).0
-  joined_stays (query.Port ns pod port) misses =
-      let key : ServerKey = record { ns = ns; pod = pod; port = port } in
-      ap view.Server
-      (ap (join_inbound (server_routes after) (authz_row config after) ns) (its_part key misses)
-      ∙ part_joined ns (server_part config before key) (of_behind key misses))
+  joined_stays (query.Port ns pod port) misses = ap view.Server (server_stays (record { ns = ns; pod = pod; port = port }) misses)
   joined_stays (query.Traffic target) misses = ap view.Outbound (outbound_stays config target changed before after leads (only_left (outbound_reads before target) misses)).0
+  joined_stays (query.PortRows ns pod port) misses = ap view.ServerRows (server_stays (record { ns = ns; pod = pod; port = port }) misses)
 
 pub queries_stay : QueriesStay
 queries_stay config q changed before after leads misses = (

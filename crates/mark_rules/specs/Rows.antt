@@ -132,13 +132,16 @@ abbrev pub join_inbound : (RouteKey → List RouteRow) → (ObjKey → List Auth
 join_inbound routes authz ns None = Absent
 join_inbound routes authz ns (Some part) = Present (row_joined part (authz_behind authz ns part.2) (map (with_authz authz ns) (routes_behind routes ns part.2)))
 
+abbrev pub server_joined : Config → ObjectMap → ServerKey → ServerView
+server_joined config held key = join_inbound (server_routes held) (authz_row config held) key.ns (server_part config held key)
+
 -- the view of a query, joined from its rows
 abbrev pub view_of_rows : Config → ObjectMap → Query → View
 view_of_rows config held (query.Get ns name port ctx) = view.Endpoints (endpoint_row config held (record { ns = ns; name = name; port = port }))
 view_of_rows config held (query.Profile target ctx) = view.Profile (profile_row config held (record { target = target; client = ctx.ns }))
-view_of_rows config held (query.Port ns pod port) =
-    view.Server (join_inbound (server_routes held) (authz_row config held) ns (server_part config held (record { ns = ns; pod = pod; port = port })))
+view_of_rows config held (query.Port ns pod port) = view.Server (server_joined config held (record { ns = ns; pod = pod; port = port }))
 view_of_rows config held (query.Traffic target) = view.Outbound (outbound_row config held target)
+view_of_rows config held (query.PortRows ns pod port) = view.ServerRows (server_joined config held (record { ns = ns; pod = pod; port = port }))
 
 -- ---- the rows of a view
 
@@ -154,11 +157,13 @@ keys_behind routes ns (Some server) =
     ∷ row.Authz (server_key ns server)
     ∷ map (λ route. row.Authz (key_of_row ns route)) (routes (record { ns = ns; server = server }))
 
+abbrev pub port_rows : Config → ObjectMap → ServerKey → List RowKey
+port_rows config held key = row.Server key ∷ keys_behind (server_routes held) key.ns (name_in (server_part config held key))
+
 -- the keys of the rows that the view of a query is joined from
 abbrev pub rows : Config → ObjectMap → Query → List RowKey
 rows config held (query.Get ns name port ctx) = row.Endpoint (record { ns = ns; name = name; port = port }) ∷ []
 rows config held (query.Profile target ctx) = row.Profile (record { target = target; client = ctx.ns }) ∷ []
-rows config held (query.Port ns pod port) =
-    row.Server (record { ns = ns; pod = pod; port = port })
-    ∷ keys_behind (server_routes held) ns (name_in (server_part config held (record { ns = ns; pod = pod; port = port })))
+rows config held (query.Port ns pod port) = port_rows config held (record { ns = ns; pod = pod; port = port })
 rows config held (query.Traffic target) = row.Outbound target ∷ []
+rows config held (query.PortRows ns pod port) = port_rows config held (record { ns = ns; pod = pod; port = port })

@@ -4,7 +4,7 @@ use Rattle.std.specs.Prelude.{option_map}
 use Rattle.std.specs.Option.{is_some, option_copied}
 use Rattle.mesh_base.specs.declared.sub_id.SubId.{SubId}
 use Rattle.view_types.specs.declared.query.Query.{Query}
-use Rattle.view_types.specs.declared.query.Query.TheVariants.{Get, Profile, Port, Traffic}
+use Rattle.view_types.specs.declared.query.Query.TheVariants.{Get, Profile, Port, Traffic, PortRows}
 use Rattle.std.proofs.lemmas.Bool.Decides.{eqb_tells}
 use Rattle.std.proofs.lemmas.List.{length-map}
 use Rattle.view_types.specs.declared.endpoint.EndpointView.{EndpointView}
@@ -128,6 +128,7 @@ are_covered (Get ns name port ctx) = refl
 are_covered (Profile target ctx) = refl
 are_covered (Port ns pod port) = refl
 are_covered (Traffic target) = refl
+are_covered (PortRows ns pod port) = refl
 
 -- ---- who is due
 

@@ -38,6 +38,7 @@ use subscriptions::live::Subscription;
 use subscriptions::queries::asks_for_endpoints;
 use subscriptions::subscribers::Subscribers;
 use view_diff::views::batch;
+use view_rules::laws::views_are_orderly;
 use view_types::config::Config;
 use view_types::message::Message;
 use view_types::query::Query;
@@ -398,6 +399,7 @@ impl Hub {
             (sub_at id.0 self.now.subscribers.live.subs)) }
         ensures orderly { IfOk result (λ view. IsOrderlyIfShown (Some view)) }
     {
+        views_are_orderly();
         let _held = self.store.get();
         match self.subscribers.view(id)? {
             Some(view) => Ok(view),

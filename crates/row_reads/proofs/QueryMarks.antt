@@ -19,7 +19,7 @@ use Rattle.view_rules.proofs.Among.{Among, among_from, contained}
 use Rattle.mark_rules.specs.MarkLookups.{keys_at}
 use Rattle.mark_rules.specs.Marks.{has_mark, same_mark}
 use Rattle.mark_rules.specs.Reads.{authz_reads, endpoint_reads, outbound_reads, profile_reads, query_reads, reads, server_reads}
-use Rattle.mark_rules.specs.Rows.{bare_route, key_of_row, keys_behind, name_in, server_part, server_routes}
+use Rattle.mark_rules.specs.Rows.{bare_route, key_of_row, keys_behind, name_in, port_rows, server_part, server_routes}
 use Rattle.mark_rules.specs.declared.keys.RowKey.{RowKey}
 use Rattle.mark_rules.specs.declared.keys.RowKey.TheVariants as row
 use Rattle.mark_rules.specs.declared.keys.ServerKey.{ServerKey}
@@ -88,14 +88,18 @@ module _ (config : Config) (held : ObjectMap) (at_keys : AtKeys held) (lawful : 
 
   -- ---- queries
 
+  same_port : (key : ServerKey) (first : List Mark) → has_mark first mark ≡ has_mark (server_reads key) mark
+      → has_mark (first ++ behind_row config held (row.Server key)) mark ≡ has_mark (flat_map (reads config held) (port_rows config held key)) mark
+  same_port key first is =
+      let name = name_in (server_part config held key) in
+      both_same first (server_reads key) (behind_name held key.ns name) (flat_map (reads config held) (keys_behind (server_routes held) key.ns name)) is (same_behind key.ns name)
+
   same_rows : (q : Query) (first : List Mark) → has_mark first mark ≡ has_mark (reads config held (first_row q)) mark → has_mark (first ++ behind_row config held (first_row q)) mark ≡ has_mark (query_reads config held q) mark
   same_rows (query.Get ns name port ctx) first is = both_same first (endpoint_reads held (record { ns = ns; name = name; port = port })) [] [] is refl
   same_rows (query.Profile target ctx) first is = both_same first (profile_reads config held (record { target = target; client = ctx.ns })) [] [] is refl
-  same_rows (query.Port ns pod port) first is =
-      let key : ServerKey = record { ns = ns; pod = pod; port = port } in
-      let name = name_in (server_part config held key) in
-      both_same first (server_reads key) (behind_name held ns name) (flat_map (reads config held) (keys_behind (server_routes held) ns name)) is (same_behind ns name)
+  same_rows (query.Port ns pod port) first is = same_port (record { ns = ns; pod = pod; port = port }) first is
   same_rows (query.Traffic target) first is = both_same first (outbound_reads held target) [] [] is refl
+  same_rows (query.PortRows ns pod port) first is = same_port (record { ns = ns; pod = pod; port = port }) first is
 
 pub same_query : (config : Config) (held : ObjectMap) → AtKeys held → AreLawful held → (q : Query) (key : RowKey) (first marks : List Mark)
     → key ≡ first_row q → HaveSame first (reads config held key) → marks ≡ first ++ behind_row config held key → HaveSame marks (query_reads config held q)

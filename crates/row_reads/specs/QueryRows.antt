@@ -17,11 +17,15 @@ use Rattle.row_reads.specs.References.{authz_at}
 
 -- ---- the first row
 
+abbrev pub port_row : List ℕ → List ℕ → ℕ → RowKey
+port_row ns pod port = row.Server (record { ns = ns; pod = pod; port = port })
+
 abbrev pub first_row : Query → RowKey
 first_row (query.Get ns name port ctx) = row.Endpoint (record { ns = ns; name = name; port = port })
 first_row (query.Profile target ctx) = row.Profile (record { target = target; client = ctx.ns })
-first_row (query.Port ns pod port) = row.Server (record { ns = ns; pod = pod; port = port })
+first_row (query.Port ns pod port) = port_row ns pod port
 first_row (query.Traffic target) = row.Outbound target
+first_row (query.PortRows ns pod port) = port_row ns pod port
 
 -- ---- the rows behind it
 

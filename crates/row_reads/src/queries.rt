@@ -5,7 +5,7 @@ ghost use Rattle.view_rules.specs.PodRows.{pod_held};
 ghost use Rattle.view_rules.specs.PolicyLaws.{AreLawful, server_key};
 ghost use Rattle.mark_rules.specs.Reads.{query_reads};
 ghost use Rattle.mark_rules.specs.Rows.{name_in, server_part};
-ghost use Rattle.row_reads.specs.QueryRows.{authz_from, behind_name, behind_row, behind_server, first_row};
+ghost use Rattle.row_reads.specs.QueryRows.{authz_from, behind_name, behind_row, behind_server, first_row, port_row};
 ghost use Rattle.row_reads.specs.References.{HaveSame};
 
 use crate::at_mark::Reader;
@@ -164,6 +164,16 @@ fn server_key(ns: &Text, name: &Text) -> Result<ObjKey, Memory>
     })
 }
 
+fn port_row(ns: &Text, pod: &Text, port: u16) -> Result<RowKey, Memory>
+    ensures { IfOk result (λ row. row ≡ port_row ns.now pod.now port) }
+{
+    Ok(RowKey::Server(ServerKey {
+        ns: ns.copy()?,
+        pod: pod.copy()?,
+        port,
+    }))
+}
+
 // The first row of a query, which is the only one unless the query is of a port.
 fn first_row(alloc: Global, query: &Query) -> Result<RowKey, Memory>
     ensures { IfOk result (λ row. row ≡ first_row query.now) }
@@ -178,11 +188,8 @@ fn first_row(alloc: Global, query: &Query) -> Result<RowKey, Memory>
             target: target.copy(alloc)?,
             client: ctx.ns.copy(alloc)?,
         })),
-        Query::Port { ns, pod, port } => Ok(RowKey::Server(ServerKey {
-            ns: ns.copy()?,
-            pod: pod.copy()?,
-            port: *port,
-        })),
+        Query::Port { ns, pod, port } => port_row(ns, pod, *port),
         Query::Traffic { target } => Ok(RowKey::Outbound(target.copy(alloc)?)),
+        Query::PortRows { ns, pod, port } => port_row(ns, pod, *port),
     }
 }

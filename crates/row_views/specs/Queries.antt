@@ -5,7 +5,7 @@ use Rattle.view_types.specs.declared.config.Config.{Config}
 use Rattle.view_types.specs.declared.mark.Mark.{Mark}
 use Rattle.view_types.specs.declared.query.Query.{Query}
 use Rattle.view_types.specs.declared.view.View.{View}
-use Rattle.view_rules.specs.Views.{view_of}
+use Rattle.view_rules.specs.Views.{as_asked, view_of}
 use Rattle.mark_rules.specs.Marks.{meets}
 use Rattle.mark_rules.specs.Reads.{query_reads}
 use Rattle.mark_rules.specs.Rows.{rows}
@@ -20,10 +20,10 @@ abbrev pub reads_one : Config → ObjectMap → List Mark → Option Query → B
 reads_one config held changed None = false
 reads_one config held changed (Some query) = meets (query_reads config held query) changed
 
--- A query that is kept for another shows what the other does, by the same rows.
+-- A query that is kept for another shows what the other does, told as the other asks, by the same rows.
 abbrev pub ShowsSame : (Query → Option Query) → Type 0
 ShowsSame kept = (query asked : Query) → kept query ≡ Some asked → (config : Config) (held : ObjectMap)
-    → (view_of config held asked ≡ view_of config held query) × (rows config held asked ≡ rows config held query)
+    → (as_asked query (view_of config held asked) ≡ view_of config held query) × (rows config held asked ≡ rows config held query)
 
 -- the rows of a query, if there is one
 abbrev pub rows_at : Config → ObjectMap → Option Query → List RowKey

@@ -3,7 +3,6 @@ ghost use Rattle.std.specs.Prelude.{◌≡◌, ◌≤◌, ◌+◌, ℕ, Option, 
 ghost use Rattle.view_types.specs.Objects.{AtKeys, ObjectMap};
 ghost use Rattle.view_types.specs.declared.config.Config.{Config};
 ghost use Rattle.view_types.specs.declared.query.Query.{Query as TheQuery};
-ghost use Rattle.view_rules.specs.Fold.{IsOrderlyIfShown};
 ghost use Rattle.view_rules.specs.PolicyLaws.{AreLawful};
 ghost use Rattle.mark_graph.specs.RowMarks.{has_row};
 ghost use Rattle.mark_rules.specs.Changes.{Leads};
@@ -82,12 +81,11 @@ pub trait QueryViews: Drop {
             steps.old steps.new) }
         ensures queries { Keeps (query_of self.old) (query_of self.new) };
 
-    /// The view of the query that an id is open with.
+    /// The view of the query that an id is open with. The rows of an inbound view are told whole.
     fn view(&self, id: u64) -> Result<Option<View>, Memory>
-        ensures value { IfOk result (λ view. (config : Config) (held : ObjectMap)
+        ensures { IfOk result (λ view. (config : Config) (held : ObjectMap)
             → AtKeys held → AreLawful held → stands self.now config held
-            → view ≡ view_at config held (query_of self.now id)) }
-        ensures orderly { IfOk result IsOrderlyIfShown };
+            → view ≡ view_at config held (query_of self.now id)) };
 
     /// What is kept of a query tells its view, and what it reads.
     ghost same: { ShowsSame kept_query };

@@ -9,7 +9,7 @@ use Rattle.view_types.specs.declared.config.Config.{Config}
 use Rattle.view_types.specs.declared.endpoint.EndpointView.{EndpointView}
 use Rattle.view_types.specs.declared.mark.Mark.{Mark}
 use Rattle.view_types.specs.declared.query.Query.{Query}
-use Rattle.view_types.specs.declared.query.Query.TheVariants.{Get, Profile, Port, Traffic}
+use Rattle.view_types.specs.declared.query.Query.TheVariants.{Get, Profile, Port, Traffic, PortRows}
 use Rattle.mark_graph.specs.RowMarks.{has_row}
 use Rattle.mark_rules.specs.Laws.{EndpointsStay}
 use Rattle.mark_rules.specs.Marks.{meets}
@@ -44,6 +44,7 @@ streamed_reads config held (Get ns name port ctx) key is =
 streamed_reads config held (Profile target ctx) key is = absurd (cc is)
 streamed_reads config held (Port ns pod port) key is = absurd (cc is)
 streamed_reads config held (Traffic target) key is = absurd (cc is)
+streamed_reads config held (PortRows ns pod port) key is = absurd (cc is)
 
 module _ (kept_query : Query → Option Query) (covers : Covers kept_query) (same : ShowsSame kept_query) (config : Config) (before : ObjectMap) (changed : List Mark) where
   -- a query has a view that is kept or a stream, and each of these reads what the query does

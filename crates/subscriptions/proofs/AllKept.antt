@@ -8,7 +8,7 @@ use Rattle.view_types.specs.Objects.{ObjectMap}
 use Rattle.view_types.specs.declared.config.Config.{Config}
 use Rattle.view_types.specs.declared.query.Query.{Query}
 use Rattle.view_types.specs.declared.view.View.{View}
-use Rattle.view_rules.specs.Views.{view_of}
+use Rattle.view_rules.specs.Views.{as_asked, view_of}
 use Rattle.mark_rules.specs.declared.keys.EndpointKey.{EndpointKey}
 use Rattle.row_views.specs.Ids.{Keeps, SetsAt}
 use Rattle.row_views.specs.Queries.{ShowsSame, view_at}
@@ -39,13 +39,13 @@ module _ (kept_query : Query → Option Query) where
     pub still_kept : new.subs ≡ old.subs → Keeps queries then → AreKept kept_query then new
     still_kept same keeps n = keeps n ∙ kept n ∙ ap (kept_at kept_query n) (sym same)
 
-  -- ---- the view that is kept of a query is its own
+  -- ---- the view that is kept of a query, told as it asks, is its own
 
   module _ (covers : Covers kept_query) (same : ShowsSame kept_query) (config : Config) (held : ObjectMap) where
-    pub kept_view : (query : Query) → endpoint_key query ≡ None → view_at config held (kept_query query) ≡ Some (view_of config held query)
+    pub kept_view : (query : Query) → endpoint_key query ≡ None → option_map (as_asked query) (view_at config held (kept_query query)) ≡ Some (view_of config held query)
     kept_view query other = by (kept_query query) refl
       where
-        by : (kept : Option Query) → kept_query query ≡ kept → view_at config held kept ≡ Some (view_of config held query)
+        by : (kept : Option Query) → kept_query query ≡ kept → option_map (as_asked query) (view_at config held kept) ≡ Some (view_of config held query)
         by None is = absurd (cc (sym (ap is_some is) ∙ kept_where kept_query covers query other))
         by (Some asked) is = ap Some (same query asked is config held).0
 

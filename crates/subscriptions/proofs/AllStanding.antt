@@ -9,7 +9,7 @@ use Rattle.view_types.specs.Objects.{ObjectMap}
 use Rattle.view_types.specs.declared.config.Config.{Config}
 use Rattle.view_types.specs.declared.endpoint.EndpointView.{EndpointView}
 use Rattle.view_types.specs.declared.query.Query.{Query}
-use Rattle.view_types.specs.declared.query.Query.TheVariants.{Get, Profile, Port, Traffic}
+use Rattle.view_types.specs.declared.query.Query.TheVariants.{Get, Profile, Port, Traffic, PortRows}
 use Rattle.view_types.specs.declared.view.View.{View}
 use Rattle.view_types.specs.declared.view.View.TheVariants.{Endpoints}
 use Rattle.view_rules.specs.Batch.{batch}
@@ -128,6 +128,7 @@ module _ (config : Config) (held : ObjectMap) where
   frames_by_query limits (Profile target ctx) shown own some = absurd (cc some)
   frames_by_query limits (Port ns pod port) shown own some = absurd (cc some)
   frames_by_query limits (Traffic target) shown own some = absurd (cc some)
+  frames_by_query limits (PortRows ns pod port) shown own some = absurd (cc some)
 
   -- the view of a query of endpoints
   view_is : (q : Query) (key : EndpointKey) → endpoint_key q ≡ Some key → Endpoints (endpoint_row config held key) ≡ view_of config held q
@@ -135,6 +136,7 @@ module _ (config : Config) (held : ObjectMap) where
   view_is (Profile target ctx) key is = absurd (cc is)
   view_is (Port ns pod port) key is = absurd (cc is)
   view_is (Traffic target) key is = absurd (cc is)
+  view_is (PortRows ns pod port) key is = absurd (cc is)
 
   module _ (keys : Keys) (shown : Shown) (all : Roster) (st : AreStreamed config held keys shown all) (id : ℕ) (asks : is_some (key_at id all.subs) ≡ true) (sub : LiveSubscription)
       (found : sub_at id (subs_of shown all.subs) ≡ Some sub) where

@@ -10,15 +10,16 @@ use Rattle.view_types.specs.Objects.{ObjectMap}
 use Rattle.view_types.specs.declared.config.Config.{Config}
 use Rattle.view_types.specs.declared.mark.Mark.{Mark}
 use Rattle.view_types.specs.declared.query.Query.{Query}
-use Rattle.view_types.specs.declared.query.Query.TheVariants.{Get, Profile, Port, Traffic}
+use Rattle.view_types.specs.declared.query.Query.TheVariants.{Get, Profile, Port, Traffic, PortRows}
 use Rattle.view_types.specs.declared.server_view.RouteRow.{RouteRow}
 use Rattle.view_rules.proofs.Among.{Among, among_from, from_map}
 use Rattle.mark_rules.specs.Reads.{cost, reads}
-use Rattle.mark_rules.specs.Rows.{key_of_row, keys_behind, name_in, rows, server_part, server_routes}
+use Rattle.mark_rules.specs.Rows.{key_of_row, keys_behind, name_in, port_rows, rows, server_part, server_routes}
 use Rattle.mark_rules.specs.declared.keys.EndpointKey.{EndpointKey}
 use Rattle.mark_rules.specs.declared.keys.RouteKey.{RouteKey}
 use Rattle.mark_rules.specs.declared.keys.RowKey.{RowKey}
 use Rattle.mark_rules.specs.declared.keys.RowKey.TheVariants as row
+use Rattle.mark_rules.specs.declared.keys.ServerKey.{ServerKey}
 use Rattle.endpoint_streams.specs.Streams.{query_for}
 use Rattle.row_views.specs.Costs.{FollowedRows, FollowsWithin, cost_of, open_cost}
 use Rattle.row_views.specs.Queries.{ShowsSame, rows_at}
@@ -53,6 +54,7 @@ module _ (kept : Query → Option Query) (covers : Covers kept) (same : ShowsSam
   all_costs (Profile target ctx) held = let all = kept_costs (Profile target ctx) (covers (Profile target ctx)) held in omega (arith, all)
   all_costs (Port ns pod port) held = let all = kept_costs (Port ns pod port) (covers (Port ns pod port)) held in omega (arith, all)
   all_costs (Traffic target) held = let all = kept_costs (Traffic target) (covers (Traffic target)) held in omega (arith, all)
+  all_costs (PortRows ns pod port) held = let all = kept_costs (PortRows ns pod port) (covers (PortRows ns pod port)) held in omega (arith, all)
 
   -- ---- subscriptions follow a change
 
@@ -73,15 +75,19 @@ module _ (kept : Query → Option Query) (covers : Covers kept) (same : ShowsSam
     ]
   ]
 
+  port_viewed : (held : ObjectMap) (port : ServerKey) (key : RowKey) → Among key (port_rows config held port) → is_viewed key ≡ true
+  port_viewed held port key at = elim at [
+    | inl is ↦ ap is_viewed (sym is)
+    | inr rest ↦ all_viewed (server_routes held) port.ns (name_in (server_part config held port)) key rest
+  ]
+
   -- the rows of a query that asks for no endpoints
   viewed_rows : (held : ObjectMap) (query : Query) (key : RowKey) → endpoint_key query ≡ None → Among key (rows config held query) → is_viewed key ≡ true
   viewed_rows held (Get ns name port ctx) key other at = absurd (cc other)
   viewed_rows held (Profile target ctx) key other at = elim at [ inl is ↦ ap is_viewed (sym is) | inr none ↦ absurd none ]
-  viewed_rows held (Port ns pod port) key other at = elim at [
-    | inl is ↦ ap is_viewed (sym is)
-    | inr rest ↦ all_viewed (server_routes held) ns (name_in (server_part config held (record { ns = ns; pod = pod; port = port }))) key rest
-  ]
+  viewed_rows held (Port ns pod port) key other at = port_viewed held (record { ns = ns; pod = pod; port = port }) key at
   viewed_rows held (Traffic target) key other at = elim at [ inl is ↦ ap is_viewed (sym is) | inr none ↦ absurd none ]
+  viewed_rows held (PortRows ns pod port) key other at = port_viewed held (record { ns = ns; pod = pod; port = port }) key at
 
   -- the query that is kept for one, and the one of its stream
   abbrev pub viewed_of : Option Query → Option Query
@@ -95,6 +101,7 @@ module _ (kept : Query → Option Query) (covers : Covers kept) (same : ShowsSam
   no_key (Profile target ctx) is = refl
   no_key (Port ns pod port) is = refl
   no_key (Traffic target) is = refl
+  no_key (PortRows ns pod port) is = refl
 
   pub of_viewed : (held : ObjectMap) (asked : Option Query) (key : RowKey) → Contains (rows_at config held (viewed_of asked)) key → (is_viewed key ≡ true) × Contains (rows_at config held asked) key
   of_viewed held None key at = absurd (among_from [] key at)
@@ -114,6 +121,7 @@ module _ (kept : Query → Option Query) (covers : Covers kept) (same : ShowsSam
   of_streamed held (Some (Profile target ctx)) key at = absurd (among_from [] key at)
   of_streamed held (Some (Port ns pod port)) key at = absurd (among_from [] key at)
   of_streamed held (Some (Traffic target)) key at = absurd (among_from [] key at)
+  of_streamed held (Some (PortRows ns pod port)) key at = absurd (among_from [] key at)
 
   of_kept : (held : ObjectMap) (query : Query) (key : RowKey) → is_some (kept query) ≡ true → Contains (rows config held query) key → Contains (rows_at config held (kept query)) key
   of_kept held query key is at = by (kept query) refl is
@@ -128,6 +136,7 @@ module _ (kept : Query → Option Query) (covers : Covers kept) (same : ShowsSam
   of_both held (Some (Profile target ctx)) key at = inl (of_kept held (Profile target ctx) key (covers (Profile target ctx)) at)
   of_both held (Some (Port ns pod port)) key at = inl (of_kept held (Port ns pod port) key (covers (Port ns pod port)) at)
   of_both held (Some (Traffic target)) key at = inl (of_kept held (Traffic target) key (covers (Traffic target)) at)
+  of_both held (Some (PortRows ns pod port)) key at = inl (of_kept held (PortRows ns pod port) key (covers (PortRows ns pod port)) at)
 
   pub follows_both : (queries viewed streamed : ℕ → Option Query) → ((id : ℕ) → viewed id ≡ viewed_of (queries id)) → ((id : ℕ) → streamed id ≡ streamed_of (queries id)) → (changed : List Mark) (before after : ObjectMap) (old mid new : ℕ)
       → FollowsWithin config changed before after viewed old mid → FollowsWithin config changed before after streamed mid new → FollowsWithin config changed before after queries old new

@@ -1,10 +1,12 @@
-// The endpoints that a query asks for.
+// What a query asks for.
 ghost use Rattle.std.specs.Prelude.{◌≡◌, IfOk, is_some};
+ghost use Rattle.view_rules.specs.Views.{as_asked};
 ghost use Rattle.subscriptions.specs.Live.{endpoint_key};
 
 use mark_rules::keys::EndpointKey;
 use mesh_base::memory::Memory;
 use view_types::query::Query;
+use view_types::view::View;
 
 /// The key of the endpoints that a query asks for, if it asks for endpoints.
 pub fn endpoint_key(query: &Query) -> Result<Option<EndpointKey>, Memory>
@@ -27,5 +29,15 @@ pub fn asks_for_endpoints(query: &Query) -> bool
     match query {
         Query::Get { .. } => true,
         _ => false,
+    }
+}
+
+/// A view that is kept, told as its query asks.
+pub fn as_asked(query: &Query, view: View) -> View
+    ensures { result ≡ as_asked query.now view }
+{
+    match query {
+        Query::PortRows { .. } => view.by_rows(),
+        _ => view,
     }
 }

@@ -1,5 +1,5 @@
 // The live subscriptions, with the streams of those that ask for endpoints, and the views of the others.
-ghost use Rattle.std.specs.Prelude.{◌≡◌, ◌≤◌, ◌+◌, ◌&&◌, ◌||◌, ◌++◌, ◌∷◌, [], ℕ, nat_eq, not, true, None, IfOk, OnErr, OnOk, is_some, length, Some};
+ghost use Rattle.std.specs.Prelude.{◌≡◌, ◌≤◌, ◌+◌, ◌&&◌, ◌||◌, ◌++◌, ◌∷◌, [], ℕ, nat_eq, not, true, None, IfOk, OnErr, OnOk, is_some, length, option_map, Some};
 ghost use Rattle.std.specs.Option.{option_copied};
 ghost use Rattle.mesh_base.specs.declared.limits.Limits.{Limits};
 ghost use Rattle.view_types.specs.Objects.{AtKeys, ObjectMap};
@@ -8,7 +8,7 @@ ghost use Rattle.view_types.specs.declared.query.Query.{Query as TheQuery};
 ghost use Rattle.view_rules.specs.Batch.{batch};
 ghost use Rattle.view_rules.specs.Fold.{IsOrderlyIfShown};
 ghost use Rattle.view_rules.specs.PolicyLaws.{AreLawful};
-ghost use Rattle.view_rules.specs.Views.{view_of};
+ghost use Rattle.view_rules.specs.Views.{as_asked, view_of};
 ghost use Rattle.feed_history.specs.Drains.{IsOrMemory, frames_within};
 ghost use Rattle.feed_history.specs.Ids.{ended, in_place};
 ghost use Rattle.watch_events.specs.declared.event.Event.{Event};
@@ -16,6 +16,7 @@ ghost use Rattle.mark_rules.specs.Rows.{rows};
 ghost use Rattle.row_views.specs.Costs.{FollowsWithin, cost_of};
 ghost use Rattle.row_views.specs.Ids.{Keeps, SetsAt};
 ghost use Rattle.row_views.specs.InUse.{AreInUse};
+ghost use Rattle.row_views.specs.Queries.{view_at};
 ghost use Rattle.subscriptions.specs.Costs.{stream_cost};
 ghost use Rattle.subscriptions.specs.DueIds.{Rises, is_among};
 ghost use Rattle.subscriptions.specs.Live.{AreBelow, Covers, LiveSubscription, endpoint_key, id_of, key_at, query_at, shown_in_place, sub_at, subs_of};
@@ -23,7 +24,7 @@ ghost use Rattle.subscriptions.specs.Standing.{AllFollow, AllStand, IsAfter, IsS
 
 use crate::boxed_view::BoxedView;
 use crate::live::Subscription;
-use crate::queries::endpoint_key;
+use crate::queries::{as_asked, endpoint_key};
 use crate::roster::Roster;
 use bytes::Bytes;
 use endpoint_streams::streams::EndpointStreams;
@@ -171,15 +172,30 @@ impl<E: EndpointStreams, V: QueryViews> Subscribers<E, V> {
 
     /// The view of the query under the id, if it is kept. It is a copy.
     pub fn view(&self, id: SubId) -> Result<Option<View>, Memory>
-        ensures value { IfOk result (λ view. (config : Config) (limits : Limits)
+        ensures { IfOk result (λ view. (config : Config) (limits : Limits)
             (held : ObjectMap) → AtKeys held → AreLawful held → Covers V.kept_query
             → AllStand E.key_of E.shown_to E.stands V.kept_query V.query_of V.stands
             config limits held self.now
             → (query : TheQuery) → query_at id.0 self.now.live.subs ≡ Some query
             → endpoint_key query ≡ None → view ≡ Some (view_of config held query)) }
-        ensures orderly { IfOk result IsOrderlyIfShown }
     {
-        self.views.view(id.0 as u64)
+        match self.live.get(id) {
+            Some(sub) => self.view_asked(id.0 as u64, &sub.query),
+            None => Ok(None),
+        }
+    }
+
+    // The view that is kept for an id, told as the query asks.
+    fn view_asked(&self, id: u64, query: &Query) -> Result<Option<View>, Memory>
+        ensures { IfOk result (λ view. (config : Config) (held : ObjectMap) → AtKeys held
+            → AreLawful held → V.stands self.now.views config held
+            → view ≡ option_map (as_asked query.now)
+            (view_at config held (V.query_of self.now.views id))) }
+    {
+        match self.views.view(id)? {
+            Some(view) => Ok(Some(as_asked(query, view))),
+            None => Ok(None),
+        }
     }
 
     /// The view of a query that nobody subscribed to, if it is kept. It is kept for this call only.
@@ -197,7 +213,6 @@ impl<E: EndpointStreams, V: QueryViews> Subscribers<E, V> {
             config limits store.now.objects self.old
             → endpoint_key query.now ≡ None
             → view ≡ Some (view_of config store.now.objects query.now)) }
-        ensures orderly { IfOk result IsOrderlyIfShown }
         ensures steps { (config : Config) (limits : Limits) → Covers V.kept_query
             → AllStand E.key_of E.shown_to E.stands V.kept_query V.query_of V.stands
             config limits store.now.objects self.old → steps.new ≤ steps.old
@@ -212,7 +227,7 @@ impl<E: EndpointStreams, V: QueryViews> Subscribers<E, V> {
             config limits store.now.objects self.new) }
     {
         self.views.open(store, PEEK_ID, query, steps)?;
-        let view = self.views.view(PEEK_ID);
+        let view = self.view_asked(PEEK_ID, query);
         self.views.close(PEEK_ID);
         view
     }

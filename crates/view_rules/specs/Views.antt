@@ -1,6 +1,7 @@
 -- What a subscriber of a query is to see.
 use Rattle.std.specs.Prelude.{Option, option_map}
 use Rattle.view_types.specs.Objects.{ObjectMap}
+use Rattle.view_types.specs.Ports.{by_rows}
 use Rattle.view_types.specs.declared.config.Config.{Config}
 use Rattle.view_types.specs.declared.query.Query.{Query}
 use Rattle.view_types.specs.declared.query.Query.TheVariants.{Get, Profile, Port, Traffic, PortRows}
@@ -18,11 +19,6 @@ view_of config held (Profile target ctx) = TargetProfile (profile config held ta
 view_of config held (Port ns pod port) = Server (inbound config held ns pod port)
 view_of config held (Traffic target) = Outbound (outbound config held target)
 view_of config held (PortRows ns pod port) = ServerRows (inbound config held ns pod port)
-
--- an inbound view, told by rows
-abbrev pub by_rows : View → View
-by_rows (Server view) = ServerRows view
-by_rows view = view
 
 -- the view of a query, from that of a query for the same rows: an inbound view is told by rows where it is asked for so
 abbrev pub as_asked : Query → View → View

@@ -31,6 +31,7 @@ pub fn scratch<L>(
         config,
         store,
     };
+    store.stand_at_keys();
     match query {
         Query::Get { ns, name, port, .. } => {
             let view = endpoints(&from, ns, name, *port, steps)?;
@@ -47,6 +48,10 @@ pub fn scratch<L>(
         Query::Traffic { target } => {
             let view = outbound(&from, target, steps)?;
             Ok(View::Outbound(view))
+        }
+        Query::PortRows { ns, pod, port } => {
+            let view = inbound(&from, ns, pod, *port, steps)?;
+            Ok(View::ServerRows(view))
         }
     }
 }

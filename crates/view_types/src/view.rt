@@ -1,4 +1,5 @@
 ghost use Rattle.std.specs.Prelude.{◌≡◌, ◌↔◌, IfOk, IsTrue};
+ghost use Rattle.view_types.specs.Ports.{by_rows};
 
 use crate::endpoint::EndpointView;
 use crate::outbound::{OutboundView, ProfileView};
@@ -17,6 +18,18 @@ pub enum View {
     /// An inbound view whose subscriber is told what changes of the Server's authorizations. These are in the order of
     /// their kinds and names, each once.
     ServerRows(ServerView),
+}
+
+impl View {
+    /// An inbound view, told by its rows; any other stays.
+    pub fn by_rows(self) -> View
+        ensures { result ≡ by_rows self }
+    {
+        match self {
+            View::Server(view) => View::ServerRows(view),
+            view => view,
+        }
+    }
 }
 
 /// Written by hand, as that of `Object`.

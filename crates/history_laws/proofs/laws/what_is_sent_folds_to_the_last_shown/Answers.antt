@@ -1,5 +1,6 @@
+use Rattle.history_laws.proofs.AtKeys.{held_at_keys}
 use Rattle.history_laws.proofs.Deliveries.{folds_to_last_shown}
 use Rattle.history_laws.proofs.laws.what_is_sent_folds_to_the_last_shown.Goals as goal
 
 pub returns : goal.returns
-returns c program = folds_to_last_shown program c.messages_fold.ensures
+returns c program = folds_to_last_shown program (held_at_keys program) c.messages_fold.ensures

@@ -16,8 +16,8 @@ use Rattle.inbound_views.proofs.views.InboundViewsQueryViews.view.Goals as goal
 pub joined-requires : goal.joined-requires
 joined-requires c = sym c.in-Some.ensures
 
-pub returns-in_ok-joined-in-Some-clause-value : goal.returns-in_ok-joined-in-Some-clause-value
-returns-in_ok-joined-in-Some-clause-value c = λ config held at_keys lawful old.
+pub returns-in_ok-joined-in-Some : goal.returns-in_ok-joined-in-Some
+returns-in_ok-joined-in-Some c = λ config held at_keys lawful old.
     let self = c.args.self.now in
     let id = c.args.id in
     same_views _ _ old (λ joined.
@@ -25,6 +25,6 @@ returns-in_ok-joined-in-Some-clause-value c = λ config held at_keys lawful old.
     ∙ joined_is self config held id (λ key has. has_where route_cmp route_laws.total-law route_keys_exact self.routes.used.by_key key id (joined.kept.routes.rows.ids key id ∙ has)) (λ key has. has_where key_cmp key_laws.total-law authz_keys_exact self.authz.used.by_key key id (joined.kept.authz.rows.ids key id ∙ has))
     (joined.routes id) (joined.authz id) c.in-Some.key.now (sym c.in-Some.ensures) at_keys lawful)
 
-pub returns-in-None-clause-value : goal.returns-in-None-clause-value
-returns-in-None-clause-value c = λ config held at_keys lawful old.
+pub returns-in-None : goal.returns-in-None
+returns-in-None c = λ config held at_keys lawful old.
     sym (ap (λ (asked : Option ServerKey). view_at config held (option_map query_for asked)) (sym c.in-None.ensures))

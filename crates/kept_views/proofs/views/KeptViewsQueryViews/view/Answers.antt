@@ -6,18 +6,18 @@ use Rattle.row_views.proofs.Standing.{if_then}
 use Rattle.kept_views.proofs.Parts.{shown_first, shown_second}
 use Rattle.kept_views.proofs.views.KeptViewsQueryViews.view.Goals as goal
 
-pub returns-in-Some-2-clause-value : goal.returns-in-Some-2-clause-value
-returns-in-Some-2-clause-value c = λ config held at_keys lawful old.
+pub returns-in-Some-2 : goal.returns-in-Some-2
+returns-in-Some-2 c = λ config held at_keys lawful old.
     let self = c.args.self.now in
     let id = c.args.id in
-    shown_second config held (profile_views.query_of self.profiles id) _ _ (sym c.in-None.is ∙ c.in_ok-view.ensures.value config held at_keys lawful old.profiles)
-    (shown_first config held (port_views.query_of self.ports id) (outbound_views.query_of self.outbound id) c.in-Some-2.view (sym c.in-Some-2.is ∙ c.in_ok-view-in-None.ensures.value config held at_keys lawful old.ports))
+    shown_second config held (profile_views.query_of self.profiles id) _ _ (sym c.in-None.is ∙ c.in_ok-view.ensures config held at_keys lawful old.profiles)
+    (shown_first config held (port_views.query_of self.ports id) (outbound_views.query_of self.outbound id) c.in-Some-2.view (sym c.in-Some-2.is ∙ c.in_ok-view-in-None.ensures config held at_keys lawful old.ports))
 
-pub returns-in-None-2-clause-value : goal.returns-in-None-2-clause-value
-returns-in-None-2-clause-value c =
+pub returns-in-None-2 : goal.returns-in-None-2
+returns-in-None-2 c =
     let self = c.args.self.now in
     let id = c.args.id in
-    if_then c.view-in-None-2.result c.view-in-None-2.ensures.value (λ view is config held at_keys lawful old.
-    shown_second config held (profile_views.query_of self.profiles id) _ view (sym c.in-None.is ∙ c.in_ok-view.ensures.value config held at_keys lawful old.profiles)
-    (shown_second config held (port_views.query_of self.ports id) (outbound_views.query_of self.outbound id) view (sym c.in-None-2.is ∙ c.in_ok-view-in-None.ensures.value config held at_keys lawful old.ports)
+    if_then c.view-in-None-2.result c.view-in-None-2.ensures (λ view is config held at_keys lawful old.
+    shown_second config held (profile_views.query_of self.profiles id) _ view (sym c.in-None.is ∙ c.in_ok-view.ensures config held at_keys lawful old.profiles)
+    (shown_second config held (port_views.query_of self.ports id) (outbound_views.query_of self.outbound id) view (sym c.in-None-2.is ∙ c.in_ok-view-in-None.ensures config held at_keys lawful old.ports)
     (is config held at_keys lawful old.outbound)))

@@ -1,5 +1,8 @@
-use Rattle.std.proofs.Common.{ap, refl, ◌∙◌, arith}
+use Rattle.std.proofs.Common.{Option, ap, refl, ◌∙◌, arith}
 use Rattle.std.proofs.lemmas.Result.{IfOk-weaker}
+use Rattle.std.specs.Prelude.{option_map}
+use Rattle.view_types.specs.declared.query.Query.{Query}
+use Rattle.view_rules.specs.Views.{as_asked}
 use Rattle.row_views.specs.Queries.{view_at}
 use Rattle.row_views.proofs.Standing.{on_any}
 use Rattle.subscriptions.proofs.AllKept.{closed_again, kept_view, opened_at, still_kept}
@@ -10,10 +13,11 @@ pub returns-clause-value : goal.returns-clause-value
 returns-clause-value g c =
     let kept_query = g.V.QueryViews.kept_query in
     let queries = g.V.QueryViews.query_of in
-    IfOk-weaker c.view-view.result _ _ (λ view is config limits at_keys lawful covers all other.
+    IfOk-weaker c.view_asked-view.result _ _ (λ view is config limits at_keys lawful covers all other.
     is config c.args.store.now.objects at_keys lawful (c.in_ok-open.ensures.stands config all.views)
-    ∙ ap (view_at config c.args.store.now.objects) (opened_at (queries c.args.self.now.views) (queries c.open.new.self) 4294967296 (kept_query c.args.query.now) c.in_ok-open.ensures.queries)
-    ∙ kept_view kept_query covers g.met.V.QueryViews.same config c.args.store.now.objects c.args.query.now other) c.view-view.ensures.value
+    ∙ ap (λ (asked : Option Query). option_map (as_asked c.args.query.now) (view_at config c.args.store.now.objects asked))
+    (opened_at (queries c.args.self.now.views) (queries c.open.new.self) 4294967296 (kept_query c.args.query.now) c.in_ok-open.ensures.queries)
+    ∙ kept_view kept_query covers g.met.V.QueryViews.same config c.args.store.now.objects c.args.query.now other) c.view_asked-view.ensures
 
 pub returns-clause-queries : goal.returns-clause-queries
 returns-clause-queries g c =
@@ -22,7 +26,7 @@ returns-clause-queries g c =
     c.requires.unkept c.close.ensures.queries
 
 pub returns-clause-stands : goal.returns-clause-stands
-returns-clause-stands g c = on_any c.view-view.result (λ config limits all. record {
+returns-clause-stands g c = on_any c.view_asked-view.result (λ config limits all. record {
   live = all.live;
   streamed = all.streamed;
   endpoints = all.endpoints;
