@@ -17,7 +17,7 @@ use mesh_text::token::read_context;
 use mesh_text::workload_text::read_workload;
 use std::alloc::Global;
 use view_types::config::Config;
-use view_types::query::{Context, Method, Query, Target};
+use view_types::query::{Context, Method, PodPort, Query, Target};
 
 fn target_at<'a>(
     alloc: Global,
@@ -81,12 +81,12 @@ fn get_of(target: Target, ctx: Context) -> Result<Query, WordsFault>
 }
 
 #[tactic(auto, unfolding(crate::specs::Gives::then, crate::specs::Diagnosed::port_in))]
-fn read_port<'a>(alloc: Global, matches: &ArgMatches<'a>) -> Result<Query, WordsFault>
+fn port_at<'a>(alloc: Global, matches: &ArgMatches<'a>) -> Result<PodPort, WordsFault>
     ensures { Gives result (port_in (rows_in matches.now)) }
 {
     let (ns, pod) = pod_at(alloc, matches)?;
     let port = read_number_at(matches, Argument::Port, 1, 65535)?;
-    Ok(Query::Port {
+    Ok(PodPort {
         ns,
         pod,
         port: port as u16,
@@ -112,9 +112,10 @@ pub(crate) fn read_query<'a>(
             target: target_at(alloc, config, matches)?,
             ctx: context_at(alloc, matches)?,
         }),
-        Method::WatchPort => read_port(alloc, matches),
+        Method::WatchPort => Ok(port_at(alloc, matches)?.whole()),
         Method::Watch => Ok(Query::Traffic {
             target: target_at(alloc, config, matches)?,
         }),
+        Method::WatchPort2 => Ok(port_at(alloc, matches)?.by_rows()),
     }
 }

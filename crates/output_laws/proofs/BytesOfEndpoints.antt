@@ -104,7 +104,7 @@ authn_sound (Clients ids suffixes everyone) good = (
   tt,
 )
 
-kind_sound : (kind : AuthzKind) → AreSound (number_field 1 (authz_number kind))
+pub kind_sound : (kind : AuthzKind) → AreSound (number_field 1 (authz_number kind))
 kind_sound ServerAuthorization = sound_number 1 1 (lit< tt) (lit< tt)
 kind_sound AuthorizationPolicy = sound_number 1 2 (lit< tt) (lit< tt)
 

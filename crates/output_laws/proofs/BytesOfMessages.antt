@@ -1,27 +1,28 @@
 -- What is written of a message that can be sent is in bytes.
 use Rattle.std.proofs.Common.{ℕ, ◌^◌, ◌<◌, Bool, List, [], ◌++◌, lit<}
-use Rattle.proxy_proto.specs.Authorizations.{authz_records}
+use Rattle.proxy_proto.specs.Authorizations.{authz_key_records, authz_records}
 use Rattle.proxy_proto.specs.Endpoints.{row_records}
 use Rattle.proxy_proto.specs.FieldRecords.{bool_field, each_field, number_field, optional_text, text_field, texts_field}
 use Rattle.proxy_proto.specs.Messages.{canonical, message_records, pair_records}
 use Rattle.proxy_proto.specs.Policies.{forward_records, outbound_records, server_records, server_row_records, service_records}
 use Rattle.proxy_proto.specs.Routes.{http_route_records}
-use Rattle.proxy_proto.specs.Sendable.{AreSendableParts, IsInboundRoute, IsOutboundRoute, IsSendable, IsSendableAuthz, IsSendableOutbound, IsSendablePair, IsSendableRow, IsSendableServer, IsSendableServerRow, IsSendableService}
-use Rattle.view_types.specs.Numbers.{policy_number, protocol_number}
+use Rattle.proxy_proto.specs.Sendable.{AreSendableParts, IsInboundRoute, IsOutboundRoute, IsSendable, IsSendableAuthz, IsSendableAuthzKey, IsSendableOutbound, IsSendablePair, IsSendableRow, IsSendableServer, IsSendableServerRow, IsSendableService}
+use Rattle.view_types.specs.Numbers.{authz_number, policy_number, protocol_number}
 use Rattle.view_types.specs.declared.message.Message.{Message}
-use Rattle.view_types.specs.declared.message.Message.TheVariants.{Add, Remove, NoEndpoints, Profile, Server, Outbound}
+use Rattle.view_types.specs.declared.message.Message.TheVariants.{Add, Remove, NoEndpoints, Profile, Server, Outbound, Whole, AuthzPut, AuthzGone}
 use Rattle.view_types.specs.declared.outbound.OutboundView.{OutboundView}
 use Rattle.view_types.specs.declared.outbound.OutboundView.TheVariants as outbound
 use Rattle.view_types.specs.declared.policy.Policy.{Policy}
 use Rattle.view_types.specs.declared.policy.Policy.TheVariants.{AllUnauthenticated, AllAuthenticated, ClusterUnauthenticated, ClusterAuthenticated, Deny, Audit}
 use Rattle.view_types.specs.declared.policy.Protocol.{Protocol}
 use Rattle.view_types.specs.declared.policy.Protocol.TheVariants.{Unknown, Http1, Http2, Grpc, Opaque, Tls}
+use Rattle.view_types.specs.declared.server_view.AuthzKind.{AuthzKind}
 use Rattle.view_types.specs.declared.server_view.RouteRow.{RouteRow}
 use Rattle.view_types.specs.declared.server_view.ServerRow.{ServerRow}
 use Rattle.view_types.specs.declared.server_view.ServerView.{ServerView}
 use Rattle.view_types.specs.declared.server_view.ServerView.TheVariants as server
 use Rattle.output_laws.proofs.Bytes.{AreBytes, AreSound, sound_bool, sound_both, sound_chunk, sound_each, sound_inside, sound_number, sound_some_text, sound_spelling, sound_text, sound_texts}
-use Rattle.output_laws.proofs.BytesOfEndpoints.{address_sound, authz_sound, port_small, row_sound}
+use Rattle.output_laws.proofs.BytesOfEndpoints.{address_sound, authz_sound, kind_sound, port_small, row_sound}
 use Rattle.output_laws.proofs.BytesOfProfiles.{profile_sound}
 use Rattle.output_laws.proofs.BytesOfRoutes.{route_sound}
 
@@ -81,6 +82,10 @@ outbound_sound (outbound.Forward endpoint opaque) good = (
 
 -- ---- messages
 
+authz_key_sound : (key : AuthzKind × List ℕ) → IsSendableAuthzKey key → AreSound (authz_key_records key)
+unfolding authz_key_records
+authz_key_sound key good = sound_both (number_field 1 (authz_number key.0)) (text_field 2 key.1) (kind_sound key.0) (sound_text 2 key.1 (lit< tt) good)
+
 message_sound : (message : Message) → AreSendableParts message → AreSound (message_records message)
 unfolding message_records
 message_sound (Add rows) good = (sound_inside 1 (each_field 1 row_records rows) (lit< tt) (sound_each 1 IsSendableRow row_records (lit< tt) row_sound rows good), tt)
@@ -92,6 +97,9 @@ message_sound (NoEndpoints exists) good = (sound_inside 3 (bool_field 1 exists) 
 message_sound (Profile view) good = profile_sound view good
 message_sound (Server view) good = server_sound view good
 message_sound (Outbound view) good = outbound_sound view good
+message_sound (Whole view) good = (sound_inside 1 (server_records view) (lit< tt) (server_sound view good), tt)
+message_sound (AuthzPut rows) good = (sound_inside 2 (each_field 1 authz_records rows) (lit< tt) (sound_each 1 IsSendableAuthz authz_records (lit< tt) authz_sound rows good), tt)
+message_sound (AuthzGone keys) good = (sound_inside 3 (each_field 1 authz_key_records keys) (lit< tt) (sound_each 1 IsSendableAuthzKey authz_key_records (lit< tt) authz_key_sound keys good), tt)
 
 pub sendable_in_bytes : (message : Message) → IsSendable message → AreBytes (canonical message)
 sendable_in_bytes message good = sound_spelling (message_records message) (message_sound message good.parts) good.short

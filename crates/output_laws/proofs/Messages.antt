@@ -8,22 +8,27 @@ use Rattle.proxy_proto.specs.Messages.{canonical}
 use Rattle.proxy_proto.specs.Sendable.{method_of}
 use Rattle.request_sim.specs.declared.fault.SimFault.{SimFault}
 use Rattle.mesh_base.specs.declared.limits.Limits.{Limits}
-use Rattle.view_rules.specs.Batch.{batch, changed_rows, endpoints_in, gone_pairs, in_pieces, is_news, messages_to, outbound_in, profile_in, rows_before, server_in, whole_batch}
+use Rattle.view_rules.specs.Batch.{authz_before, batch, changed_rows, differ_in_authz, endpoints_in, gone_pairs, in_pieces, is_news, messages_of, messages_to, messages_to_authz, outbound_in, port_batch, port_in, profile_in, rows_before, server_in, whole_batch}
+use Rattle.view_rules.specs.AuthzOrder.{AuthzKey, authz_cmp, authz_key}
+use Rattle.view_rules.specs.ByKey.{changed_from, gone_keys}
 use Rattle.view_rules.specs.Endpoints.{endpoints}
+use Rattle.view_rules.specs.Fold.{authz_of}
 use Rattle.view_rules.specs.Inbound.{inbound}
 use Rattle.view_rules.specs.Outbound.{outbound}
 use Rattle.view_rules.specs.Profiles.{profile}
 use Rattle.view_rules.specs.Same.{same_option, same_profile}
-use Rattle.view_rules.specs.SamePolicies.{same_outbound, same_server}
+use Rattle.view_rules.specs.SamePolicies.{same_authz, same_outbound, same_server}
 use Rattle.view_rules.specs.Views.{view_before, view_of}
 use Rattle.view_types.specs.Objects.{ObjectMap}
 use Rattle.view_types.specs.declared.config.Config.{Config}
 use Rattle.view_types.specs.declared.endpoint.EndpointRow.{EndpointRow}
 use Rattle.view_types.specs.declared.endpoint.EndpointView.{EndpointView}
 use Rattle.view_types.specs.declared.message.Message.{Message}
-use Rattle.view_types.specs.declared.message.Message.TheVariants.{Add, Remove, NoEndpoints, Profile as WholeProfile, Server as WholeServer, Outbound as WholeOutbound}
+use Rattle.view_types.specs.declared.message.Message.TheVariants.{Add, Remove, NoEndpoints, Profile as WholeProfile, Server as WholeServer, Outbound as WholeOutbound, Whole, AuthzPut, AuthzGone}
 use Rattle.view_types.specs.declared.query.Query.{Query}
 use Rattle.view_types.specs.declared.query.Query.TheVariants as queries
+use Rattle.view_types.specs.declared.server_view.AuthzRow.{AuthzRow}
+use Rattle.view_types.specs.declared.server_view.ServerView.{ServerView}
 use Rattle.view_types.specs.declared.view.View.{View}
 use Rattle.watch_events.specs.declared.line.Line.{Line}
 use Rattle.watch_events.specs.declared.line.Line.TheVariants as lines
@@ -103,17 +108,32 @@ whole_answers same message old new P good = if_new (same_option same old (Some n
     if_new true = tt
     if_new false = (good, tt)
 
+-- rows are put by one kind of message, and keys are gone by another
+pieces_answer : {X K : Type 0} (P : Message → Type 0) (put : List X → Message) (gone : List K → Message) → ((rows : List X) → P (put rows)) → ((keys : List K) → P (gone keys))
+    → (size : ℕ) (rows : List X) (keys : List K) → AllByRecursion P (messages_of put gone size rows keys)
+pieces_answer P put gone puts go size rows keys =
+    all_joined P (map put (in_pieces size rows)) (map gone (in_pieces size keys)) (all_made P put puts (in_pieces size rows)) (all_made P gone go (in_pieces size keys))
+
+port_answers : (P : Message → Type 0) → ((view : ServerView) → P (Whole view)) → ((rows : List AuthzRow) → P (AuthzPut rows)) → ((keys : List AuthzKey) → P (AuthzGone keys))
+    → (size : ℕ) (old : Option ServerView) (new : ServerView) → AllByRecursion P (port_batch size old new)
+port_answers P whole put gone size old new = if_authz (differ_in_authz old new)
+  where
+    if_authz : (b : Bool) → AllByRecursion P (if b then messages_to_authz size (authz_before old) (authz_of new) else whole_batch same_server Whole old new)
+    if_authz true = pieces_answer P AuthzPut AuthzGone put gone size (changed_from same_authz (authz_before old) (authz_of new)) (gone_keys authz_cmp authz_key (authz_before old) (authz_of new))
+    if_authz false = whole_answers same_server Whole old new P (whole new)
+
 batch_answers : (config : Config) (held : ObjectMap) (query : Query) (limits : Limits) (old : Option View) → AllByRecursion (Answers query) (batch old (view_of config held query) limits)
 batch_answers config held (queries.Profile target ctx) limits old = whole_answers same_profile WholeProfile (profile_in old) (profile config held target ctx.ns) (Answers (queries.Profile target ctx)) refl
 batch_answers config held (queries.Port ns pod port) limits old = whole_answers same_server WholeServer (server_in old) (inbound config held ns pod port) (Answers (queries.Port ns pod port)) refl
 batch_answers config held (queries.Traffic target) limits old = whole_answers same_outbound WholeOutbound (outbound_in old) (outbound config held target) (Answers (queries.Traffic target)) refl
+batch_answers config held (queries.PortRows ns pod port) limits old =
+    port_answers (Answers (queries.PortRows ns pod port)) (λ view. refl) (λ rows. refl) (λ keys. refl) limits.frame_addrs (port_in old) (inbound config held ns pod port)
 batch_answers config held (queries.Get ns name port ctx) limits old = by_rows (endpoints_in old) (endpoints config held ns name port).exists (endpoints config held ns name port).rows
   where
     by_rows : (old : Option EndpointView) (exists : Bool) (rows : List EndpointRow) → AllByRecursion (Answers (queries.Get ns name port ctx)) (messages_to limits.frame_addrs old exists rows)
     by_rows old exists [] = all_if (Answers (queries.Get ns name port ctx)) (is_news old exists) (NoEndpoints exists ∷ []) (refl, tt)
-    by_rows old exists (r ∷ rs) = all_joined (Answers (queries.Get ns name port ctx)) (map Add (in_pieces limits.frame_addrs (changed_rows (rows_before old) (r ∷ rs)))) (map Remove (in_pieces limits.frame_addrs (gone_pairs (rows_before old) (r ∷ rs))))
-        (all_made (Answers (queries.Get ns name port ctx)) Add (λ piece. refl) (in_pieces limits.frame_addrs (changed_rows (rows_before old) (r ∷ rs))))
-        (all_made (Answers (queries.Get ns name port ctx)) Remove (λ piece. refl) (in_pieces limits.frame_addrs (gone_pairs (rows_before old) (r ∷ rs))))
+    by_rows old exists (r ∷ rs) =
+        pieces_answer (Answers (queries.Get ns name port ctx)) Add Remove (λ rows. refl) (λ pairs. refl) limits.frame_addrs (changed_rows (rows_before old) (r ∷ rs)) (gone_pairs (rows_before old) (r ∷ rs))
 
 module _ (program : Program) where
   -- what is sent to a live subscription answers its query

@@ -14,7 +14,9 @@ use Rattle.k8s_meta.specs.declared.fault.ReadFault.{ReadFault}
 use Rattle.k8s_meta.specs.declared.fault.ReadFault.TheVariants as faults
 use Rattle.output_laws.proofs.PlainReads.{at_item, list_plain, valid_plain}
 use Rattle.view_types.specs.declared.config.Config.{Config}
-use Rattle.watch_events.specs.Queries.{context_at, get_at, port_at, profile_at, service_port, service_port_at, target_at, traffic_at, workload_at}
+use Rattle.view_types.specs.declared.query.PodPort.{PodPort}
+use Rattle.view_types.specs.declared.query.Query.{Query}
+use Rattle.watch_events.specs.Queries.{context_at, get_at, policy_at, port_at, profile_at, service_port, service_port_at, target_at, traffic_at, workload_at}
 use Rattle.watch_events.specs.Simulations.{http_at, identity_at, of_entries, pair_at, pair_from, pairs_at, request_at}
 use Rattle.mesh_text.specs.Workloads.{workload_of}
 
@@ -42,9 +44,13 @@ pub profile_at_plain : (config : Config) → ReadsPlainly (profile_at config)
 unfolding profile_at
 profile_at_plain config q here = then_plain _ _ ((required_plain _ (target_at_plain config)) (q · keys.Path) (at_member q keys.Path here)) (λ target. then_plain _ _ ((default_plain _ context_at_plain _) (q · keys.Token) (at_member q keys.Token here)) (λ ctx. tt))
 
-pub port_at_plain : ReadsPlainly (port_at)
+port_at_plain : ReadsPlainly (port_at)
 unfolding port_at
 port_at_plain q here = then_plain _ _ ((required_plain _ workload_at_plain) (q · keys.Workload) (at_member q keys.Workload here)) (λ pod. then_plain _ _ ((required_plain _ (number_reads 1 65535)) (q · keys.Port) (at_member q keys.Port here)) (λ port. tt))
+
+pub policy_at_plain : (ask : PodPort → Query) → ReadsPlainly (policy_at ask)
+unfolding policy_at
+policy_at_plain ask q here = then_plain (port_at q) _ (port_at_plain q here) (λ port. tt)
 
 pub traffic_at_plain : (config : Config) → ReadsPlainly (traffic_at config)
 unfolding traffic_at

@@ -15,6 +15,7 @@ use Rattle.k8s_meta.specs.declared.key.Key.TheVariants as keys
 use Rattle.view_types.specs.declared.config.Config.{Config}
 use Rattle.view_types.specs.declared.object.Object.{Object}
 use Rattle.view_types.specs.declared.query.Method.{Method}
+use Rattle.view_types.specs.Ports.{query_by_rows, query_whole}
 use Rattle.view_types.specs.declared.query.Method.TheVariants as methods
 use Rattle.watch_events.specs.Controls.{cancellation_of, control_as, control_of, drain_of, query_of, simulation_of, subscription_of}
 use Rattle.watch_events.specs.Events.{delete_of, event_as, event_of, set_of}
@@ -31,7 +32,7 @@ use Rattle.watch_events.specs.declared.line.Line.{Line}
 use Rattle.watch_events.specs.declared.line.Line.TheVariants as lines
 use Rattle.watch_events.specs.declared.line.LineFault.{LineFault}
 use Rattle.watch_events.specs.declared.line.LineFault.TheVariants as faults
-use Rattle.output_laws.proofs.PlainControls.{get_at_plain, port_at_plain, profile_at_plain, request_at_plain, traffic_at_plain}
+use Rattle.output_laws.proofs.PlainControls.{get_at_plain, policy_at_plain, profile_at_plain, request_at_plain, traffic_at_plain}
 use Rattle.output_laws.proofs.PlainFaults.{IsPlainLine}
 use Rattle.output_laws.proofs.PlainObjects.{key_at_plain, object_at_plain}
 use Rattle.output_laws.proofs.PlainReads.{IsPlainRead, at_member, choice_plain, each_plain, number_reads, required_plain}
@@ -81,8 +82,9 @@ object_there s f here more = by_value (is_absent s) (as_object s.value)
 query_of_plain : (config : Config) (method : Method) (q : Spot) → NoBreak q.at → IsPlainLine (query_of config method q)
 query_of_plain config methods.Get q here = query_plain _ (get_at_plain config q here)
 query_of_plain config methods.GetProfile q here = query_plain _ (profile_at_plain config q here)
-query_of_plain config methods.WatchPort q here = query_plain _ (port_at_plain q here)
+query_of_plain config methods.WatchPort q here = query_plain _ (policy_at_plain query_whole q here)
 query_of_plain config methods.Watch q here = query_plain _ (traffic_at_plain config q here)
+query_of_plain config methods.WatchPort2 q here = query_plain _ (policy_at_plain query_by_rows q here)
 
 id_plain : (s : Spot) → NoBreak s.at → IsPlainLine (of_query (required (number 0 4294967295) (s · keys.Id)))
 id_plain s here = query_plain _ (required_plain _ (number_reads 0 4294967295) (s · keys.Id) (at_member s keys.Id here))

@@ -4,7 +4,7 @@ use Rattle.std.specs.Prelude.{◌≡◌, ◌<◌, ◌≤◌, ◌^◌, ℕ, Bool,
 use Rattle.std.specs.List.{AllByRecursion}
 use Rattle.line_run.specs.Rows.{lines_of}
 use Rattle.view_types.specs.declared.query.Method.{Method}
-use Rattle.view_types.specs.declared.query.Method.TheVariants.{Get, GetProfile, WatchPort, Watch}
+use Rattle.view_types.specs.declared.query.Method.TheVariants.{Get, GetProfile, WatchPort, Watch, WatchPort2}
 use Rattle.view_types.specs.declared.query.Query.{Query}
 use Rattle.view_types.specs.declared.query.Query.TheVariants as queries
 use Rattle.view_rules.specs.Views.{view_of}
@@ -25,6 +25,7 @@ method_for (queries.Get ns name port ctx) = Get
 method_for (queries.Profile target ctx) = GetProfile
 method_for (queries.Port ns pod port) = WatchPort
 method_for (queries.Traffic target) = Watch
+method_for (queries.PortRows ns pod port) = WatchPort2
 
 -- no line of a text is longer than the limit
 abbrev pub LinesAreWithin : ℕ → List ℕ → Type 0

@@ -22,7 +22,7 @@ fn kinds_of(method: &str) -> &'static [&'static str] {
     match method {
         "Get" => &GET_KINDS,
         "GetProfile" => &PROFILE_KINDS,
-        "WatchPort" => &PORT_KINDS,
+        "WatchPort" | "WatchPort2" => &PORT_KINDS,
         _ => &TRAFFIC_KINDS,
     }
 }

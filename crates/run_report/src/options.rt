@@ -36,7 +36,7 @@ pub(crate) static ARGUMENTS: [Argument; 13] = [
     Argument::Number,
 ];
 
-pub(crate) static METHODS: [&str; 4] = ["Get", "GetProfile", "WatchPort", "Watch"];
+pub(crate) static METHODS: [&str; 5] = ["Get", "GetProfile", "WatchPort", "WatchPort2", "Watch"];
 
 pub(crate) static POLICIES: [&str; 6] = [
     "all-unauthenticated",
@@ -46,6 +46,11 @@ pub(crate) static POLICIES: [&str; 6] = [
     "deny",
     "audit",
 ];
+
+// Whether a method asks for a port of a Pod.
+fn is_of_port(method: &str) -> bool {
+    method == "WatchPort" || method == "WatchPort2"
+}
 
 impl Argument {
     /// The option of this name.
@@ -87,7 +92,7 @@ impl Argument {
                 "all-unauthenticated, all-authenticated, cluster-unauthenticated, cluster-authenticated, deny or audit"
             }
             Argument::Id => "a number from 0 to 4294967295",
-            Argument::Method => "Get, GetProfile, WatchPort or Watch",
+            Argument::Method => "Get, GetProfile, WatchPort, WatchPort2 or Watch",
             Argument::Path => {
                 "NAME.NAMESPACE.svc.DOMAIN[:PORT] with the cluster domain, or for GetProfile and Watch also IP[:PORT]"
             }
@@ -147,9 +152,9 @@ impl Argument {
     pub(crate) fn is_needed(self, command: Command, method: &str) -> bool {
         match self {
             Argument::Id | Argument::Method => self.is_of(command),
-            Argument::Path => command == Command::Diagnose && method != "WatchPort",
+            Argument::Path => command == Command::Diagnose && !is_of_port(method),
             Argument::Workload | Argument::Port => {
-                command == Command::Diagnose && method == "WatchPort"
+                command == Command::Diagnose && is_of_port(method)
             }
             Argument::Bind => command == Command::Serve,
             Argument::Number => command == Command::Sample,

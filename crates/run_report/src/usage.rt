@@ -29,14 +29,16 @@ Options of replay, diagnose, sample and serve, with their defaults:
 
 Options of diagnose and fold, which need both:
   --id ID                          0 to 4294967295
-  --method METHOD                  Get, GetProfile, WatchPort or Watch
+  --method METHOD                  Get, GetProfile, WatchPort, WatchPort2
+                                   or Watch
 
 Options of diagnose, by method:
   --path TARGET                    needed by Get, GetProfile and Watch:
                                    NAME.NAMESPACE.svc.DOMAIN[:PORT], or for
                                    GetProfile and Watch also IP[:PORT]
-  --workload NAMESPACE:POD         needed by WatchPort
-  --port PORT                      needed by WatchPort, 1 to 65535
+  --workload NAMESPACE:POD         needed by WatchPort and WatchPort2
+  --port PORT                      needed by WatchPort and WatchPort2,
+                                   1 to 65535
   --token TOKEN                    for Get and GetProfile: what a proxy says
                                    about itself, as JSON
 

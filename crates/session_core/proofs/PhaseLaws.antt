@@ -129,6 +129,7 @@ no_path line long =
       is_short line (codes "/io.linkerd.proxy.destination.Destination/GetProfile") refl long,
       is_short line (codes "/io.linkerd.proxy.inbound.InboundServerPolicies/WatchPort") refl long,
       is_short line (codes "/io.linkerd.proxy.outbound.OutboundPolicies/Watch") refl long,
+      is_short line (codes "/io.linkerd.proxy.inbound.InboundServerPolicies/WatchPort2") refl long,
     ) refl
 
 -- ---- a request

@@ -20,4 +20,5 @@ path_of line =
     if bytes_eq line (codes "/io.linkerd.proxy.destination.Destination/Get") then Some (Asks methods.Get) else
     if bytes_eq line (codes "/io.linkerd.proxy.destination.Destination/GetProfile") then Some (Asks methods.GetProfile) else
     if bytes_eq line (codes "/io.linkerd.proxy.inbound.InboundServerPolicies/WatchPort") then Some (Asks methods.WatchPort) else
-    if bytes_eq line (codes "/io.linkerd.proxy.outbound.OutboundPolicies/Watch") then Some (Asks methods.Watch) else None
+    if bytes_eq line (codes "/io.linkerd.proxy.outbound.OutboundPolicies/Watch") then Some (Asks methods.Watch) else
+    if bytes_eq line (codes "/io.linkerd.proxy.inbound.InboundServerPolicies/WatchPort2") then Some (Asks methods.WatchPort2) else None

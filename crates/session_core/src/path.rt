@@ -20,6 +20,8 @@ pub fn path_of(line: &[u8]) -> Option<Path>
         Some(Path::Asks(Method::WatchPort))
     } else if line == b"/io.linkerd.proxy.outbound.OutboundPolicies/Watch".as_slice() {
         Some(Path::Asks(Method::Watch))
+    } else if line == b"/io.linkerd.proxy.inbound.InboundServerPolicies/WatchPort2".as_slice() {
+        Some(Path::Asks(Method::WatchPort2))
     } else {
         None
     }

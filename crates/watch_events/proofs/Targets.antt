@@ -19,15 +19,17 @@ use Rattle.net_cidr.proofs.Fits.{each_fits}
 use Rattle.mesh_text.proofs.Names.{dotless_name, name_ascii}
 use Rattle.mesh_text.specs.Names.{is_dotless}
 use Rattle.mesh_text.specs.Targets.{above_zero, bracketed, full_name, host_target, hosted, lowered_target, names_of, port_after, port_of, service_target, target_of, v6_target, with_port}
+use Rattle.view_types.specs.Ports.{query_by_rows, query_whole}
 use Rattle.view_types.specs.declared.config.Config.{Config}
 use Rattle.view_types.specs.declared.query.Target.{Target}
 use Rattle.view_types.specs.declared.query.Method.{Method}
 use Rattle.view_types.specs.declared.query.Method.TheVariants as methods
+use Rattle.view_types.specs.declared.query.PodPort.{PodPort}
 use Rattle.view_types.specs.declared.query.Query.{Query}
 use Rattle.view_types.specs.declared.query.Query.TheVariants as queries
 use Rattle.watch_events.specs.Controls.{query_of}
 use Rattle.watch_events.specs.Lawful.{IsLawfulQuery, IsLawfulTarget}
-use Rattle.watch_events.specs.Queries.{get_at, port_at, profile_at, target_at, traffic_at}
+use Rattle.watch_events.specs.Queries.{get_at, policy_at, profile_at, target_at, traffic_at}
 use Rattle.watch_events.proofs.OfEachForm.{query_read}
 
 same : {A : Type 0} (x y : A) → Some x ≡ Some y → x ≡ y
@@ -145,9 +147,9 @@ profile_gives config s =
     after IsLawfulQuery _ _ (λ target is. after IsLawfulQuery _ _ (λ ctx _. last IsLawfulQuery (queries.Profile target ctx)
     (required_gives IsLawfulTarget (target_at config) (target_gives config) (s · keys.Path) target is)))
 
-port_gives : GivesOnly IsLawfulQuery port_at
-unfolding port_at
-port_gives s = after IsLawfulQuery _ _ (λ pod _. after IsLawfulQuery _ _ (λ port _. last IsLawfulQuery (queries.Port pod.0 pod.1 port) tt))
+policy_gives : (ask : PodPort → Query) → ((port : PodPort) → IsLawfulQuery (ask port)) → GivesOnly IsLawfulQuery (policy_at ask)
+unfolding policy_at
+policy_gives ask lawful s = after IsLawfulQuery _ _ (λ port _. last IsLawfulQuery (ask port) (lawful port))
 
 traffic_gives : (config : Config) → GivesOnly IsLawfulQuery (traffic_at config)
 unfolding traffic_at
@@ -158,5 +160,6 @@ traffic_gives config s =
 pub query_gives : (config : Config) (method : Method) (s : Spot) (query : Query) → query_of config method s ≡ Ok query → IsLawfulQuery query
 query_gives config methods.Get s query e = get_gives config s query (query_read _ query e)
 query_gives config methods.GetProfile s query e = profile_gives config s query (query_read _ query e)
-query_gives config methods.WatchPort s query e = port_gives s query (query_read _ query e)
+query_gives config methods.WatchPort s query e = policy_gives query_whole (λ port. tt) s query (query_read _ query e)
 query_gives config methods.Watch s query e = traffic_gives config s query (query_read _ query e)
+query_gives config methods.WatchPort2 s query e = policy_gives query_by_rows (λ port. tt) s query (query_read _ query e)

@@ -4,11 +4,12 @@ use Rattle.k8s_meta.specs.Scalars.{number}
 use Rattle.k8s_meta.specs.Spots.{Spot, ◌·◌}
 use Rattle.k8s_meta.specs.Words.{choice, object, required, string_in}
 use Rattle.k8s_meta.specs.declared.key.Key.TheVariants as keys
+use Rattle.view_types.specs.Ports.{query_by_rows, query_whole}
 use Rattle.view_types.specs.declared.config.Config.{Config}
 use Rattle.view_types.specs.declared.query.Method.{Method}
 use Rattle.view_types.specs.declared.query.Method.TheVariants as methods
 use Rattle.view_types.specs.declared.query.Query.{Query}
-use Rattle.watch_events.specs.Queries.{get_at, method_of, port_at, profile_at, traffic_at}
+use Rattle.watch_events.specs.Queries.{get_at, method_of, policy_at, profile_at, traffic_at}
 use Rattle.watch_events.specs.Reading.{of_query, ◌>>=◌}
 use Rattle.watch_events.specs.Simulations.{request_at}
 use Rattle.watch_events.specs.declared.control.ControlWord.{ControlWord}
@@ -21,8 +22,9 @@ use Rattle.watch_events.specs.declared.line.LineFault.TheVariants as faults
 abbrev pub query_of : Config → Method → Spot → Result Query LineFault
 query_of config methods.Get q = of_query (get_at config q)
 query_of config methods.GetProfile q = of_query (profile_at config q)
-query_of config methods.WatchPort q = of_query (port_at q)
+query_of config methods.WatchPort q = of_query (policy_at query_whole q)
 query_of config methods.Watch q = of_query (traffic_at config q)
+query_of config methods.WatchPort2 q = of_query (policy_at query_by_rows q)
 
 unfoldable pub subscription_of : Config → Spot → Result Line LineFault
 subscription_of config s = do

@@ -13,6 +13,7 @@ use Rattle.view_types.specs.declared.config.Config.{Config}
 use Rattle.view_types.specs.declared.query.Context.{Context}
 use Rattle.view_types.specs.declared.query.Method.{Method}
 use Rattle.view_types.specs.declared.query.Method.TheVariants as methods
+use Rattle.view_types.specs.declared.query.PodPort.{PodPort}
 use Rattle.view_types.specs.declared.query.Query.{Query}
 use Rattle.view_types.specs.declared.query.Query.TheVariants as queries
 use Rattle.view_types.specs.declared.query.Target.{Target}
@@ -25,7 +26,8 @@ method_of t =
     if bytes_eq t (codes "Get") then Some methods.Get else
     if bytes_eq t (codes "GetProfile") then Some methods.GetProfile else
     if bytes_eq t (codes "WatchPort") then Some methods.WatchPort else
-    if bytes_eq t (codes "Watch") then Some methods.Watch else None
+    if bytes_eq t (codes "Watch") then Some methods.Watch else
+    if bytes_eq t (codes "WatchPort2") then Some methods.WatchPort2 else None
 
 -- An address is no port of a Service.
 abbrev pub service_port : Target → Option ServicePort
@@ -64,12 +66,16 @@ profile_at config q = do
   ctx ← default no_context context_at (q · keys.Token)
   Ok (queries.Profile target ctx)
 
--- what holds for a port of a Pod
-unfoldable pub port_at : Spot → Result Query ReadFault
+-- a port of a Pod
+unfoldable pub port_at : Spot → Result PodPort ReadFault
 port_at q = do
   pod ← required workload_at (q · keys.Workload)
   port ← required (number 1 65535) (q · keys.Port)
-  Ok (queries.Port pod.0 pod.1 port)
+  Ok (record { ns = pod.0; pod = pod.1; port = port })
+
+-- what holds for it, told whole or by what changes
+unfoldable pub policy_at : (PodPort → Query) → Spot → Result Query ReadFault
+policy_at ask q = port_at q >>= λ port. Ok (ask port)
 
 -- where traffic to a target goes
 unfoldable pub traffic_at : Config → Spot → Result Query ReadFault

@@ -13,7 +13,7 @@ ghost use Rattle.watch_events.specs.declared.line.LineFault.TheVariants.{BadQuer
 use crate::fault::query_fault;
 use crate::line::{Line, LineFault};
 use crate::method::MethodWord;
-use crate::query::{read_get, read_port, read_profile, read_traffic};
+use crate::query::{read_get, read_port, read_port_rows, read_profile, read_traffic};
 use crate::simulation::read_request;
 use k8s_meta::choice::Choice;
 use k8s_meta::key::Key;
@@ -91,6 +91,7 @@ fn read_query<'a>(config: &Config, method: Method, query: &'a Place<'a>) -> Resu
         Method::GetProfile => read_profile(config, query),
         Method::WatchPort => read_port(query),
         Method::Watch => read_traffic(config, query),
+        Method::WatchPort2 => read_port_rows(query),
     };
     match read {
         Ok(query) => Ok(query),

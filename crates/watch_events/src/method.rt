@@ -17,6 +17,8 @@ pub fn method_of(word: &str) -> Option<Method>
         Some(Method::WatchPort)
     } else if word == "Watch" {
         Some(Method::Watch)
+    } else if word == "WatchPort2" {
+        Some(Method::WatchPort2)
     } else {
         None
     }

@@ -4,7 +4,8 @@ ghost use Rattle.k8s_meta.specs.Words.{default};
 ghost use Rattle.k8s_meta.specs.declared.key.Key.TheVariants as keys;
 ghost use Rattle.mesh_text.specs.Targets.{target_of};
 ghost use Rattle.mesh_text.specs.Workloads.{workload_of};
-ghost use Rattle.watch_events.specs.Queries.{context_at, get_at, no_context, port_at, profile_at, service_port, service_port_at, target_at, traffic_at, workload_at};
+ghost use Rattle.view_types.specs.Ports.{query_by_rows, query_whole};
+ghost use Rattle.watch_events.specs.Queries.{context_at, get_at, no_context, policy_at, port_at, profile_at, service_port, service_port_at, target_at, traffic_at, workload_at};
 
 use k8s_meta::fault::{ReadFault, What};
 use k8s_meta::key::Key;
@@ -18,7 +19,7 @@ use mesh_text::token::read_context;
 use mesh_text::workload_text::read_workload;
 use std::alloc::Global;
 use view_types::config::Config;
-use view_types::query::{Context, Query, Target};
+use view_types::query::{Context, PodPort, Query, Target};
 
 /// A port of a Service.
 #[derive(Drop)]
@@ -164,14 +165,32 @@ pub fn read_get<'a>(config: &Config, query: &'a Place<'a>) -> Result<Query, Read
     })
 }
 
-/// What holds for a port of a Pod, as a query asks for it.
+/// A port of a Pod.
 #[tactic(auto, unfolding(k8s_meta::specs::Spots::then, crate::specs::Queries::port_at))]
-pub fn read_port<'a>(query: &'a Place<'a>) -> Result<Query, ReadFault>
+fn port_at<'a>(query: &'a Place<'a>) -> Result<PodPort, ReadFault>
     ensures { Reads result (port_at (seen query.now)) }
 {
     let (ns, pod) = query.required(Key::Workload, &Workload)?;
     let port = query.required(Key::Port, &PORT)?;
-    Ok(Query::Port { ns, pod, port })
+    Ok(PodPort { ns, pod, port })
+}
+
+/// What holds for a port of a Pod, as a query asks for it.
+#[tactic(auto, unfolding(k8s_meta::specs::Spots::then, crate::specs::Queries::policy_at))]
+pub fn read_port<'a>(query: &'a Place<'a>) -> Result<Query, ReadFault>
+    ensures { Reads result (policy_at query_whole (seen query.now)) }
+{
+    let port = port_at(query)?;
+    Ok(port.whole())
+}
+
+/// The same, as a query asks for it that is to be told what changes.
+#[tactic(auto, unfolding(k8s_meta::specs::Spots::then, crate::specs::Queries::policy_at))]
+pub fn read_port_rows<'a>(query: &'a Place<'a>) -> Result<Query, ReadFault>
+    ensures { Reads result (policy_at query_by_rows (seen query.now)) }
+{
+    let port = port_at(query)?;
+    Ok(port.by_rows())
 }
 
 /// Where traffic to a target goes, as a query asks for it.
