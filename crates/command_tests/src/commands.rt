@@ -112,6 +112,10 @@ const FOLDS: &str = "fold --id 0 --method Get => fold 0 Get
 fold --id 7 --method Get => fold 7 Get
 fold --id 7 --method GetProfile => fold 7 GetProfile
 fold --id 7 --method WatchPort => fold 7 WatchPort
+fold --id 7 --method WatchPort2 => fold 7 WatchPort2
+fold --id 7 --method WatchPort3 => usage
+fold --id 7 --method watchport2 => usage
+fold --id 7 --method WatchPort 2 => usage
 fold --id 7 --method Watch => fold 7 Watch
 fold --method Get --id 7 => fold 7 Get
 fold --method=Get --id=7 => fold 7 Get
@@ -412,7 +416,14 @@ diagnose --id 1 --method WatchPort --workload app:web-1 --port 80 --path= --toke
 diagnose --id 1 --method WatchPort --workload app:web-1 --port 80 --token {"ns":"cli"} => diagnose 1 WatchPort app:web-1:80
 diagnose --id 1 --method WatchPort --workload app:web-1 --port 80 --trust-domain t => diagnose 1 WatchPort app:web-1:80 trust-domain=t
 diagnose --id 1 --method WatchPort --workload app:web-1 --port 80 --trust-domain T => usage
-diagnose --id 1 --method WatchPort --workload app:web-1 --port 80 --path x --path x => usage"#;
+diagnose --id 1 --method WatchPort --workload app:web-1 --port 80 --path x --path x => usage
+diagnose --id 1 --method WatchPort2 --workload app:web-1 --port 8080 => diagnose 1 WatchPort2 app:web-1:8080
+diagnose --id 1 --method WatchPort2 --workload app:web-1 --port 0 => usage
+diagnose --id 1 --method WatchPort2 --workload app:web-1 => usage
+diagnose --id 1 --method WatchPort2 --port 80 => usage
+diagnose --id 1 --method WatchPort2 --workload web-1 --port 80 => usage
+diagnose --id 1 --method WatchPort2 --path web.app.svc.cluster.local:80 => usage
+diagnose --id 1 --method WatchPort2 --workload app:web-1 --port 80 --path x --token { => diagnose 1 WatchPort2 app:web-1:80"#;
 
 const TRAFFIC: &str =
     r#"diagnose --id 1 --method Watch --path 10.9.9.9:443 => diagnose 1 Watch 4:a090909:443

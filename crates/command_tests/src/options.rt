@@ -27,6 +27,9 @@ diagnose --id 7 --path 10.0.0.1:80 | method | Watch | diagnose 7 Watch 4:a000001
 diagnose --id 7 --method Watch | path | 10.0.0.1:80 | diagnose 7 Watch 4:a000001:80 | usage
 diagnose --id 7 --method WatchPort --port 80 | workload | app:web-1 | diagnose 7 WatchPort app:web-1:80 | usage
 diagnose --id 7 --method WatchPort --workload app:web-1 | port | 80 | diagnose 7 WatchPort app:web-1:80 | usage
+diagnose --id 7 --workload app:web-1 --port 80 | method | WatchPort2 | diagnose 7 WatchPort2 app:web-1:80 | usage
+diagnose --id 7 --method WatchPort2 --port 80 | workload | app:web-1 | diagnose 7 WatchPort2 app:web-1:80 | usage
+diagnose --id 7 --method WatchPort2 --workload app:web-1 | port | 80 | diagnose 7 WatchPort2 app:web-1:80 | usage
 diagnose --id 7 --method Get --path web.app.svc.cluster.local | token | {"ns":"cli"} | diagnose 7 Get app/web:80 ns=cli | diagnose 7 Get app/web:80
 diagnose --id 7 --method Watch --path 10.0.0.1:80 | cluster-domain | mesh | diagnose 7 Watch 4:a000001:80 cluster-domain=mesh | usage
 diagnose --id 7 --method Watch --path 10.0.0.1:80 | trust-domain | a.b | diagnose 7 Watch 4:a000001:80 trust-domain=a.b | usage

@@ -65,6 +65,7 @@ fn method_text(method: Method) -> &'static str {
         Method::GetProfile => "GetProfile",
         Method::WatchPort => "WatchPort",
         Method::Watch => "Watch",
+        Method::WatchPort2 => "WatchPort2",
     }
 }
 
@@ -147,6 +148,11 @@ fn query_text(alloc: Global, query: &Query) -> Result<String, Fail> {
         Query::Traffic { target } => {
             let target = target_text(alloc, target)?;
             Ok(format!(in alloc; "Watch {target}")?)
+        }
+        Query::PortRows { ns, pod, port } => {
+            let ns = ns.as_str();
+            let pod = pod.as_str();
+            Ok(format!(in alloc; "WatchPort2 {ns}:{pod}:{port}")?)
         }
     }
 }

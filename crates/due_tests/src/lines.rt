@@ -125,6 +125,8 @@ profile_anew: {"control":"subscribe","id":10,"query":{"method":"GetProfile","pat
 get_again: {"control":"subscribe","id":9,"query":{"method":"Get","path":"web.app.svc.cluster.local:80"}}
 port_again: {"control":"subscribe","id":9,"query":{"method":"WatchPort","workload":"app:web-1","port":8080}}
 port_first: {"control":"subscribe","id":1,"query":{"method":"WatchPort","workload":"app:web-1","port":8080}}
+port_rows: {"control":"subscribe","id":1,"query":{"method":"WatchPort2","workload":"app:web-1","port":8080}}
+port_of_same: {"control":"subscribe","id":2,"query":{"method":"WatchPort","workload":"app:web-1","port":8080}}
 port_of_web_2: {"control":"subscribe","id":2,"query":{"method":"WatchPort","workload":"app:web-2","port":8080}}
 get_unread: {"control":"subscribe","id":9,"query":{"method":"Get","path":"web.app:80"}}
 drain_1: {"control":"drain","id":1}

@@ -23,6 +23,8 @@ lists that are refused: service slice slice_b => nobody, get => 1, drain_1 => no
 a MeshTLSAuthentication that no policy refers to: pod server policy => nobody, port_first => 1, drain_1 => nobody, unasked => nobody
 the MeshTLSAuthentication that the policy refers to: pod server policy => nobody, port_first => 1, drain_1 => nobody, cli => 1
 a Service beside a WatchPort: pod server policy => nobody, port_first => 1, drain_1 => nobody, service => nobody
+the MeshTLSAuthentication of a policy that is told by rows: pod server policy => nobody, port_rows => 1, drain_1 => nobody, cli => 1, drain_1 => nobody, unasked service => nobody
+one port in both versions: pod server policy => nobody, port_rows => 1, port_of_same => 1 2, drain_1 => 2, drain_2 => nobody, cli => 1 2, drain_2 => 1
 two subscribers of one profile, who cancel one after the other: service => nobody, profile => 2, profile_again => 2 9, drain_2 => 9, drain_9 => nobody, profile_in_cli => 2 9, cancel_2 => 9, drain_9 => nobody, profile_in_cli_gone => 9, drain_9 => nobody, cancel_9 profile_in_cli => nobody, profile_anew => 10, drain_10 => nobody, profile_in_cli_gone => 10
 a profile that moves to the namespace of the client, and two who ask for it: service profile_in_app => nobody, profile => 2, profile_again => 2 9, drain_2 => 9, drain_9 => nobody, profile_in_cli => 2 9, drain_2 => 9, drain_9 => nobody, profile_in_app_gone => 2 9, drain_9 => 2, drain_2 => nobody, profile_in_cli_gone => 2 9
 the Pod without the label that the Server selects: pod server policy => nobody, port_first => 1, drain_1 => nobody, pod_unlabelled => 1";

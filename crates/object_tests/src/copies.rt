@@ -368,6 +368,13 @@ fn what_is_shown(rt: HostRuntime) {
     assert!(rt; copies_view(alloc, View::Profile(profile_view(alloc))));
     assert!(rt; copies_view(alloc, View::Server(ServerView::Absent)));
     assert!(rt; copies_view(alloc, View::Server(ServerView::Present(server_row(alloc)))));
+    assert!(rt; copies_view(alloc, View::ServerRows(ServerView::Absent)));
+    assert!(rt;
+        copies_view(
+            alloc,
+            View::ServerRows(ServerView::Present(server_row(alloc)))
+        )
+    );
     assert!(rt; copies_authz(alloc, authz_row(alloc, Authn::Anyone)));
     assert!(rt; copies_view(alloc, View::Outbound(OutboundView::Absent)));
     assert!(rt; copies_view(alloc, View::Outbound(forward(alloc))));
@@ -393,6 +400,16 @@ fn server(alloc: Global) -> Message {
     Message::Server(ServerView::Present(server_row(alloc)))
 }
 
+fn put(alloc: Global) -> Message {
+    Message::AuthzPut(one(alloc, authz_row(alloc, clients(alloc))))
+}
+
+fn gone(alloc: Global) -> Message {
+    Message::AuthzGone(one(alloc, (AuthzKind::AuthorizationPolicy, text(alloc, "a"))))
+}
+
+const GONE: &str = r#"AuthzGone([(AuthorizationPolicy,"a")])"#;
+
 #[test]
 fn messages(rt: HostRuntime) {
     let alloc = rt.alloc();
@@ -402,4 +419,7 @@ fn messages(rt: HostRuntime) {
     assert!(rt; copies_message(alloc, Message::Profile(profile_view(alloc)), "a whole view"));
     assert!(rt; copies_message(alloc, server(alloc), "a whole view"));
     assert!(rt; copies_message(alloc, Message::Outbound(outbound(alloc)), "a whole view"));
+    assert!(rt; copies_message(alloc, Message::Whole(ServerView::Absent), "a whole view"));
+    assert!(rt; copies_message(alloc, put(alloc), "AuthzPut of 1"));
+    assert!(rt; copies_message(alloc, gone(alloc), GONE));
 }

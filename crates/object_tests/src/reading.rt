@@ -297,6 +297,47 @@ Watch 12030a01ff => NotUtf8 { field: 1 } : a namespace that isn't UTF-8
 WatchPort 080110052a0408010a05 => Wire(Truncated { at: 2 }) : a cut record in a route
 WatchPort 080707 => Range { field: 1 } : a bad tag behind an enum out of range
 WatchPort 080107 => Wire(BadTag { at: 2 }) : a bad tag before policy 0 is found
+WatchPort2 0a09080110051a03776562 => 0a09080110051a03776562 : a whole view
+WatchPort2 0a00 => 0a00 : a whole view that is absent
+WatchPort2 0a20080110051a037765622209080112017a22020a00220a08021202706122020a00 => 0a20080110051a037765622209080112017a22020a00220a08021202706122020a00 : a whole view with authorizations
+WatchPort2 12170a09080112017a22020a000a0a08021202706122021200 => 12170a09080112017a22020a000a0a08021202706122021200 : authorizations that are put
+WatchPort2 1200 => 1200 : nothing put
+WatchPort2 1a0b0a0508011201610a020802 => 1a0b0a0508011201610a020802 : kinds and names that go
+WatchPort2 1a00 => 1a00 : nothing gone
+WatchPort2 1a070a051201610802 => 1a070a050802120161 : a name before a kind
+WatchPort2 78011a070a0508011201617801 => 1a070a050801120161 : unknown fields
+WatchPort2 1a060a0408011807 => 1a040a020801 : an unknown field in a key
+WatchPort2 120e10050a0a08021202706122020a00 => 120c0a0a08021202706122020a00 : an unknown field beside authorizations
+WatchPort2 1a8000 => 1a00 : a length in more bytes than it needs
+WatchPort2 empty => NoChoice : no member of the choice
+WatchPort2 12001200 => Repeated { field: 2 } : a member of the choice twice
+WatchPort2 0a001a00 => Repeated { field: 3 } : two members of the choice
+WatchPort2 120c0a0a08021202706122020a000801 => Repeated { field: 1 } : a second member of another wire type
+WatchPort2 08011005 => WrongWire { field: 1 } : the fields of a view
+WatchPort2 1001 => WrongWire { field: 2 } : authorizations as a number
+WatchPort2 1d00000000 => WrongWire { field: 3 } : keys as four bytes
+WatchPort2 1a020801 => WrongWire { field: 1 } : a key as a number
+WatchPort2 1a040a020a00 => WrongWire { field: 1 } : a kind as bytes
+WatchPort2 1a060a0408011001 => WrongWire { field: 2 } : a name as a number
+WatchPort2 1a060a0412027061 => Range { field: 1 } : a key of kind 0
+WatchPort2 1a080a06080012027061 => Range { field: 1 } : a key of kind 0 that is written
+WatchPort2 1a020a00 => Range { field: 1 } : an empty key
+WatchPort2 1a080a06080312027061 => Range { field: 1 } : a key of kind 3
+WatchPort2 1a070a0508001201ff => NotUtf8 { field: 2 } : kind 0 comes after all records
+WatchPort2 1a070a0508031201ff => Range { field: 1 } : kind 3 comes where it stands
+WatchPort2 1a0c0a0508011201610a03120162 => Range { field: 1 } : the second key of kind 0
+WatchPort2 1a060a0408010802 => Repeated { field: 1 } : a kind twice
+WatchPort2 1a0a0a080801120161120162 => Repeated { field: 2 } : a name twice
+WatchPort2 1a070a0508011201ff => NotUtf8 { field: 2 } : a name that isn't UTF-8
+WatchPort2 12040a020801 => Absent { field: 4 } : an authorization without authentication
+WatchPort2 120a0a081202706122020a00 => Range { field: 1 } : an authorization of kind 0
+WatchPort2 0a020801 => Range { field: 2 } : a view with a protocol and without a policy
+WatchPort2 0a0408011007 => Range { field: 2 } : a view with policy 7
+WatchPort2 1a050a00 => Wire(Truncated { at: 0 }) : cut keys
+WatchPort2 1a040a050801 => Wire(Truncated { at: 0 }) : a cut key
+WatchPort2 1a80 => Wire(Truncated { at: 0 }) : a cut length
+WatchPort2 07 => Wire(BadTag { at: 0 }) : a bad tag
+WatchPort2 1a0107 => Wire(BadTag { at: 0 }) : a bad tag among keys
 "#;
 
 /// A method, the bytes of a request to it, and the query, or the first fault; and what the row is about.
@@ -368,6 +409,15 @@ Watch 120b0a050d0302010a10808004 => Range { field: 2 } : an address's port above
 Watch 1a00 => BadAuthority : an empty authority
 Watch 1a1a7765622e6170702e7376632e6578616d706c652e6f72673a3830 => BadAuthority : an authority of another domain
 Watch 1801 => WrongWire { field: 3 } : an authority as a number
+WatchPort2 0a096170703a7765622d3110903f => PortRows{ns:"app",pod:"web-1",port:8080} : a port of a workload, by rows
+WatchPort2 10ffff0318010a096170703a7765622d31 => PortRows{ns:"app",pod:"web-1",port:65535} : the port first, and an unknown field, by rows
+WatchPort2 0a096170703a7765622d31 => Range { field: 2 } : no port, by rows
+WatchPort2 0a096170703a7765622d311000 => Range { field: 2 } : port 0, by rows
+WatchPort2 0a096170703a7765622d3110808004 => Range { field: 2 } : a port above 65535, by rows
+WatchPort2 empty => Range { field: 2 } : nothing at all, by rows
+WatchPort2 1050 => BadWorkload : no workload, by rows
+WatchPort2 0a057765622d311050 => BadWorkload : a workload without a namespace, by rows
+WatchPort2 0a096170703a7765622d310a096170703a7765622d311050 => Repeated { field: 1 } : a workload twice, by rows
 "#;
 
 fn method_of(word: &str) -> Result<Method, Fail> {
@@ -376,6 +426,7 @@ fn method_of(word: &str) -> Result<Method, Fail> {
         "GetProfile" => Ok(Method::GetProfile),
         "WatchPort" => Ok(Method::WatchPort),
         "Watch" => Ok(Method::Watch),
+        "WatchPort2" => Ok(Method::WatchPort2),
         _ => Err(Fail::new("no method has this name")),
     }
 }

@@ -1,6 +1,6 @@
 //! Tests of `top`, over inputs and outputs in memory: whole runs with their bytes, each refusal of a line, the example cluster,
-//! arguments, profiles, inbound and outbound policies, verdicts, probes, drains, folds, samples and options. They stand apart,
-//! since a crate with tests is proved twice.
+//! arguments, profiles, inbound policies whole and by rows, outbound policies, verdicts, probes, drains, folds, samples and
+//! options. They stand apart, since a crate with tests is proved twice.
 //!
 //! Stands on command_run.
 #![tactic(auto)]
@@ -27,6 +27,8 @@ mod options;
 mod outbound;
 #[cfg(test)]
 mod pods;
+#[cfg(test)]
+mod port_rows;
 #[cfg(test)]
 mod probes;
 #[cfg(test)]

@@ -134,6 +134,11 @@ service
 view 1 00
 warning: nothing of kind Pod was in the feed, nor of kind Server, nor of kind ServerAuthorization, nor of kind AuthorizationPolicy, nor of kind HTTPRoute
 
+diagnose --id=1 --method=WatchPort2 --workload=app:web-1 --port=80
+service
+view 1 00
+warning: nothing of kind Pod was in the feed, nor of kind Server, nor of kind ServerAuthorization, nor of kind AuthorizationPolicy, nor of kind HTTPRoute
+
 diagnose --id 1 --method Watch --path 10.1.2.3:80
 pod
 view 1 00

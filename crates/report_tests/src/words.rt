@@ -24,11 +24,13 @@ impl CommandReader for Refusing<'_> {
 const WRONG: &str = "\
 replya => \"replya\" is not a command: the first word is replay, diagnose, fold, sample or serve (did you mean replay?)
 listen --port 80 => \"listen\" is not a command: the first word is replay, diagnose, fold, sample or serve
-diagnose --id 1 --method get --path a.b.svc.cluster.local => --method \"get\" is not accepted: it is Get, GetProfile, WatchPort or Watch (did you mean Get?)
+diagnose --id 1 --method get --path a.b.svc.cluster.local => --method \"get\" is not accepted: it is Get, GetProfile, WatchPort, WatchPort2 or Watch (did you mean Get?)
+diagnose --id 1 --method WatchPort3 --workload a:b --port 80 => --method \"WatchPort3\" is not accepted: it is Get, GetProfile, WatchPort, WatchPort2 or Watch (did you mean WatchPort?)
 diagnose --id 1 --method WatchPort --workload a:b --port http => --port \"http\" is not accepted: it is a number from 1 to 65535
 diagnose --id=x --method Get --port http => --id \"x\" is not accepted: it is a number from 0 to 4294967295
 diagnose --method Get --path a.b.svc.cluster.local => diagnose needs --id: a number from 0 to 4294967295
 diagnose --id 1 --method WatchPort --port 80 => diagnose needs --workload: NAMESPACE:POD
+diagnose --id 1 --method WatchPort2 --workload a:b => diagnose needs --port: a number from 1 to 65535
 sample => sample needs NUMBER: from 0 to 1000
 sample -- 5000 => NUMBER \"5000\" is not accepted: it is from 0 to 1000
 fold --id 1 --id=2 --method Get => --id is given twice: each option is given once
@@ -57,6 +59,7 @@ fn wrong_words(rt: HostRuntime) -> Result<(), Fail> {
     let refused = [
         "--id=x",
         "--method=get",
+        "--method=WatchPort3",
         "--port=http",
         "--workload=web",
         "--bind=localhost:80",
@@ -78,7 +81,7 @@ fn wrong_words(rt: HostRuntime) -> Result<(), Fail> {
 
 // What the usage names.
 const USED: &str =
-    "--cluster-domain|--trust-domain|--control-plane-namespace|--cluster-networks|--default-policy|all-unauthenticated\n|all-authenticated,|cluster-unauthenticated,|cluster-authenticated,|deny,|audit\n|--id|--method|Get,|GetProfile,|WatchPort or Watch\n|--path|--workload|--port|--token|--bind|10.0.0.0/8,100.64.0.0/10,172.16.0.0/12,192.168.0.0/16\n";
+    "--cluster-domain|--trust-domain|--control-plane-namespace|--cluster-networks|--default-policy|all-unauthenticated\n|all-authenticated,|cluster-unauthenticated,|cluster-authenticated,|deny,|audit\n|--id|--method|Get,|GetProfile,|WatchPort,|WatchPort2\n|or Watch\n|--path|--workload|--port|--token|--bind|10.0.0.0/8,100.64.0.0/10,172.16.0.0/12,192.168.0.0/16\n";
 
 // The usage is told whole where there are no words, where they ask for help, and where nothing is found wrong. It begins as scripts
 // expect it, names all words, and fits a terminal of 80 columns.

@@ -23,6 +23,8 @@ WatchPort app:web-1|65535 => 0a096170703a7765622d3110ffff03 : the greatest port
 WatchPort app:web-1|0 => 0a096170703a7765622d31 : port 0, which is left out and refused
 WatchPort |80 => 1050 : no workload
 WatchPort |0 => empty : nothing
+WatchPort2 app:web-1|8080 => 0a096170703a7765622d3110903f : a port of a workload, by rows
+WatchPort2 |0 => empty : nothing, by rows
 Watch 10.9.9.9|80 => 12090a050d0909090a1050 : an address
 Watch 10.9.9.9|0 => 12070a050d0909090a : an address without a port
 Watch 0.0.0.0|0 => 12070a050d00000000 : the least address
@@ -89,6 +91,7 @@ fn ask_of(alloc: Global, method: &str, given: &str) -> Result<Ask, Fail> {
         "GetProfile" => Ok(Ask::GetProfile(destination(alloc, given)?)),
         "WatchPort" => Ok(Ask::WatchPort(port_spec(alloc, given)?)),
         "Watch" => Ok(Ask::Watch(traffic_spec(alloc, given)?)),
+        "WatchPort2" => Ok(Ask::WatchPort2(port_spec(alloc, given)?)),
         _ => Err(Fail::new("no method has this name")),
     }
 }

@@ -16,6 +16,7 @@ const PARTS: &str = "@ /io.linkerd.proxy.destination.Destination/Get
 @profile /io.linkerd.proxy.destination.Destination/GetProfile
 @port /io.linkerd.proxy.inbound.InboundServerPolicies/WatchPort
 @watch /io.linkerd.proxy.outbound.OutboundPolicies/Watch
+@rows /io.linkerd.proxy.inbound.InboundServerPolicies/WatchPort2
 service {\"type\":\"ADDED\",\"object\":{\"apiVersion\":\"v1\",\"kind\":\"Service\",\"metadata\":{\"name\":\"web\",\"namespace\":\"app\"},\"spec\":{\"clusterIP\":\"10.96.0.10\",\"ports\":[{\"name\":\"http\",\"port\":80}]}}}
 service_gone {\"type\":\"DELETED\",\"object\":{\"apiVersion\":\"v1\",\"kind\":\"Service\",\"metadata\":{\"name\":\"web\",\"namespace\":\"app\"}}}
 slice {\"type\":\"ADDED\",\"object\":{\"apiVersion\":\"discovery.k8s.io/v1\",\"kind\":\"EndpointSlice\",\"metadata\":{\"name\":\"web-a\",\"namespace\":\"app\",\"labels\":{\"kubernetes.io/service-name\":\"web\"}},\"addressType\":\"IPv4\",\"endpoints\":[{\"addresses\":[\"10.1.2.3\"]}],\"ports\":[{\"name\":\"http\",\"port\":8080}]}}
@@ -28,6 +29,9 @@ simulate {\"control\":\"simulate\",\"workload\":\"app:web-1\",\"port\":8080,\"cl
 slice_moved {\"type\":\"MODIFIED\",\"object\":{\"apiVersion\":\"discovery.k8s.io/v1\",\"kind\":\"EndpointSlice\",\"metadata\":{\"name\":\"web-a\",\"namespace\":\"app\",\"labels\":{\"kubernetes.io/service-name\":\"web\"}},\"addressType\":\"IPv4\",\"endpoints\":[{\"addresses\":[\"10.1.2.4\"]}],\"ports\":[{\"name\":\"http\",\"port\":8080}]}}
 slice_both {\"type\":\"MODIFIED\",\"object\":{\"apiVersion\":\"discovery.k8s.io/v1\",\"kind\":\"EndpointSlice\",\"metadata\":{\"name\":\"web-a\",\"namespace\":\"app\",\"labels\":{\"kubernetes.io/service-name\":\"web\"}},\"addressType\":\"IPv4\",\"endpoints\":[{\"addresses\":[\"10.1.2.3\",\"10.1.2.4\"]}],\"ports\":[{\"name\":\"http\",\"port\":8080}]}}
 pod {\"type\":\"ADDED\",\"object\":{\"apiVersion\":\"v1\",\"kind\":\"Pod\",\"metadata\":{\"name\":\"web-1\",\"namespace\":\"app\",\"labels\":{\"app\":\"web\"}},\"spec\":{\"containers\":[{\"ports\":[{\"name\":\"http\",\"containerPort\":8080}]}]},\"status\":{\"podIP\":\"10.1.2.3\"}}}
+server {\"type\":\"ADDED\",\"object\":{\"apiVersion\":\"policy.linkerd.io/v1beta3\",\"kind\":\"Server\",\"metadata\":{\"name\":\"web\",\"namespace\":\"app\"},\"spec\":{\"podSelector\":{\"matchLabels\":{\"app\":\"web\"}},\"port\":8080}}}
+pa {\"type\":\"ADDED\",\"object\":{\"apiVersion\":\"policy.linkerd.io/v1alpha1\",\"kind\":\"AuthorizationPolicy\",\"metadata\":{\"name\":\"pa\",\"namespace\":\"app\"},\"spec\":{\"targetRef\":{\"group\":\"policy.linkerd.io\",\"kind\":\"Server\",\"name\":\"web\"}}}}
+pa_gone {\"type\":\"DELETED\",\"object\":{\"apiVersion\":\"policy.linkerd.io/v1alpha1\",\"kind\":\"AuthorizationPolicy\",\"metadata\":{\"name\":\"pa\",\"namespace\":\"app\"}}}
 stop {\"control\":\"stop\"}";
 
 // The request of a Get of the Service `web`.

@@ -64,6 +64,12 @@ impl Show for Query {
                 page.last("port", port);
             }
             Query::Traffic { target } => page.variant("Traffic", target),
+            Query::PortRows { ns, pod, port } => {
+                page.put("PortRows");
+                page.first("ns", ns);
+                page.next("pod", pod);
+                page.last("port", port);
+            }
         }
     }
 }

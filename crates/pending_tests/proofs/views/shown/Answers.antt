@@ -2,7 +2,7 @@ use Rattle.std.proofs.Common.{◌≡◌, [], ◌∷◌, Some, sym, ap, subst, �
 use Rattle.std.specs.Option.{option_copied}
 use Rattle.std.proofs.lemmas.Result.{IfOk-weaker}
 use Rattle.view_fold.proofs.Orderly.{folds_are_orderly}
-use Rattle.view_rules.specs.Fold.{IsOrderly, shown_after}
+use Rattle.view_rules.specs.Fold.{IsOrderly, IsOrderlyIfShown, shown_after}
 use Rattle.pending_tests.proofs.views.shown.Goals as goal
 
 -- what is seen by folding is in order
@@ -11,5 +11,5 @@ returns-in-Some-Endpoints c =
     let told = subst (λ view. c.take.new.self.view ≡ Some (shown_after view c.args.message)) c.new-fold.ensures c.in_ok-take.ensures.ok in
     let shown = sym told ∙ sym c.view.ensures ∙ ap option_copied c.in-Some-Endpoints.is ∙ ap Some c.in-Some-Endpoints.field-0-is in
     IfOk-weaker c.copy.result _ IsOrderly
-    (λ copy same. subst IsOrderly (sym same) (folds_are_orderly (c.args.message ∷ []) c.in-Some-Endpoints.view shown))
+    (λ copy same. subst IsOrderly (sym same) (subst IsOrderlyIfShown shown (folds_are_orderly (c.args.message ∷ []))))
     c.copy.ensures
