@@ -12,6 +12,7 @@ PATHS = {
     "Get": "/io.linkerd.proxy.destination.Destination/Get",
     "GetProfile": "/io.linkerd.proxy.destination.Destination/GetProfile",
     "WatchPort": "/io.linkerd.proxy.inbound.InboundServerPolicies/WatchPort",
+    "WatchPort2": "/io.linkerd.proxy.inbound.InboundServerPolicies/WatchPort2",
     "Watch": "/io.linkerd.proxy.outbound.OutboundPolicies/Watch",
 }
 CONNECT_SECONDS = 10

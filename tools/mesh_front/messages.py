@@ -15,7 +15,7 @@ from dataclasses import dataclass, field
 from mesh_front.faults import Fault, Status
 
 ROOT = pathlib.Path(__file__).resolve().parent.parent.parent
-METHODS = {"Get": "Update", "GetProfile": "DestinationProfile", "WatchPort": "Server", "Watch": "OutboundPolicy"}
+METHODS = {"Get": "Update", "GetProfile": "DestinationProfile", "WatchPort": "Server", "WatchPort2": "ServerUpdate", "Watch": "OutboundPolicy"}
 PROTOC = ["protoc", f"--proto_path={ROOT / 'docs'}", f"--proto_path={pathlib.Path(__file__).parent}"]
 MODES = {"decode": ["--decode"], "encode": ["--deterministic_output", "--encode"]}
 ESCAPES = {b"n": b"\n", b"r": b"\r", b"t": b"\t"}
@@ -133,6 +133,9 @@ def is_whole(method: str, message: Message) -> bool:
         return "fully_qualified_name" in names or not names & {"routes", "dst_overrides"}
     if method == "WatchPort":
         return not names or {"protocol", "policy"} <= names
+    if method == "WatchPort2":
+        lists = {"put": "rows", "gone": "keys"}
+        return len(names) == 1 and all(message.at(name).all(lists[name]) if name in lists else is_whole("WatchPort", message.at(name)) for name in names)
     parts = {"service": {"namespace", "name"}, "forward": {"endpoint"}}
     return len(names) == 1 and all(parts.get(name, set()) <= message.at(name).names() for name in names)
 

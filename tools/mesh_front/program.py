@@ -14,6 +14,7 @@ from mesh_front.feed import Feed, Objects
 from mesh_front.messages import Message, decode_each, message_in, tree
 
 Numbers = TypeVar("Asked")
+PORT_METHODS = ("WatchPort", "WatchPort2")
 
 
 @dataclass(frozen=True)
@@ -25,8 +26,8 @@ class Query:
     port: int
 
     def members(self, domain: str) -> dict:
-        """The query of a `subscribe` line. The target of WatchPort is `namespace:pod`, of the others `name.namespace`."""
-        if self.method == "WatchPort":
+        """The query of a `subscribe` line. The target of a port's method is `namespace:pod`, of the others `name.namespace`."""
+        if self.method in PORT_METHODS:
             return {"method": self.method, "workload": self.target, "port": self.port}
         return {"method": self.method, "path": f"{self.target}.svc.{domain}:{self.port}"}
 

@@ -10,7 +10,7 @@ from mesh_front.faults import Fault, Status
 from mesh_front.links import PATHS, Link, ServerAddress
 from mesh_front.messages import decode_each, protoc, shown_rows
 from mesh_front.names import pod_port, port_number, service_name
-from mesh_front.program import Query
+from mesh_front.program import PORT_METHODS, Query
 
 MEANINGS = {
     Status.DONE: "as many messages have come, or as many seconds have passed, as the words say",
@@ -20,11 +20,12 @@ MEANINGS = {
     Status.NO_SERVER: "no server can be reached at the address",
     Status.CLOSED: "the server closed the link",
 }
-REQUESTS = {"Get": "GetDestination", "GetProfile": "GetDestination", "WatchPort": "PortSpec", "Watch": "TrafficSpec"}
+REQUESTS = {"Get": "GetDestination", "GetProfile": "GetDestination", "WatchPort": "PortSpec", "WatchPort2": "PortSpec", "Watch": "TrafficSpec"}
 FORMS = {
     "Get": "SERVICE[.NS][:PORT]",
     "GetProfile": "SERVICE[.NS][:PORT] or IP[:PORT]",
     "WatchPort": "NS/POD:PORT",
+    "WatchPort2": "NS/POD:PORT",
     "Watch": "SERVICE[.NS][:PORT] or IP[:PORT]",
 }
 USUAL_PORT = 80
@@ -63,7 +64,7 @@ def quoted(value: str) -> str:
 
 def request_text(method: str, target: str, domain: str, token: str) -> str:
     """The request in protoc's text."""
-    if method == "WatchPort":
+    if method in PORT_METHODS:
         place = pod_port(target)
         return f"workload: {quoted(f'{place.pod.namespace}:{place.pod.name}')} port: {place.port}"
     path = quoted(path_of(method, target, domain))

@@ -23,6 +23,10 @@ REMOVE = field(2, field(1, ADDRESS))
 NO_ENDPOINTS = field(3, b"\x08\x01")
 PROFILE = field(5, b"web.app.svc.cluster.local")
 SERVER = b"\x08\x01\x10\x01"
+AUTHZ = b"\x08\x02" + field(2, b"pa") + field(4, field(1))
+WHOLE = field(1, SERVER)
+PUT = field(2, field(1, AUTHZ))
+GONE = field(3, field(1, b"\x08\x02" + field(2, b"pa")))
 ABSENT = field(1)
 FORWARD = field(3, field(1, field(1, ADDRESS), b"\x18\x90\x4e"))
 SERVICE = field(2, field(1, b"app"), field(2, b"web"), b"\x18\x50")
@@ -34,7 +38,8 @@ class Decode(Case):
     def test_each_message_fits_its_method_alone(self):
         """The shortest messages of each method, and all that the examples give."""
         expected = {"Get": [ADD, REMOVE, NO_ENDPOINTS, field(3)], "GetProfile": [PROFILE, b"\x20\x01"], "WatchPort": [SERVER]}
-        expected["Watch"] = [ABSENT, FORWARD, SERVICE]
+        expected["WatchPort2"] = [WHOLE, field(1, SERVER + field(4, AUTHZ)), PUT, GONE]
+        expected["Watch"] = [FORWARD, SERVICE]
         for method, messages in expected.items():
             for message, other in itertools.product(messages, METHODS):
                 self.assertEqual(other == method, decode_each(other, [message]) != [None], (message, other))
@@ -74,6 +79,30 @@ class Decode(Case):
               policy: ALL_UNAUTHENTICATED
         """)
         self.assertEqual(3, self.decode(frame(b"") + frame(SERVER, 2)).status)
+
+    def test_an_absent_view(self):
+        """It may answer Watch or WatchPort2."""
+        self.require(self.decode(frame(ABSENT)), 3, """
+            frame 1
+              more than one method fits: say 1=WatchPort2 or 1=Watch
+        """)
+        self.require(self.decode(frame(ABSENT), "1=Watch"), 0, """
+            frame 1
+              absent {
+              }
+        """)
+        self.require(self.decode(frame(ABSENT) + frame(GONE)), 0, """
+            frame 1
+              whole {
+              }
+            frame 1
+              gone {
+                keys {
+                  kind: AUTHORIZATION_POLICY
+                  name: "pa"
+                }
+              }
+        """)
 
     def test_another_method_than_is_said(self):
         """The words decide, and the bytes are refused."""

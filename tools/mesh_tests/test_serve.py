@@ -76,6 +76,7 @@ class Serve(Case):
             ("GetProfile", "web.app"): ("--path", service),
             ("Watch", "web.app"): ("--path", service),
             ("WatchPort", "app/web-1:8080"): ("--workload", "app:web-1", "--port", "8080"),
+            ("WatchPort2", "app/web-1:8080"): ("--workload", "app:web-1", "--port", "8080"),
         }
         for (method, target), words in cases.items():
             self.require(self.view(method, target), 0, self.diagnosis(objects, "--method", method, *words))

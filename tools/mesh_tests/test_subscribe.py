@@ -60,6 +60,7 @@ class Subscribe(Case):
             ("GetProfile", "10.96.0.10"): (DESTINATION + b"/GetProfile", field(2, b"10.96.0.10:80")),
             ("Watch", "[fd00::5]:8080"): (b"/io.linkerd.proxy.outbound.OutboundPolicies/Watch", field(3, b"[fd00::5]:8080")),
             ("Watch", "web.app", "--cluster-domain", "k8s"): (b"/io.linkerd.proxy.outbound.OutboundPolicies/Watch", field(3, b"web.app.svc.k8s:80")),
+            ("WatchPort2", "app/web-1:8080"): (b"/io.linkerd.proxy.inbound.InboundServerPolicies/WatchPort2", field(1, b"app:web-1") + b"\x10\x90\x3f"),
             ("WatchPort", "app/web-1:8080"): (b"/io.linkerd.proxy.inbound.InboundServerPolicies/WatchPort", field(1, b"app:web-1") + b"\x10\x90\x3f"),
         }
         for words, (path, message) in cases.items():
@@ -85,6 +86,8 @@ class Subscribe(Case):
         """A target that is none of the method, and a method that is none."""
         run = self.run_tool("subscribe", "127.0.0.1:1", "WatchPort", "web.app:80")
         self.require(run, 2, "", "subscribe: 'web.app:80' is not NS/POD:PORT, as WatchPort takes it\n")
+        run = self.run_tool("subscribe", "127.0.0.1:1", "WatchPort2", "web.app:80")
+        self.require(run, 2, "", "subscribe: 'web.app:80' is not NS/POD:PORT, as WatchPort2 takes it\n")
         self.assertEqual(2, self.run_tool("subscribe", "127.0.0.1:1", "Get", "10.96.0.10:80").status)
         self.assertEqual(2, self.run_tool("subscribe", "127.0.0.1:1", "Post", "web.app").status)
         self.assertEqual(2, self.run_tool("subscribe", "127.0.0.1:1", "Get", "web.app", "--count", "0").status)
