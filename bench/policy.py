@@ -3,15 +3,16 @@
 
     bench/policy.py --program FILE --old FILE   both, in turn, with the ratios of the older to the newer
     bench/policy.py                             the proved program (tools/prove) alone
-    bench/policy.py --rows servers              these rows alone: clusters, servers, simulations, routes, memory
+    bench/policy.py --rows servers              these rows alone: clusters, servers, simulations, routes, authorizations, memory
     bench/policy.py --instructions              instructions as valgrind counts them, which don't depend on what else runs
 
 Each row is one measurement of `replay`, as compare.py says. The time of a change is that of a run less that of a run over the same feed
 without the changes."""
 import json
 import random
+import subprocess
 
-from compare import main
+from compare import Bench, main
 from feed import drain_line, endpoint, slice_line
 from simulations import added, authorizations, line as text_of, pod, route, server, simulation
 
@@ -24,6 +25,7 @@ LINES = 100_000       # of these
 SIMULATED = 10_000, 1_000
 MANY = 2_000          # routes of one Server, and authorizations
 MADE = 100, 5         # simulations over these, and views made anew
+ALLOWED = 1_000       # authorizations of one Server
 OBJECTS, ASKED = 100_000, 10_000
 
 
@@ -41,8 +43,8 @@ def server_of(name, label, **spec):
     return added("policy.linkerd.io/v1beta3", "Server", name, {"podSelector": {"matchLabels": {"app": label}}, "port": 8080, **spec})
 
 
-def watch_line(number, workload):
-    return text_of({"control": "subscribe", "id": number, "query": {"method": "WatchPort", "workload": f"app:{workload}", "port": 8080}})
+def watch_line(number, workload, method="WatchPort"):
+    return text_of({"control": "subscribe", "id": number, "query": {"method": method, "workload": f"app:{workload}", "port": 8080}})
 
 
 def idle_line():
@@ -202,6 +204,43 @@ def routes(bench):
     bench.tell("one of these routes changes, the WatchPort is drained", found, bench.some(MADE[0]))
 
 
+# ------------------------------------------------------------------------------------------------ authorizations
+
+def allowing(number, cidr="10.0.0.0/8"):
+    """One authorization of the Server `web`."""
+    spec = {"server": {"name": "web"}, "client": {"networks": [{"cidr": cidr}], "unauthenticated": True}}
+    return added("policy.linkerd.io/v1beta1", "ServerAuthorization", f"a{number:04}", spec)
+
+
+def allowed(times, method):
+    """A port of a Server with ALLOWED authorizations, one of which changes so often, drained each time."""
+    yield text_of(pod_named("web-1", "web"))
+    yield text_of(server_of("web", "web"))
+    for number in range(ALLOWED):
+        yield text_of(allowing(number))
+    yield watch_line(1, "web-1", method)
+    yield drain_line(1)
+    for time in range(times):
+        yield text_of(allowing(0, f"10.{time % 200}.0.0/16"))
+        yield drain_line(1)
+
+
+def bytes_sent(bench, lines):
+    """The bytes of all frames that the program writes."""
+    with open(bench.write("feed.jsonl", lines), "rb") as source:
+        run = subprocess.run([bench.programs[0], "replay"], stdin=source, capture_output=True, check=True)
+    return sum(len(frame.split()[2]) // 2 for frame in run.stdout.splitlines())
+
+
+def authorizations_of_a_server(bench):
+    """Both versions of the stream. The second is measured of the program alone, since the older one may not know it."""
+    for method, some in (("WatchPort", bench), ("WatchPort2", Bench(bench.programs[:1], bench.meter, bench.folder))):
+        found = some.changes(MADE, lambda count, method=method: allowed(count, method), lambda count: count + 1)
+        some.tell(f"one of {ALLOWED:,} authorizations changes, the {method} is drained", found, some.some(MADE[0]))
+        sent = bytes_sent(bench, allowed(1, method)) - bytes_sent(bench, allowed(0, method))
+        print(f"  one change sends {sent:,} bytes", flush=True)
+
+
 # ------------------------------------------------------------------------------------------------ memory
 
 def held(asked):
@@ -224,7 +263,7 @@ def memory(bench):
             print(f"  a subscription, {name} (to reach: 1.0): {(run.memory - base.memory) * 1024 / ASKED:.2f} KB", flush=True)
 
 
-ROWS = {"clusters": clusters, "servers": servers, "simulations": simulations, "routes": routes, "memory": memory}
+ROWS = {"clusters": clusters, "servers": servers, "simulations": simulations, "routes": routes, "authorizations": authorizations_of_a_server, "memory": memory}
 
 
 if __name__ == "__main__":
