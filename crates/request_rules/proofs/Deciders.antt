@@ -37,10 +37,10 @@ module _ (config : Config) (held : ObjectMap) (at_keys : AtKeys held) (request :
         | false ↦ λ refused. (refl, refused, left)
       ] refl
 
-  -- where nobody who counts admits the client
   abbrev its_place : InForce → Option ℕ
   its_place force = probe_place config request force.protocol force.paths request.http
 
+  -- where nobody who counts admits the client
   probe_is_named : (force : InForce) → NoneAdmits config held request force → (place : Option ℕ) → its_place force ≡ place → IsDecidedBy config held request force (by_probe config request force.policy place)
   probe_is_named force none None is = policy_is_named force (record { none_admits = none; no_probe = is_no_probe config request force request.http refl is })
   probe_is_named force none (Some place) is = (is_probe config request force request.http refl place is, none)

@@ -22,7 +22,8 @@ pub fn rows_show_their_matches()
     ensures { RowsShowTheirMatches }
 {}
 
-/// An allowed client is admitted by the named authorization or by the named policy; a denied one by none.
+/// An allowed client is admitted by the named authorization; or by none, and then as the named probe or by the named policy. A denied
+/// one is admitted by none of these.
 pub fn verdicts_name_their_decider()
     ensures { VerdictsNameTheirDecider }
 {}

@@ -1,4 +1,4 @@
-// What the policy in force says where no authorization admits a client.
+// What the policy in force says where neither an authorization admits a client nor a probe is met.
 ghost use Rattle.std.specs.Prelude.{◌≡◌};
 ghost use Rattle.std.specs.List.{list_any};
 ghost use Rattle.request_rules.specs.Networks.{net_holds};
