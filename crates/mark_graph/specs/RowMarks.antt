@@ -8,6 +8,7 @@ use Rattle.std.specs.BTreeSet as sorted
 use Rattle.std.specs.BTreeSet.{BTreeSet}
 use Rattle.std.specs.Ordering.{eq_by_cmp, nat_cmp}
 use Rattle.std.specs.declared.cmp.Ordering.{Ordering}
+use Rattle.mark_graph.specs.declared.mark_rows.MarkRows.{MarkRows}
 
 -- a list of rows contains the row
 abbrev pub has_row : ℕ → List ℕ → Bool
@@ -54,18 +55,23 @@ module _ {M : Type 0} (cmp : M → M → Ordering) where
   abbrev pub RemovesRow : (M → Bool) → ℕ → BTreeMap M (BTreeSet ℕ) → BTreeMap M (BTreeSet ℕ) → Type 0
   RemovesRow set row old new = (m : M) (r : ℕ) → row_at new m r ≡ (not (set m && nat_eq r row) && row_at old m r)
 
-  -- the row, which stood at the old marks, stands at the new ones, and else each row where it stood
-  abbrev pub MovesRow : BTreeSet M → BTreeSet M → ℕ → BTreeMap M (BTreeSet ℕ) → BTreeMap M (BTreeSet ℕ) → Type 0
-  MovesRow from to row old new = (m : M) (r : ℕ) → row_at old m row ≡ sorted.contains cmp from m
-      → row_at new m r ≡ (if nat_eq r row then sorted.contains cmp to m else row_at old m r)
-
   -- the row watches the marks of the set alone, and each other row what it watched
   abbrev pub Rewatches : (M → Bool) → ℕ → BTreeMap ℕ (BTreeSet M) → BTreeMap ℕ (BTreeSet M) → Type 0
   Rewatches set row old new = (r : ℕ) (m : M) → watches new r m ≡ (if nat_eq r row then set m else watches old r m)
 
-  -- a row stands at a mark exactly where it watches it
-  abbrev pub Agree : BTreeMap M (BTreeSet ℕ) → BTreeMap ℕ (BTreeSet M) → Type 0
-  Agree by_mark rows = (m : M) (r : ℕ) → row_at by_mark m r ≡ watches rows r m
+  -- the row watches the marks, and is not new
+  abbrev pub stands : MarkRows M → (M → Bool) → M → ℕ → Bool
+  stands at_marks set mark row = not (sorted.contains nat_cmp at_marks.new_rows row) && set mark
+
+  -- a row stands at a mark exactly where it watches it, unless it is new
+  abbrev pub Agree : MarkRows M → BTreeMap ℕ (BTreeSet M) → Type 0
+  Agree at_marks rows = (m : M) (r : ℕ) → row_at at_marks.by_mark m r ≡ stands at_marks (watches rows r) m r
+
+  -- The row, which watched the old marks, watches the new ones, and each other row stands where it stood.
+  pub record StandsAfter (from to : M → Bool) (row : ℕ) (old new : MarkRows M) : Type 0 where
+    pub own : ((m : M) → row_at old.by_mark m row ≡ stands old from m row) → (m : M) → row_at new.by_mark m row ≡ stands new to m row
+    pub others : (r : ℕ) → nat_eq r row ≡ false → (m : M) → row_at new.by_mark m r ≡ row_at old.by_mark m r
+    pub as_new : (r : ℕ) → nat_eq r row ≡ false → sorted.contains nat_cmp new.new_rows r ≡ sorted.contains nat_cmp old.new_rows r
 
   -- each mark that is kept has a row
   abbrev pub AllHaveRows : BTreeMap M (BTreeSet ℕ) → Type 0

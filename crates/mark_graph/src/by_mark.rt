@@ -4,7 +4,7 @@ ghost use Rattle.std.specs.BTreeSet.{contains};
 ghost use Rattle.std.specs.List.{list_any};
 ghost use Rattle.std.specs.List.Sorted.{IsStrictlySortedBy};
 ghost use Rattle.std.specs.Ordering.{eq_by_cmp, nat_cmp};
-ghost use Rattle.mark_graph.specs.RowMarks.{AddsRow, AllHaveRows, Gathers, OthersHaveRows, RemovesRow, has_mark, is_only_in, row_at};
+ghost use Rattle.mark_graph.specs.RowMarks.{AddsRow, AllHaveRows, Gathers, OthersHaveRows, RemovesRow, has_mark, has_row, is_only_in, row_at};
 
 use crate::sorted_set::SortedSet;
 use mesh_base::copied::Copied;
@@ -146,6 +146,21 @@ pub fn set_of<M: Ord + Copied>(alloc: Global, marks: List<M>) -> Result<BTreeSet
         set.insert(mark)?;
     }
     Ok(set)
+}
+
+/// The rows at these marks, ascending and each once.
+pub fn rows_at<M: Ord + Copied>(
+    alloc: Global,
+    by: &BTreeMap<M, SortedSet<u64>>,
+    marks: &[M],
+) -> Result<List<u64>, Memory>
+    ensures rows { IfOk result (λ rows. (r : ℕ)
+        → has_row r rows ≡ list_any (λ m. row_at M.cmp by.now m r) marks.now) }
+    ensures in_order { IfOk result (λ rows. IsStrictlySortedBy nat_cmp rows) }
+{
+    let mut set = BTreeSet::new(alloc);
+    gather_all(by, marks, &mut set)?;
+    list_of(alloc, set)
 }
 
 /// Adds the rows at these marks to a set.

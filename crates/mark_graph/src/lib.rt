@@ -5,5 +5,6 @@
 
 pub mod by_mark;
 pub mod graph;
+pub mod mark_rows;
 pub mod moves;
 pub mod sorted_set;

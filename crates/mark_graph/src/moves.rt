@@ -46,7 +46,7 @@ fn take_all<M: Ord + Copied>(by: &mut BTreeMap<M, SortedSet<u64>>, marks: &[M], 
 }
 
 /// Adds a row at each of these marks.
-fn put_all<M: Ord + Copied>(
+pub(crate) fn put_all<M: Ord + Copied>(
     alloc: Global,
     by: &mut BTreeMap<M, SortedSet<u64>>,
     marks: &[M],

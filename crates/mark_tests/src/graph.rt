@@ -1,4 +1,5 @@
 use mark_graph::graph::Graph;
+use mark_graph::moves::MarkMoves;
 use mesh_base::list::List;
 use std::alloc::Global;
 use std::test::Fail;
@@ -22,5 +23,25 @@ fn rows_at_marks(rt: HostRuntime) -> Result<(), Fail> {
     assert_eq!(rt; graph.due(&[1])?.len(), 0);
     graph.unwatch(3);
     assert_eq!(rt; graph.due(&[2])?.len(), 0);
+    Ok(())
+}
+
+// A row that came since rows were asked for moves and goes as others do.
+#[test]
+fn new_rows(rt: HostRuntime) -> Result<(), Fail> {
+    let alloc = rt.alloc();
+    let mut graph: Graph<u32> = Graph::new(alloc);
+    graph.watch(1, list(alloc, &[5])?)?;
+    graph.watch(2, list(alloc, &[5, 6])?)?;
+    let gone = list(alloc, &[5])?;
+    let come = list(alloc, &[7])?;
+    graph.move_marks(2, MarkMoves { gone, come })?;
+    graph.unwatch(1);
+    assert_eq!(rt; graph.due(&[5])?.len(), 0);
+    assert_eq!(rt; graph.due(&[6, 7])?.as_slice(), [2].as_slice());
+    graph.watch(1, list(alloc, &[5, 6])?)?;
+    graph.watch(1, list(alloc, &[6])?)?;
+    assert_eq!(rt; graph.due(&[5])?.len(), 0);
+    assert_eq!(rt; graph.due(&[6])?.as_slice(), [1, 2].as_slice());
     Ok(())
 }

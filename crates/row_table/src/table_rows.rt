@@ -188,7 +188,7 @@ impl<F: RowRule> TableRows<F> {
             (λ key. cost by.now.after.store.now.objects
             ((F.filter by.now.rule.now).reads by.now.after.store.now.objects key)) keys) }
     {
-        let numbers = due(&self.graph, by.after.change.marks.as_slice())?;
+        let numbers = due(&mut self.graph, by.after.change.marks.as_slice())?;
         let mut pass = Pass {
             keys: List::new(self.alloc),
             notes: by.rule.no_notes(self.alloc),

@@ -55,10 +55,11 @@ pub fn unwatch(graph: &mut Graph<Mark>, number: u64)
 }
 
 /// The numbers that watch one of these marks, ascending.
-pub fn due(graph: &Graph<Mark>, marks: &[Mark]) -> Result<List<u64>, Memory>
+pub fn due(graph: &mut Graph<Mark>, marks: &[Mark]) -> Result<List<u64>, Memory>
     ensures due { IfOk result (λ numbers. (n : ℕ)
-        → has_row n numbers ≡ list_any (λ mark. watches mark_cmp graph.now.rows n mark) marks.now) }
+        → has_row n numbers ≡ list_any (λ mark. watches mark_cmp graph.old.rows n mark) marks.now) }
     ensures in_order { IfOk result (λ numbers. IsStrictlySortedBy nat_cmp numbers) }
+    ensures same { graph.new.rows ≡ graph.old.rows }
 {
     graph.due(marks)
 }

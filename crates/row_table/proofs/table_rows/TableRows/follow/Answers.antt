@@ -1,5 +1,7 @@
-use Rattle.std.proofs.Common.{◌≡◌, ◌+◌, ◌++◌, ◌∷◌, [], false, List, get_or, take, sym, ap, subst, ◌∙◌, refl, arith}
+use Rattle.std.proofs.Common.{◌≡◌, ◌+◌, ◌++◌, ◌∷◌, [], ℕ, false, List, get_or, take, sym, ap, subst, ◌∙◌, refl, arith}
 use Rattle.std.specs.BTreeMap as tree
+use Rattle.std.specs.BTreeMap.{BTreeMap}
+use Rattle.std.specs.BTreeSet.{BTreeSet}
 use Rattle.std.specs.List.{IsDistinct, sum_by}
 use Rattle.std.specs.List.Sorted.{IsStrictlySortedBy}
 use Rattle.std.specs.Option.{option_to_list}
@@ -10,7 +12,7 @@ use Rattle.view_types.specs.declared.mark.Mark.{Mark}
 use Rattle.mark_graph.specs.RowMarks.{has_row}
 use Rattle.mark_rules.specs.Reads.{cost}
 use Rattle.row_table.specs.IndexRows.{AreMet, has_key}
-use Rattle.row_table.specs.TableRows.{Follow, is_among, marks_of, number_in, row_at}
+use Rattle.row_table.specs.TableRows.{AreTied, Follow, is_among, marks_of, number_in, row_at}
 use Rattle.row_table.proofs.Followed.{added_apart, all_met, among_start, among_step, follow_more, fresh_at, once_more}
 use Rattle.row_table.proofs.Keys.{distinct_none}
 use Rattle.row_table.proofs.table_rows.TableRows.follow.Goals as goal
@@ -24,7 +26,7 @@ loop-number-init g c =
     let by = c.args.by.now in
     rw c.new.ensures (record {
       keys = refl;
-      tied = c.requires.tied;
+      tied = subst (λ (watched : BTreeMap ℕ (BTreeSet Mark)). AreTied cmp g.F.RowRule.marks_in self.rows self.keys watched self.next) (sym c.in_ok-numbers.ensures.same) c.requires.tied;
       notes = c.no_notes.ensures by.after.store.now.objects by.after.change.now;
       rows = λ k. refl;
       among = among_start cmp total exact g.F.RowRule.marks_in self.rows self.keys self.graph.rows self.next c.requires.tied;
