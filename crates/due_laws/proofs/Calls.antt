@@ -12,7 +12,6 @@ use Rattle.watch_events.specs.declared.line.Line.TheVariants as lines
 use Rattle.watch_events.specs.declared.line.LineFault.{LineFault}
 use Rattle.feed_history.specs.Due.{due_after, is_due, is_touched}
 use Rattle.feed_history.specs.History.{Asked, State, after, asked_at, hub_refusal, refusal_of}
-use Rattle.feed_history.specs.Live.{live_at}
 use Rattle.feed_history.specs.Live as history
 use Rattle.feed_history.specs.Ids.{unknown_refusal}
 use Rattle.feed_history.specs.Marks.{MarkedRow}

@@ -1,9 +1,9 @@
 -- The names of what is held have no LF. So none stands in the names of who decides on a request, nor in those of a route whose pattern a
 -- simulation meets.
-use Rattle.std.proofs.Common.{◌≡◌, ℕ, zero, suc, Bool, true, false, ◌&&◌, List, [], ◌∷◌, ◌++◌, Option, Some, None, IfSome, if◌then◌else◌, refl, sym, ap, subst, inl, inr, arith}
+use Rattle.std.proofs.Common.{◌≡◌, ℕ, Bool, true, false, ◌&&◌, List, ◌++◌, Option, Some, None, IfSome, if◌then◌else◌, refl, sym, ap, subst, arith}
 use Rattle.std.specs.Prelude.{◌==◌, codes, find, map}
 use Rattle.std.specs.FinMap.{get, values}
-use Rattle.std.specs.List.{AllByRecursion, filter, filter_map, slice_get}
+use Rattle.std.specs.List.{AllByRecursion, filter, filter_map}
 use Rattle.std.proofs.lemmas.Bool.Decides.{nat_tests}
 use Rattle.mesh_base.specs.declared.key.ObjKey.{ObjKey}
 use Rattle.mesh_base.proofs.KeyOrder.{keys_total}

@@ -1,6 +1,6 @@
 -- That a subscriber's frames and the objects agree: who folds the output of a replay is written the lines of the view that filters over
 -- the objects give.
-use Rattle.std.specs.Prelude.{◌≡◌, ◌<◌, ◌≤◌, ◌^◌, ℕ, Bool, List, Option, Some, length}
+use Rattle.std.specs.Prelude.{◌≡◌, ◌<◌, ◌≤◌, ◌^◌, ℕ, List, Some, length}
 use Rattle.std.specs.List.{AllByRecursion}
 use Rattle.line_run.specs.Rows.{lines_of}
 use Rattle.view_types.specs.declared.query.Method.{Method}

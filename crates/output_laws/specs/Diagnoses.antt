@@ -1,5 +1,5 @@
 -- A subscriber's frames and the objects agree: a fold of a replay's output and a diagnosis of its input write the same view lines.
-use Rattle.std.specs.Prelude.{◌≡◌, ◌≤◌, ◌<◌, ◌^◌, ◌++◌, length, ℕ, Bool, List, [], Option, Some}
+use Rattle.std.specs.Prelude.{◌≡◌, ◌≤◌, ◌<◌, ◌^◌, ◌++◌, length, ℕ, Bool, List, [], Some}
 use Rattle.line_run.specs.Rows.{past_of}
 use Rattle.mesh_base.specs.declared.limits.Limits.{Limits}
 use Rattle.route_match.specs.Matching.{Pat}
