@@ -1,7 +1,7 @@
 use crate::rows::split;
-use mesh_base::list::List;
 use proto_wire::fault::WireFault;
 use proto_wire::frame::frame;
+use proto_wire::front::FrontBytes;
 use proto_wire::record::{Rec, WireValue};
 use proto_wire::scan::{records, scan};
 use proto_wire::writing::{put_chunk, put_fixed32, put_fixed64, put_number, put_varint};
@@ -169,18 +169,20 @@ fn a_scan_has_what_stands_before_the_fault(rt: HostRuntime) -> Result<(), Fail> 
     Ok(())
 }
 
-// Each varint is written behind a byte that stays, and is read again.
+// Each varint is written before a byte that stays, and is read again.
 #[test]
 fn numbers_have_their_varints(rt: HostRuntime) -> Result<(), Fail> {
     let alloc = rt.alloc();
     for row in VARINTS.lines() {
         let (number, expected) = split(row)?;
-        let mut out = List::new(alloc);
-        out.extend_from_slice(b"\x08")?;
+        let mut out = FrontBytes::with_room(alloc, 0)?;
+        out.put(b"\xff")?;
         put_varint(&mut out, number.parse()?)?;
+        out.put(b"\x08")?;
         let hex = hex::encode(alloc, out.as_slice())?;
-        assert_eq!(rt; hex.strip_prefix("08"), Some(expected), "at {row}");
-        let read = read(alloc, &hex)?;
+        let message = hex.strip_suffix("ff").unwrap_or("");
+        assert_eq!(rt; message.strip_prefix("08"), Some(expected), "at {row}");
+        let read = read(alloc, message)?;
         assert_eq!(rt; read.strip_prefix("1 VARINT "), Some(number), "at {row}");
     }
     Ok(())
@@ -190,11 +192,11 @@ fn numbers_have_their_varints(rt: HostRuntime) -> Result<(), Fail> {
 #[test]
 fn known_values_have_known_bytes(rt: HostRuntime) -> Result<(), Fail> {
     let alloc = rt.alloc();
-    let mut message = List::new(alloc);
-    put_number(&mut message, 1, 150)?;
-    put_chunk(&mut message, 2, b"testing")?;
-    put_fixed32(&mut message, 3, 1)?;
+    let mut message = FrontBytes::with_room(alloc, 0)?;
     put_fixed64(&mut message, 4, 1)?;
+    put_fixed32(&mut message, 3, 1)?;
+    put_chunk(&mut message, 2, b"testing")?;
+    put_number(&mut message, 1, 150)?;
     let want = concat!(
         "000000001a",
         "089601",

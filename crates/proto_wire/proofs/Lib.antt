@@ -8,5 +8,6 @@ pub mod Round
 mod Scans
 pub mod Spellings
 pub mod Streams
-mod Varint
 mod VarintRead
+pub mod Varints
+pub mod Written

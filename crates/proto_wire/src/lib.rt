@@ -8,6 +8,7 @@
 
 pub mod fault;
 pub mod frame;
+pub mod front;
 pub mod laws;
 pub mod record;
 pub mod scan;

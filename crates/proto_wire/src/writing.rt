@@ -1,69 +1,88 @@
-//! Writing records, in the canonical spelling.
-ghost use Rattle.std.specs.Prelude.{◌≡◌, ◌++◌, OnOk, OnErr};
-ghost use Rattle.proto_wire.specs.Wire.{varint, spelled};
+//! Writing records, in the canonical spelling. A message is written from its last record to its first, each before the
+//! bytes that are there: so its length is known when its head is written, and no message is copied into another.
+ghost use Rattle.std.specs.Prelude.{◌≡◌, ◌+◌, ◌*◌, ◌^◌, ◌<◌, ◌++◌, ℕ, List, length, OnOk};
+ghost use Rattle.proto_wire.specs.Wire.{spelled, varint, varint_up_to};
+ghost use Rattle.proto_wire.specs.declared.record.WireValue.TheVariants.{Varint, Fixed64, Fixed32, Chunk};
 
-use crate::record::{Rec, WireValue};
-use mesh_base::list::List;
+use crate::front::FrontBytes;
 use mesh_base::memory::Memory;
 
-/// Writes the shortest varint of a number at the end.
-pub fn put_varint(out: &mut List<u8>, number: u64) -> Result<(), Memory>
-    ensures ok { OnOk result (out.new ≡ out.old ++ varint number) }
-    ensures err { OnErr result (out.new ≡ out.old) }
+/// Puts the shortest varint of a number, of at most so many bytes before its last.
+#[tactic(auto, using(crate::proofs::Varints::varints))]
+fn put_varint_of(out: &mut FrontBytes, more: u32, number: u64) -> Result<(), Memory>
+    requires { number < 2 * 128 ^ more }
+    ensures { OnOk result (out.new ≡ varint_up_to more number ++ out.old) }
 {
-    let mut bytes = [0; 10];
-    let mut len = 0;
-    let mut left = number;
-    while left >= 128 {
-        bytes[len] = (left % 128) as u8 + 128;
-        len += 1;
-        left /= 128;
+    if number < 128 {
+        return out.put(&[number as u8]);
     }
-    bytes[len] = left as u8;
-    out.extend_from_slice(&bytes[..=len])
+    put_varint_of(out, more - 1, number / 128)?;
+    out.put(&[(number % 128) as u8 + 128])
 }
 
-/// Writes a record of a number at the end. If memory runs out, a part may be written.
-#[tactic(auto, unfolding(crate::specs::Wire::spelled))]
-pub fn put_number(out: &mut List<u8>, field: u32, number: u64) -> Result<(), Memory>
-    ensures { OnOk result
-        (out.new ≡ out.old
-        ++ spelled (record { number = field; value = WireValue.Varint number })) }
+/// Puts the shortest varint of a number.
+pub fn put_varint(out: &mut FrontBytes, number: u64) -> Result<(), Memory>
+    ensures { OnOk result (out.new ≡ varint number ++ out.old) }
 {
-    put_varint(out, field as u64 * 8)?;
-    put_varint(out, number)
+    put_varint_of(out, 9, number)
 }
 
-/// Writes a record of eight bytes at the end. If memory runs out, a part may be written.
-#[tactic(auto, unfolding(crate::specs::Wire::spelled))]
-pub fn put_fixed64(out: &mut List<u8>, field: u32, number: u64) -> Result<(), Memory>
-    ensures { OnOk result
-        (out.new ≡ out.old
-        ++ spelled (record { number = field; value = WireValue.Fixed64 number })) }
+/// Puts a field's number and its wire type.
+fn put_tag(out: &mut FrontBytes, field: u32, wire_type: u64) -> Result<(), Memory>
+    requires { wire_type < 8 }
+    ensures { OnOk result (out.new ≡ varint (field * 8 + wire_type) ++ out.old) }
 {
-    put_varint(out, field as u64 * 8 + 1)?;
-    out.extend_from_slice(&number.to_le_bytes())
+    put_varint(out, field as u64 * 8 + wire_type)
 }
 
-/// Writes a record of four bytes at the end. If memory runs out, a part may be written.
-#[tactic(auto, unfolding(crate::specs::Wire::spelled))]
-pub fn put_fixed32(out: &mut List<u8>, field: u32, number: u32) -> Result<(), Memory>
+/// Writes a record of a number.
+#[tactic(auto, using(crate::proofs::Spellings::spellings), unfolding(crate::specs::Wire::spelled))]
+pub fn put_number(out: &mut FrontBytes, field: u32, number: u64) -> Result<(), Memory>
     ensures { OnOk result
-        (out.new ≡ out.old
-        ++ spelled (record { number = field; value = WireValue.Fixed32 number })) }
+        (out.new ≡ spelled (record { number = field; value = Varint number }) ++ out.old) }
 {
-    put_varint(out, field as u64 * 8 + 5)?;
-    out.extend_from_slice(&number.to_le_bytes())
+    put_varint(out, number)?;
+    put_tag(out, field, 0)
 }
 
-/// Writes a record of a text, bytes or a nested message at the end. If memory runs out, a part may be written.
-#[tactic(auto, unfolding(crate::specs::Wire::spelled))]
-pub fn put_chunk(out: &mut List<u8>, field: u32, bytes: &[u8]) -> Result<(), Memory>
+/// Writes a record of eight bytes.
+#[tactic(auto, using(crate::proofs::Spellings::spellings), unfolding(crate::specs::Wire::spelled))]
+pub fn put_fixed64(out: &mut FrontBytes, field: u32, number: u64) -> Result<(), Memory>
     ensures { OnOk result
-        (out.new ≡ out.old
-        ++ spelled (record { number = field; value = WireValue.Chunk bytes.now })) }
+        (out.new ≡ spelled (record { number = field; value = Fixed64 number }) ++ out.old) }
 {
-    put_varint(out, field as u64 * 8 + 2)?;
+    out.put(&number.to_le_bytes())?;
+    put_tag(out, field, 1)
+}
+
+/// Writes a record of four bytes.
+#[tactic(auto, using(crate::proofs::Spellings::spellings), unfolding(crate::specs::Wire::spelled))]
+pub fn put_fixed32(out: &mut FrontBytes, field: u32, number: u32) -> Result<(), Memory>
+    ensures { OnOk result
+        (out.new ≡ spelled (record { number = field; value = Fixed32 number }) ++ out.old) }
+{
+    out.put(&number.to_le_bytes())?;
+    put_tag(out, field, 5)
+}
+
+/// Writes a record of a text, bytes or a nested message.
+#[tactic(auto, using(crate::proofs::Spellings::spellings), unfolding(crate::specs::Wire::spelled))]
+pub fn put_chunk(out: &mut FrontBytes, field: u32, bytes: &[u8]) -> Result<(), Memory>
+    ensures { OnOk result
+        (out.new ≡ spelled (record { number = field; value = Chunk bytes.now }) ++ out.old) }
+{
+    out.put(bytes)?;
     put_varint(out, bytes.len() as u64)?;
-    out.extend_from_slice(bytes)
+    put_tag(out, field, 2)
+}
+
+/// Makes a record of the message that lies before the last so many bytes.
+pub fn put_head(out: &mut FrontBytes, field: u32, end: usize) -> Result<(), Memory>
+    ensures { OnOk result
+        ((body rest : List ℕ) → out.old ≡ body ++ rest → length rest ≡ end
+        → out.new ≡ spelled (record { number = field; value = Chunk body }) ++ rest) }
+{
+    let len = out.len().saturating_sub(end);
+    put_varint(out, len as u64)?;
+    put_tag(out, field, 2)
 }

@@ -9,33 +9,35 @@ ghost use Rattle.proxy_proto.specs.Profiles.{duration_records};
 
 use crate::fields::put_number_field;
 use crate::look_up::{body, number_in, records_in, value_at};
-use mesh_base::list::List;
 use mesh_base::memory::Memory;
+use proto_wire::front::FrontBytes;
 use proto_wire::scan::RecRef;
-use proto_wire::writing::put_chunk;
+use proto_wire::writing::put_head;
 use std::alloc::Global;
 
 /// How many nanoseconds a second has.
 const SECOND: u64 = 1_000_000_000;
 
-/// Writes a duration of nanoseconds that is there.
 #[tactic(auto, using(proto_wire::proofs::Spellings::spellings), unfolding(crate::specs::Profiles::duration_records))]
-pub fn put_duration(
-    alloc: Global,
-    out: &mut List<u8>,
-    field: u32,
-    duration: Option<u64>,
-) -> Result<(), Memory>
+fn put_nanoseconds(out: &mut FrontBytes, nanoseconds: u64) -> Result<(), Memory>
+    ensures { OnOk result (out.new ≡ spelling (duration_records nanoseconds) ++ out.old) }
+{
+    put_number_field(out, 2, nanoseconds % SECOND)?;
+    put_number_field(out, 1, nanoseconds / SECOND)
+}
+
+/// Writes a duration of nanoseconds that is there.
+#[tactic(auto, using(proto_wire::proofs::Spellings::spellings))]
+pub fn put_duration(out: &mut FrontBytes, field: u32, duration: Option<u64>) -> Result<(), Memory>
     ensures { OnOk result
-        (out.new ≡ out.old ++ spelling (optional_field field duration_records duration)) }
+        (out.new ≡ spelling (optional_field field duration_records duration) ++ out.old) }
 {
     let Some(nanoseconds) = duration else {
         return Ok(());
     };
-    let mut inside = List::new(alloc);
-    put_number_field(&mut inside, 1, nanoseconds / SECOND)?;
-    put_number_field(&mut inside, 2, nanoseconds % SECOND)?;
-    put_chunk(out, field, inside.as_slice())
+    let end = out.len();
+    put_nanoseconds(out, nanoseconds)?;
+    put_head(out, field, end)
 }
 
 /// A duration in nanoseconds, however long.

@@ -1,17 +1,17 @@
-//! Fields whose zero is left out.
+//! Fields whose zero is left out. Each is written before the bytes that are there.
 ghost use Rattle.std.specs.Prelude.{◌≡◌, ◌++◌, OnOk};
 ghost use Rattle.proto_wire.specs.Wire.{spelling};
 ghost use Rattle.proxy_proto.specs.FieldRecords.{number_field, fixed64_field, bool_field, text_field, optional_text, optional_number, texts_field};
 
-use mesh_base::list::List;
 use mesh_base::memory::Memory;
 use mesh_base::text::Text;
+use proto_wire::front::FrontBytes;
 use proto_wire::writing::{put_chunk, put_fixed64, put_number};
 
 /// Writes a number, and nothing for 0.
 #[tactic(auto, using(proto_wire::proofs::Spellings::spellings))]
-pub fn put_number_field(out: &mut List<u8>, field: u32, number: u64) -> Result<(), Memory>
-    ensures { OnOk result (out.new ≡ out.old ++ spelling (number_field field number)) }
+pub fn put_number_field(out: &mut FrontBytes, field: u32, number: u64) -> Result<(), Memory>
+    ensures { OnOk result (out.new ≡ spelling (number_field field number) ++ out.old) }
 {
     if number == 0 {
         return Ok(());
@@ -21,8 +21,8 @@ pub fn put_number_field(out: &mut List<u8>, field: u32, number: u64) -> Result<(
 
 /// Writes eight bytes, and nothing for 0.
 #[tactic(auto, using(proto_wire::proofs::Spellings::spellings))]
-pub fn put_fixed64_field(out: &mut List<u8>, field: u32, number: u64) -> Result<(), Memory>
-    ensures { OnOk result (out.new ≡ out.old ++ spelling (fixed64_field field number)) }
+pub fn put_fixed64_field(out: &mut FrontBytes, field: u32, number: u64) -> Result<(), Memory>
+    ensures { OnOk result (out.new ≡ spelling (fixed64_field field number) ++ out.old) }
 {
     if number == 0 {
         return Ok(());
@@ -32,8 +32,8 @@ pub fn put_fixed64_field(out: &mut List<u8>, field: u32, number: u64) -> Result<
 
 /// Writes a flag that is set, and nothing for false.
 #[tactic(auto, using(proto_wire::proofs::Spellings::spellings))]
-pub fn put_bool_field(out: &mut List<u8>, field: u32, flag: bool) -> Result<(), Memory>
-    ensures { OnOk result (out.new ≡ out.old ++ spelling (bool_field field flag)) }
+pub fn put_bool_field(out: &mut FrontBytes, field: u32, flag: bool) -> Result<(), Memory>
+    ensures { OnOk result (out.new ≡ spelling (bool_field field flag) ++ out.old) }
 {
     if !flag {
         return Ok(());
@@ -43,8 +43,8 @@ pub fn put_bool_field(out: &mut List<u8>, field: u32, flag: bool) -> Result<(), 
 
 /// Writes a text, and nothing for the empty one.
 #[tactic(auto, using(proto_wire::proofs::Spellings::spellings))]
-pub fn put_text_field(out: &mut List<u8>, field: u32, text: &[u8]) -> Result<(), Memory>
-    ensures { OnOk result (out.new ≡ out.old ++ spelling (text_field field text.now)) }
+pub fn put_text_field(out: &mut FrontBytes, field: u32, text: &[u8]) -> Result<(), Memory>
+    ensures { OnOk result (out.new ≡ spelling (text_field field text.now) ++ out.old) }
 {
     if text.is_empty() {
         return Ok(());
@@ -54,8 +54,12 @@ pub fn put_text_field(out: &mut List<u8>, field: u32, text: &[u8]) -> Result<(),
 
 /// Writes a text that is there, and nothing for the empty one.
 #[tactic(auto, using(proto_wire::proofs::Spellings::spellings))]
-pub fn put_optional_text(out: &mut List<u8>, field: u32, text: &Option<Text>) -> Result<(), Memory>
-    ensures { OnOk result (out.new ≡ out.old ++ spelling (optional_text field text.now)) }
+pub fn put_optional_text(
+    out: &mut FrontBytes,
+    field: u32,
+    text: &Option<Text>,
+) -> Result<(), Memory>
+    ensures { OnOk result (out.new ≡ spelling (optional_text field text.now) ++ out.old) }
 {
     match text {
         Some(text) => put_text_field(out, field, text.as_bytes()),
@@ -66,11 +70,11 @@ pub fn put_optional_text(out: &mut List<u8>, field: u32, text: &Option<Text>) ->
 /// Writes a number that is there, and nothing for 0.
 #[tactic(auto, using(proto_wire::proofs::Spellings::spellings))]
 pub fn put_optional_number(
-    out: &mut List<u8>,
+    out: &mut FrontBytes,
     field: u32,
     number: Option<u16>,
 ) -> Result<(), Memory>
-    ensures { OnOk result (out.new ≡ out.old ++ spelling (optional_number field number)) }
+    ensures { OnOk result (out.new ≡ spelling (optional_number field number) ++ out.old) }
 {
     match number {
         Some(number) => put_number_field(out, field, number as u64),
@@ -80,11 +84,11 @@ pub fn put_optional_number(
 
 /// Writes the texts of a repeated field.
 #[tactic(auto, using(proto_wire::proofs::Spellings::spellings))]
-pub fn put_texts(out: &mut List<u8>, field: u32, texts: &[Text]) -> Result<(), Memory>
-    ensures { OnOk result (out.new ≡ out.old ++ spelling (texts_field field texts.now)) }
+pub fn put_texts(out: &mut FrontBytes, field: u32, texts: &[Text]) -> Result<(), Memory>
+    ensures { OnOk result (out.new ≡ spelling (texts_field field texts.now) ++ out.old) }
 {
-    for text in texts {
-        put_chunk(out, field, text.as_bytes())?;
+    for at in (0..texts.len()).rev() {
+        put_chunk(out, field, texts[at].as_bytes())?;
     }
     Ok(())
 }

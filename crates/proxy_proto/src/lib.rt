@@ -2,9 +2,9 @@
 //! canonical spelling, and is read strictly: each list of bytes says one thing, or has one fault.
 //!
 //! Stands on view_types, whose messages it writes and reads, on mesh_text for what requests hold, and on proto_wire. The
-//! writers cite `specs/Messages`, which gives the records of each message. The readers cite `specs/MessageReading` and
-//! `specs/RequestReading`: the first fault of `specs/Faults` over the fields of `specs/Tables`, and else what the
-//! records say.
+//! writers cite `specs/Messages`, which gives the records of each message; each puts its records before the bytes that
+//! are there. The readers cite `specs/MessageReading` and `specs/RequestReading`: the first fault of `specs/Faults` over
+//! the fields of `specs/Tables`, and else what the records say.
 #![tactic(auto)]
 
 mod authz;

@@ -3,48 +3,37 @@ ghost use Rattle.proto_wire.specs.declared.record.Rec.{Rec};
 ghost use Rattle.proto_wire.specs.Wire.{spelled, spelling};
 ghost use Rattle.proxy_proto.specs.FieldRecords.{chunk, each_field};
 
-use mesh_base::list::List;
 use mesh_base::memory::Memory;
-use proto_wire::writing::put_chunk;
-use std::alloc::Global;
+use proto_wire::front::FrontBytes;
+use proto_wire::writing::put_head;
 
 /// A message that stands inside others.
 pub trait Part: Sized {
     /// The records that it is written as.
     ghost records: { Self → List Rec };
 
-    /// Writes its records at the end.
-    fn write(&self, alloc: Global, out: &mut List<u8>) -> Result<(), Memory>
-        ensures { OnOk result (out.new ≡ out.old ++ spelling (records self.now)) };
+    /// Writes its records, from the last to the first, before the bytes that are there.
+    fn write(&self, out: &mut FrontBytes) -> Result<(), Memory>
+        ensures { OnOk result (out.new ≡ spelling (records self.now) ++ out.old) };
 }
 
 /// Writes a message in a field.
-pub fn write_in<T: Part>(
-    alloc: Global,
-    out: &mut List<u8>,
-    field: u32,
-    part: &T,
-) -> Result<(), Memory>
+pub fn write_in<T: Part>(out: &mut FrontBytes, field: u32, part: &T) -> Result<(), Memory>
     ensures { OnOk result
-        (out.new ≡ out.old ++ spelled (chunk field (spelling (T.records part.now)))) }
+        (out.new ≡ spelled (chunk field (spelling (T.records part.now))) ++ out.old) }
 {
-    let mut inside = List::new(alloc);
-    part.write(alloc, &mut inside)?;
-    put_chunk(out, field, inside.as_slice())
+    let end = out.len();
+    part.write(out)?;
+    put_head(out, field, end)
 }
 
 /// Writes the messages of a repeated field.
 #[tactic(auto, using(proto_wire::proofs::Spellings::spellings))]
-pub fn write_each<T: Part>(
-    alloc: Global,
-    out: &mut List<u8>,
-    field: u32,
-    parts: &[T],
-) -> Result<(), Memory>
-    ensures { OnOk result (out.new ≡ out.old ++ spelling (each_field field T.records parts.now)) }
+pub fn write_each<T: Part>(out: &mut FrontBytes, field: u32, parts: &[T]) -> Result<(), Memory>
+    ensures { OnOk result (out.new ≡ spelling (each_field field T.records parts.now) ++ out.old) }
 {
-    for part in parts {
-        write_in(alloc, out, field, part)?;
+    for at in (0..parts.len()).rev() {
+        write_in(out, field, &parts[at])?;
     }
     Ok(())
 }

@@ -11,8 +11,8 @@ use crate::part::{Part, write_each, write_in};
 use mesh_base::list::List;
 use mesh_base::memory::Memory;
 use mesh_base::text::Text;
-use proto_wire::writing::put_chunk;
-use std::alloc::Global;
+use proto_wire::front::FrontBytes;
+use proto_wire::writing::{put_chunk, put_head};
 use view_types::endpoint::EndpointRow;
 use view_types::outbound::OutboundView;
 use view_types::policy::{Policy, Protocol};
@@ -48,13 +48,13 @@ impl Part for ServerRow {
     ghost records = { server_row_records };
 
     #[tactic(auto, using(proto_wire::proofs::Spellings::spellings), unfolding(crate::specs::Policies::server_row_records))]
-    fn write(&self, alloc: Global, out: &mut List<u8>) -> Result<(), Memory> {
-        put_number_field(out, 1, protocol_number(self.protocol))?;
-        put_number_field(out, 2, policy_number(self.policy))?;
+    fn write(&self, out: &mut FrontBytes) -> Result<(), Memory> {
+        put_texts(out, 6, self.probes.as_slice())?;
+        write_each(out, 5, self.routes.as_slice())?;
+        write_each(out, 4, self.authz.as_slice())?;
         put_optional_text(out, 3, &self.server)?;
-        write_each(alloc, out, 4, self.authz.as_slice())?;
-        write_each(alloc, out, 5, self.routes.as_slice())?;
-        put_texts(out, 6, self.probes.as_slice())
+        put_number_field(out, 2, policy_number(self.policy))?;
+        put_number_field(out, 1, protocol_number(self.protocol))
     }
 }
 
@@ -62,18 +62,17 @@ impl Part for ServerView {
     ghost records = { server_records };
 
     #[tactic(auto, using(proto_wire::proofs::Spellings::spellings))]
-    fn write(&self, alloc: Global, out: &mut List<u8>) -> Result<(), Memory> {
+    fn write(&self, out: &mut FrontBytes) -> Result<(), Memory> {
         match self {
             ServerView::Absent => Ok(()),
-            ServerView::Present(row) => row.write(alloc, out),
+            ServerView::Present(row) => row.write(out),
         }
     }
 }
 
 #[tactic(auto, using(proto_wire::proofs::Spellings::spellings), unfolding(crate::specs::Policies::service_records))]
 fn put_service(
-    alloc: Global,
-    out: &mut List<u8>,
+    out: &mut FrontBytes,
     ns: &Text,
     name: &Text,
     port: u16,
@@ -81,34 +80,29 @@ fn put_service(
     routes: &List<RouteRow>,
 ) -> Result<(), Memory>
     ensures { OnOk result
-        (out.new ≡ out.old ++ spelling (service_records ns.now name.now port opaque routes.now)) }
+        (out.new ≡ spelling (service_records ns.now name.now port opaque routes.now) ++ out.old) }
 {
-    put_text_field(out, 1, ns.as_bytes())?;
-    put_text_field(out, 2, name.as_bytes())?;
-    put_number_field(out, 3, port as u64)?;
+    write_each(out, 5, routes.as_slice())?;
     put_bool_field(out, 4, opaque)?;
-    write_each(alloc, out, 5, routes.as_slice())
+    put_number_field(out, 3, port as u64)?;
+    put_text_field(out, 2, name.as_bytes())?;
+    put_text_field(out, 1, ns.as_bytes())
 }
 
 #[tactic(auto, using(proto_wire::proofs::Spellings::spellings), unfolding(crate::specs::Policies::forward_records))]
-fn put_forward(
-    alloc: Global,
-    out: &mut List<u8>,
-    endpoint: &EndpointRow,
-    opaque: bool,
-) -> Result<(), Memory>
-    ensures { OnOk result (out.new ≡ out.old ++ spelling (forward_records endpoint.now opaque)) }
+fn put_forward(out: &mut FrontBytes, endpoint: &EndpointRow, opaque: bool) -> Result<(), Memory>
+    ensures { OnOk result (out.new ≡ spelling (forward_records endpoint.now opaque) ++ out.old) }
 {
-    write_in(alloc, out, 1, endpoint)?;
-    put_bool_field(out, 2, opaque)
+    put_bool_field(out, 2, opaque)?;
+    write_in(out, 1, endpoint)
 }
 
 impl Part for OutboundView {
     ghost records = { outbound_records };
 
     #[tactic(auto, using(proto_wire::proofs::Spellings::spellings), unfolding(crate::specs::Policies::outbound_records))]
-    fn write(&self, alloc: Global, out: &mut List<u8>) -> Result<(), Memory> {
-        let mut inside = List::new(alloc);
+    fn write(&self, out: &mut FrontBytes) -> Result<(), Memory> {
+        let end = out.len();
         match self {
             OutboundView::Absent => put_chunk(out, 1, &[]),
             OutboundView::Service {
@@ -118,12 +112,12 @@ impl Part for OutboundView {
                 opaque,
                 routes,
             } => {
-                put_service(alloc, &mut inside, ns, name, *port, *opaque, routes)?;
-                put_chunk(out, 2, inside.as_slice())
+                put_service(out, ns, name, *port, *opaque, routes)?;
+                put_head(out, 2, end)
             }
             OutboundView::Forward { endpoint, opaque } => {
-                put_forward(alloc, &mut inside, endpoint, *opaque)?;
-                put_chunk(out, 3, inside.as_slice())
+                put_forward(out, endpoint, *opaque)?;
+                put_head(out, 3, end)
             }
         }
     }

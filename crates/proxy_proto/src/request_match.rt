@@ -6,26 +6,20 @@ ghost use Rattle.proxy_proto.specs.Profiles.{seq_records, request_match_records}
 
 use crate::fields::put_text_field;
 use crate::part::Part;
-use mesh_base::list::List;
 use mesh_base::memory::Memory;
-use proto_wire::writing::put_chunk;
-use std::alloc::Global;
+use proto_wire::front::FrontBytes;
+use proto_wire::writing::put_head;
 use view_types::profile::ReqMatch;
 
 /// Writes a message of one string in a field.
 #[tactic(auto, using(proto_wire::proofs::Spellings::spellings))]
-fn put_text_message(
-    alloc: Global,
-    out: &mut List<u8>,
-    field: u32,
-    text: &[u8],
-) -> Result<(), Memory>
+fn put_text_message(out: &mut FrontBytes, field: u32, text: &[u8]) -> Result<(), Memory>
     ensures { OnOk result
-        (out.new ≡ out.old ++ spelling (chunk field (spelling (text_field 1 text.now)) ∷ [])) }
+        (out.new ≡ spelling (chunk field (spelling (text_field 1 text.now)) ∷ []) ++ out.old) }
 {
-    let mut inside = List::new(alloc);
-    put_text_field(&mut inside, 1, text)?;
-    put_chunk(out, field, inside.as_slice())
+    let end = out.len();
+    put_text_field(out, 1, text)?;
+    put_head(out, field, end)
 }
 
 impl Part for ReqMatch {
@@ -33,37 +27,37 @@ impl Part for ReqMatch {
 
     #[cycle(write_request)]
     #[tactic(auto, using(proto_wire::proofs::Spellings::spellings))]
-    fn write(&self, alloc: Global, out: &mut List<u8>) -> Result<(), Memory> {
-        let mut inside = List::new(alloc);
+    fn write(&self, out: &mut FrontBytes) -> Result<(), Memory> {
+        let end = out.len();
         match self {
             ReqMatch::All(parts) => {
-                write_request_parts(alloc, &mut inside, parts.as_slice())?;
-                put_chunk(out, 1, inside.as_slice())
+                write_request_parts(out, parts.as_slice())?;
+                put_head(out, 1, end)
             }
             ReqMatch::Any(parts) => {
-                write_request_parts(alloc, &mut inside, parts.as_slice())?;
-                put_chunk(out, 2, inside.as_slice())
+                write_request_parts(out, parts.as_slice())?;
+                put_head(out, 2, end)
             }
             ReqMatch::Not(part) => {
-                part.get().write(alloc, &mut inside)?;
-                put_chunk(out, 3, inside.as_slice())
+                part.get().write(out)?;
+                put_head(out, 3, end)
             }
-            ReqMatch::Path(regex) => put_text_message(alloc, out, 4, regex.as_bytes()),
-            ReqMatch::Method(name) => put_text_message(alloc, out, 5, name.as_bytes()),
+            ReqMatch::Path(regex) => put_text_message(out, 4, regex.as_bytes()),
+            ReqMatch::Method(name) => put_text_message(out, 5, name.as_bytes()),
         }
     }
 }
 
 #[cycle(write_request)]
 #[tactic(auto, using(proto_wire::proofs::Spellings::spellings))]
-fn write_request_parts(alloc: Global, out: &mut List<u8>, parts: &[ReqMatch]) -> Result<(), Memory>
+fn write_request_parts(out: &mut FrontBytes, parts: &[ReqMatch]) -> Result<(), Memory>
     ensures { OnOk result
-        (out.new ≡ out.old ++ spelling (seq_records (map request_match_records parts.now))) }
+        (out.new ≡ spelling (seq_records (map request_match_records parts.now)) ++ out.old) }
 {
-    for part in parts {
-        let mut inside = List::new(alloc);
-        part.write(alloc, &mut inside)?;
-        put_chunk(out, 1, inside.as_slice())?;
+    for at in (0..parts.len()).rev() {
+        let end = out.len();
+        parts[at].write(out)?;
+        put_head(out, 1, end)?;
     }
     Ok(())
 }

@@ -7,10 +7,10 @@ ghost use Rattle.proxy_proto.specs.Messages.{message_records, canonical};
 use crate::fields::put_bool_field;
 use crate::part::{Part, write_each, write_in};
 use bytes::Bytes;
-use mesh_base::list::List;
 use mesh_base::memory::Memory;
 use proto_wire::frame::frame;
-use proto_wire::writing::put_chunk;
+use proto_wire::front::FrontBytes;
+use proto_wire::writing::put_head;
 use std::alloc::Global;
 use view_types::message::Message;
 
@@ -18,55 +18,74 @@ impl Part for Message {
     ghost records = { message_records };
 
     #[tactic(auto, using(proto_wire::proofs::Spellings::spellings), unfolding(crate::specs::Messages::message_records))]
-    fn write(&self, alloc: Global, out: &mut List<u8>) -> Result<(), Memory> {
-        let mut inside = List::new(alloc);
+    fn write(&self, out: &mut FrontBytes) -> Result<(), Memory> {
+        let end = out.len();
         match self {
             Message::Add(rows) => {
-                write_each(alloc, &mut inside, 1, rows.as_slice())?;
-                put_chunk(out, 1, inside.as_slice())
+                write_each(out, 1, rows.as_slice())?;
+                put_head(out, 1, end)
             }
             Message::Remove(pairs) => {
-                write_each(alloc, &mut inside, 1, pairs.as_slice())?;
-                put_chunk(out, 2, inside.as_slice())
+                write_each(out, 1, pairs.as_slice())?;
+                put_head(out, 2, end)
             }
             Message::NoEndpoints(exists) => {
-                put_bool_field(&mut inside, 1, *exists)?;
-                put_chunk(out, 3, inside.as_slice())
+                put_bool_field(out, 1, *exists)?;
+                put_head(out, 3, end)
             }
-            Message::Profile(view) => view.write(alloc, out),
-            Message::Server(view) => view.write(alloc, out),
-            Message::Outbound(view) => view.write(alloc, out),
-            Message::Whole(view) => write_in(alloc, out, 1, view),
+            Message::Profile(view) => view.write(out),
+            Message::Server(view) => view.write(out),
+            Message::Outbound(view) => view.write(out),
+            Message::Whole(view) => write_in(out, 1, view),
             Message::AuthzPut(rows) => {
-                write_each(alloc, &mut inside, 1, rows.as_slice())?;
-                put_chunk(out, 2, inside.as_slice())
+                write_each(out, 1, rows.as_slice())?;
+                put_head(out, 2, end)
             }
             Message::AuthzGone(keys) => {
-                write_each(alloc, &mut inside, 1, keys.as_slice())?;
-                put_chunk(out, 3, inside.as_slice())
+                write_each(out, 1, keys.as_slice())?;
+                put_head(out, 3, end)
             }
         }
     }
+}
+
+/// The bytes that most messages of so many rows take at most. A message that takes more is moved as it grows.
+fn room_for(message: &Message) -> usize {
+    match message {
+        Message::Add(rows) => rows.len().saturating_mul(512),
+        Message::Remove(pairs) => pairs.len().saturating_mul(32),
+        Message::AuthzPut(rows) => rows.len().saturating_mul(256),
+        Message::AuthzGone(keys) => keys.len().saturating_mul(64),
+        _ => 1024,
+    }
+}
+
+#[tactic(auto, using(proto_wire::proofs::Spellings::spellings))]
+fn written(alloc: Global, message: &Message) -> Result<FrontBytes, Memory>
+    ensures { IfOk result (λ bytes. bytes ≡ canonical message.now) }
+{
+    let mut out = FrontBytes::with_room(alloc, room_for(message))?;
+    message.write(&mut out)?;
+    Ok(out)
 }
 
 /// The canonical spelling of a message.
 pub fn write_message(alloc: Global, message: &Message) -> Result<Bytes, Memory>
     ensures { IfOk result (λ bytes. bytes ≡ canonical message.now) }
 {
-    let mut out = List::new(alloc);
-    message.write(alloc, &mut out)?;
-    Ok(Bytes::from_vec(out.into_vec())?)
+    let out = written(alloc, message)?;
+    Ok(Bytes::copy_from_slice(alloc, out.as_slice())?)
 }
 
 /// The frame that carries a message. A message of 2^32 bytes or more, which no frame holds, gives Memory too.
 pub fn frame_message(alloc: Global, message: &Message) -> Result<Bytes, Memory>
     ensures { IfOk result (λ bytes. bytes ≡ frame_of (canonical message.now)) }
 {
-    let spelled = write_message(alloc, message)?;
-    if spelled.len() > u32::MAX as usize {
+    let out = written(alloc, message)?;
+    if out.len() > u32::MAX as usize {
         return Err(Memory);
     }
-    match frame(alloc, spelled.as_slice()) {
+    match frame(alloc, out.as_slice()) {
         Ok(bytes) => Ok(bytes),
         Err(_) => Err(Memory),
     }
