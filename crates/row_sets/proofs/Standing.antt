@@ -21,7 +21,7 @@ use Rattle.row_table.specs.IndexRows.{AreMet, Filter, IsCurrent, has_key}
 use Rattle.row_table.proofs.Keys.{flipped, is_itself}
 use Rattle.row_table.proofs.MarkLists.{meets_same, same_any}
 use Rattle.row_views.specs.Ids.{SetsAt, has_ids}
-use Rattle.row_sets.specs.Standing.{InUse, Standing, any_met, is_left_out, keys_at, keys_in, row_if}
+use Rattle.row_sets.specs.Standing.{InUse, Standing, any_met, keys_at, keys_in, row_if}
 use Rattle.row_views.proofs.Ids.{has_where}
 
 no_any : {A : Type 0} (f : A → Bool) (xs : List A) → ((a : A) → f a ≡ false) → list_any f xs ≡ false
@@ -86,10 +86,10 @@ module _ {Index Key : Type 0} (cmp : Key → Key → Ordering) (total : IsTotalO
       no_set k = ap (lookup (is_at (cmp k))) no_keys
 
   -- an id is put at all its keys, and removed from those that it had and has no more
-  pub moved_stand : (held : ObjectMap) (index next : Index) (by_key mid new : BTreeMap Key (BTreeSet ℕ)) (by_id later : BTreeMap ℕ (List Key)) (id : ℕ) (keys : List Key) (set : BTreeSet Key)
-      → Stands held index by_key by_id → ((k : Key) → sorted.contains cmp set k ≡ has_key cmp keys k) → AddsRow cmp (has_key cmp keys) id by_key mid → RemovesRow cmp (is_left_out cmp (keys_at by_id id) set) id mid new
+  pub moved_stand : (held : ObjectMap) (index next : Index) (by_key mid new : BTreeMap Key (BTreeSet ℕ)) (by_id later : BTreeMap ℕ (List Key)) (id : ℕ) (keys : List Key) (inside : Key → Bool)
+      → Stands held index by_key by_id → ((k : Key) → inside k ≡ has_key cmp keys k) → AddsRow cmp (has_key cmp keys) id by_key mid → RemovesRow cmp (λ k. has_key cmp (keys_at by_id id) k && not (inside k)) id mid new
       → SetsAt id keys (keys_at by_id) (keys_at later) → InUse cmp users stand held next new → Stands held next new later
-  moved_stand held index next by_key mid new by_id later id keys set st same adds takes sets used = record {
+  moved_stand held index next by_key mid new by_id later id keys inside st same adds takes sets used = record {
     in_use = used;
     ids = λ k n. takes k n ∙ (λ i. not ((has_key cmp (keys_at by_id id) k && not (same k i)) && nat_eq n id) && adds k n i) ∙ elim (eqb_tells n id) [
       | inl here ↦

@@ -82,9 +82,9 @@ where
         ensures filter { I.filter self.new.used.index ≡ I.filter self.old.used.index }
         ensures kept { OnErr result (Keeps (keys_at self.old.by_id) (keys_at self.new.by_id)) }
     {
-        let new = SortedSet::of_list(keys.copy(self.alloc)?);
         self.used.put_all(store, keys.as_slice(), id, steps)?;
-        self.used.take_others(keys_of(&self.by_id, id), &new, id);
+        self.used
+            .take_left_out(keys_of(&self.by_id, id), &keys, id)?;
         self.by_id.insert(id, keys)?;
         Ok(())
     }

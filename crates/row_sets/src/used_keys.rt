@@ -9,9 +9,10 @@ ghost use Rattle.row_table.specs.IndexRows.{has_key};
 ghost use Rattle.row_views.specs.Ids.{OneMoreUnless, has_ids};
 ghost use Rattle.row_sets.specs.Standing.{EntersWithin, InUse, is_left_out, open_cost};
 
-use mark_graph::by_mark::{put_one, take_one};
+use crate::ids::{put_id, take_id};
 use mark_graph::sorted_set::SortedSet;
 use mesh_base::copied::Copied;
+use mesh_base::list::List;
 use mesh_base::memory::Memory;
 use mesh_base::steps::Steps;
 use object_store::store::Store;
@@ -92,27 +93,54 @@ where
             ((I.filter self.old.index).reads store.now.objects key.now)) }
         ensures filter { I.filter self.new.index ≡ I.filter self.old.index }
     {
-        self.enter(store, key, steps)?;
-        put_one(self.alloc, &mut self.by_key, key, id)
+        let had_ids = put_id(self.alloc, &mut self.by_key, key, id)?;
+        self.enter(store, key, had_ids, steps)
     }
 
-    // Lets the key be a user of its row, if it has no ids yet.
-    fn enter<L>(&mut self, store: &Store, key: &I::Key, steps: &mut Steps<L>) -> Result<(), Memory>
-        ensures users { OnOk result (OneMoreUnless I.Key.Ord.cmp
-            (has_ids I.Key.Ord.cmp self.old.by_key key.now) key.now (I.users self.old.index)
-            (I.users self.new.index)) }
+    // Lets the key be a user of its row, unless it had ids.
+    fn enter<L>(
+        &mut self,
+        store: &Store,
+        key: &I::Key,
+        had_ids: bool,
+        steps: &mut Steps<L>,
+    ) -> Result<(), Memory>
+        ensures users { OnOk result (OneMoreUnless I.Key.Ord.cmp had_ids key.now
+            (I.users self.old.index) (I.users self.new.index)) }
         ensures stands { OnOk result (I.stands self.old.index store.now.objects
             → I.stands self.new.index store.now.objects) }
-        ensures steps { steps.new ≤ steps.old
-            + (if has_ids I.Key.Ord.cmp self.old.by_key key.now then 0 else cost store.now.objects
+        ensures steps { steps.new ≤ steps.old + (if had_ids then 0 else cost store.now.objects
             ((I.filter self.old.index).reads store.now.objects key.now)) }
         ensures filter { I.filter self.new.index ≡ I.filter self.old.index }
         ensures by_key { self.new.by_key ≡ self.old.by_key }
     {
-        if self.by_key.contains_key(key) {
+        if had_ids {
             return Ok(());
         }
         self.index.enter(store, key.copy(self.alloc)?, steps)
+    }
+
+    /// Removes an id from each key of the old ones that isn't among the new. A key that has none then leaves the index.
+    pub(crate) fn take_left_out(
+        &mut self,
+        old: &[I::Key],
+        new: &List<I::Key>,
+        id: u64,
+    ) -> Result<(), Memory>
+        ensures ids { OnOk result (RemovesRow I.Key.Ord.cmp (λ key.
+            has_key I.Key.Ord.cmp old.now key && not (has_key I.Key.Ord.cmp new.now key)) id
+            self.old.by_key self.new.by_key) }
+        ensures in_use { OnOk result ((held : ObjectMap) → InUse I.Key.Ord.cmp I.users I.stands held
+            self.old.index self.old.by_key → InUse I.Key.Ord.cmp I.users I.stands held
+            self.new.index self.new.by_key) }
+        ensures filter { I.filter self.new.index ≡ I.filter self.old.index }
+    {
+        if old.is_empty() {
+            return Ok(());
+        }
+        let kept = SortedSet::of_list(new.copy(self.alloc)?);
+        self.take_others(old, &kept, id);
+        Ok(())
     }
 
     /// Removes an id from each key of the old ones that isn't among the new. A key that has none then leaves the index. It
@@ -153,8 +181,7 @@ where
             self.new.index self.new.by_key }
         ensures filter { I.filter self.new.index ≡ I.filter self.old.index }
     {
-        take_one(&mut self.by_key, key, id);
-        if !self.by_key.contains_key(key) {
+        if !take_id(&mut self.by_key, key, id) {
             self.index.leave(key);
         }
     }

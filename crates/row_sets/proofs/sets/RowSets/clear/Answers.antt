@@ -29,6 +29,6 @@ returns-clause-stands g c = λ held st.
     let none : (k : _) → contains cmp c.new-none.result k ≡ false = search rules in
     let had : c.as_slice.result.now ≡ keys_at self.by_id id = c.as_slice.ensures ∙ ap keys_in c.in-Some.ensures.value in
     let after = c.take_others.new.self in
-    moved_stand cmp g.met.I.Key.Ord.total g.met.I.RowIndex.exact g.I.RowIndex.users g.I.RowIndex.stands held self.used.index after.index self.used.by_key self.used.by_key after.by_key self.by_id c.remove.new.self id [] c.new-none.result st none (λ k r. refl)
+    moved_stand cmp g.met.I.Key.Ord.total g.met.I.RowIndex.exact g.I.RowIndex.users g.I.RowIndex.stands held self.used.index after.index self.used.by_key self.used.by_key after.by_key self.by_id c.remove.new.self id [] (contains cmp c.new-none.result) st none (λ k r. refl)
     (subst (λ (keys : List g.row.I-Key.Denot). RemovesRow cmp (is_left_out cmp keys c.new-none.result) id self.used.by_key after.by_key) had c.take_others.ensures.ids)
     (sets_at self.by_id c.remove.new.self id None c.remove.ensures.updates.0) (c.take_others.ensures.in_use held st.in_use)
