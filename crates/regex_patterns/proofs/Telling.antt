@@ -17,7 +17,7 @@ of_some P None h = absurd h
 of_some P (Some x) h = (x, refl)
 
 -- what is read as a tree is read
-reads_some : (config : Config) (source : List ℕ) (hir : Hir) (names : Names) → Reads config source hir names →
+pub reads_some : (config : Config) (source : List ℕ) (hir : Hir) (names : Names) → Reads config source hir names →
     (x : Nested Re × Names) × (read config (chars source) ≡ Some x)
 unfolding Reads
 reads_some config source hir names h = of_some _ (read config (chars source)) h

@@ -1,11 +1,18 @@
 -- What a regular expression tells of whole texts.
-use Rattle.std.specs.Prelude.{◌≡◌, ℕ, ◌++◌, ◌<◌, Bool, true, false, List, get_or, Result, Ok, Err, codes, is_some}
+use Rattle.std.specs.Prelude.{◌≡◌, ℕ, ◌++◌, ◌<◌, Bool, true, false, List, get_or, length, Result, Ok, Err, codes, is_some, IsCharBoundary}
 use Rattle.std.specs.Option.{option_map_or}
 use Rattle.std.specs.Str.{chars}
 use Rattle.regex.specs.Patterns.{find_str, default_config}
 use Rattle.regex.specs.Strings.{regex_pattern, regex_source, regex_config, IsReadFromSource}
 use Rattle.regex.specs.declared.string.regex.Regex.{Regex}
-use Rattle.regex_syntax.specs.Grammar.{read}
+use Rattle.regex_compile.specs.Implements.{Implements}
+use Rattle.regex_extract.specs.Bounds.{IsAnchored}
+use Rattle.regex_hir.specs.Meaning.{meaning}
+use Rattle.regex_hir.specs.declared.hir.Hir.{Hir}
+use Rattle.regex_nfa.specs.Run.{run}
+use Rattle.regex_nfa.specs.declared.nfa.Nfa.{Nfa}
+use Rattle.regex_syntax.specs.Grammar.{Names, read}
+use Rattle.regex_syntax.specs.Verdict.{Reads}
 use Rattle.mesh_outside.specs.declared.patterns.PatternFault.{PatternFault}
 use Rattle.mesh_outside.specs.declared.patterns.PatternFault.TheVariants.{Refused, Memory}
 
@@ -39,3 +46,22 @@ pub record IsReadFrom (source : List ℕ) (regex : Regex) : Type 0 where
 pub record IsBuiltOf (p : List ℕ) (regex : Regex) : Type 0 where
   pub is_expression : IsExpression p
   pub tells : (text : List ℕ) → ((k : ℕ) → get_or text k 0 < 256) → is_some (find_str (regex_pattern regex) text 0) ≡ regex_tells p text
+
+-- ---- small expressions
+
+-- the text is read as the tree, each match of which begins where the text does
+pub record IsOfStart (source : List ℕ) (hir : Hir) : Type 0 where
+  pub names : Names
+  pub reads : Reads default_config source hir names
+  pub anchored : IsAnchored true (meaning hir)
+
+-- the states match where such a tree does
+pub record IsFromStart (source : List ℕ) (nfa : Nfa) : Type 0 where
+  pub tree : Hir
+  pub of_start : IsOfStart source tree
+  pub same : Implements nfa (meaning tree)
+
+-- the pattern p is an expression, and the states tell at the start of a text what it tells of the text
+pub record IsSmallOf (p : List ℕ) (nfa : Nfa) : Type 0 where
+  pub is_expression : IsExpression p
+  pub tells : (text : List ℕ) → IsCharBoundary text 0 → ((k : ℕ) → get_or text k 0 < 256) → is_some (run nfa text (length text) nfa.start 0) ≡ regex_tells p text

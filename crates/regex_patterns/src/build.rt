@@ -3,10 +3,12 @@ ghost use Rattle.std.specs.Prelude.{◌≡◌, IfOk, IfSome, is_some};
 ghost use Rattle.std.specs.String.{string_bytes};
 ghost use Rattle.regex.specs.Patterns.{find_str};
 ghost use Rattle.regex.specs.Strings.{regex_pattern};
-ghost use Rattle.regex_patterns.specs.Patterns.{IsBuiltOf, IsReadFrom, whole};
+ghost use Rattle.regex_patterns.specs.Patterns.{IsBuiltOf, IsReadFrom, IsSmallOf, whole};
 
+use crate::small::small;
 use mesh_base::memory::Memory;
 use regex::{Error, Regex};
+use regex_nfa::Nfa;
 use std::alloc::Global;
 
 /// The regular expression that finds the whole texts of a pattern, or None where it is refused.
@@ -15,6 +17,14 @@ pub(crate) fn build(alloc: Global, pattern: &str) -> Result<Option<Regex>, Memor
 {
     let source = whole_of(alloc, pattern)?;
     read(alloc, source.as_str())
+}
+
+/// The states of the regular expression that matches the whole texts of a pattern, if it is small.
+pub(crate) fn build_small(alloc: Global, pattern: &str) -> Result<Option<Nfa>, Memory>
+    ensures { IfOk result (λ built. IfSome built (IsSmallOf pattern.now)) }
+{
+    let source = whole_of(alloc, pattern)?;
+    Ok(small(alloc, source.as_str()))
 }
 
 // The regular expression that a text is, or None where it is none.

@@ -12,8 +12,9 @@ const MOST: usize = 64;
 
 /// Regular expressions in the syntax of Rust's regex crate, each matched against a whole text. Those that were built last
 /// are kept, and so are those that were refused: a later call only looks its pattern up and searches. The tables of one
-/// take 10 MiB at most. A pattern stands in a group: one that closes it, as `a)|(?:b`, is built, and isn't anchored; a comment
-/// that isn't ended, under the flag `x`, takes in the end of the group, and is refused.
+/// take 10 MiB at most, and those of a small one 16 KiB more. A pattern stands in a group: one that closes it, as
+/// `a)|(?:b`, is built, and isn't anchored; a comment that isn't ended, under the flag `x`, takes in the end of the group,
+/// and is refused.
 pub struct RegexPatterns {
     /// The oldest first.
     kept: Vec<Kept>,
