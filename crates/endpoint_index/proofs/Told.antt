@@ -21,8 +21,8 @@ use Rattle.endpoint_index.specs.declared.kept.KeptEndpoints.{KeptEndpoints}
 
 pub endpoint_keys_total : IsTotalOrder key_order.TheImpl.cmp-value.it
 endpoint_keys_total =
-    then_total (on_total (λ (key : EndpointKey). key.ns) nat_list_cmp_total)
-    (then_total (on_total (λ (key : EndpointKey). key.name) nat_list_cmp_total) (on_total (λ (key : EndpointKey). key.port) nat_cmp_total))
+    then_total (on_total (λ (key : EndpointKey). key.name) nat_list_cmp_total)
+    (then_total (on_total (λ (key : EndpointKey). key.ns) nat_list_cmp_total) (on_total (λ (key : EndpointKey). key.port) nat_cmp_total))
 
 module _ (config : Config) (changed : List Mark) (held after : ObjectMap) (key : EndpointKey) where
   abbrev shown : Option (KeptRow KeptEndpoints) → List EndpointRow

@@ -18,6 +18,6 @@ texts_exact = slice_cmp-IsAntisymmetric nat_cmp-IsAntisymmetric
 
 pub endpoint_keys_exact : IsAntisymmetric key_order.TheImpl.cmp-value.it
 endpoint_keys_exact a b e =
-    let first = both_equal (slice_cmp nat_cmp a.ns b.ns) (ordering_then (slice_cmp nat_cmp a.name b.name) (nat_cmp a.port b.port)) e in
-    let rest = both_equal (slice_cmp nat_cmp a.name b.name) (nat_cmp a.port b.port) first.1 in
-    λ i. record { ns = texts_exact a.ns b.ns first.0 i; name = texts_exact a.name b.name rest.0 i; port = nat_cmp-IsAntisymmetric a.port b.port rest.1 i }
+    let first = both_equal (slice_cmp nat_cmp a.name b.name) (ordering_then (slice_cmp nat_cmp a.ns b.ns) (nat_cmp a.port b.port)) e in
+    let rest = both_equal (slice_cmp nat_cmp a.ns b.ns) (nat_cmp a.port b.port) first.1 in
+    λ i. record { name = texts_exact a.name b.name first.0 i; ns = texts_exact a.ns b.ns rest.0 i; port = nat_cmp-IsAntisymmetric a.port b.port rest.1 i }

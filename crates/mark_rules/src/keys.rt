@@ -1,4 +1,5 @@
-// The keys of the rows that views are joined from.
+// The keys of the rows that views are joined from. Keys are compared field by field, so the name comes before the namespace, which
+// most keys share.
 use mesh_base::copied::Copied;
 use mesh_base::key::ObjKey;
 use mesh_base::memory::Memory;
@@ -9,8 +10,8 @@ use view_types::query::Target;
 /// The key of the endpoints of a Service's port.
 #[derive(Drop, PartialEq, Eq, PartialOrd, Ord)]
 pub struct EndpointKey {
-    pub ns: Text,
     pub name: Text,
+    pub ns: Text,
     pub port: u16,
 }
 
@@ -24,16 +25,16 @@ pub struct ProfileKey {
 /// The key of what a Pod's port is served by: its protocol, its policy and its Server.
 #[derive(Drop, PartialEq, Eq, PartialOrd, Ord)]
 pub struct ServerKey {
-    pub ns: Text,
     pub pod: Text,
+    pub ns: Text,
     pub port: u16,
 }
 
 /// The key of a Server's routes.
 #[derive(Drop, PartialEq, Eq, PartialOrd, Ord)]
 pub struct RouteKey {
-    pub ns: Text,
     pub server: Text,
+    pub ns: Text,
 }
 
 /// The key of any row.

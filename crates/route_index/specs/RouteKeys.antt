@@ -8,4 +8,4 @@ use Rattle.mark_rules.specs.contracts.keys.RouteKeyOrd as key_order
 
 pub route_keys_exact : IsAntisymmetric key_order.TheImpl.cmp-value.it
 route_keys_exact a b e =
-    ap (λ (p : List ℕ × List ℕ). record { ns = p.0; server = p.1 }) (exact_pairs (slice_cmp nat_cmp) (slice_cmp nat_cmp) exact_bytes exact_bytes (a.ns, a.server) (b.ns, b.server) e)
+    ap (λ (p : List ℕ × List ℕ). record { server = p.0; ns = p.1 }) (exact_pairs (slice_cmp nat_cmp) (slice_cmp nat_cmp) exact_bytes exact_bytes (a.server, a.ns) (b.server, b.ns) e)
