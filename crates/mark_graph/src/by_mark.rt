@@ -79,7 +79,8 @@ pub fn put_new<M: Ord + Copied>(
     new: &SortedSet<M>,
     row: u64,
 ) -> Result<(), Memory>
-    ensures added { OnOk result (AddsRow M.cmp (is_only_in M.cmp new.now old.now) row by.old by.new) }
+    ensures added { OnOk result
+        (AddsRow M.cmp (is_only_in M.cmp new.now old.now) row by.old by.new) }
     ensures kept { AllHaveRows M.cmp by.old → OnOk result (AllHaveRows M.cmp by.new) }
 {
     for mark in new.as_slice() {
