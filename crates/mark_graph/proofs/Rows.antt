@@ -1,32 +1,22 @@
 -- Rows in lists.
-use Rattle.std.proofs.Common.{◌≡◌, ℕ, Bool, true, false, cond, ◌&&◌, ◌||◌, not, if◌then◌else◌, nat_eq, List, [], ◌∷◌, Result, Ok, Err, IfOk, refl, sym, ap, subst, ◌∙◌}
+use Rattle.std.proofs.Common.{◌≡◌, ℕ, Bool, true, false, ◌&&◌, ◌||◌, not, if◌then◌else◌, nat_eq, List, [], ◌∷◌, Result, Ok, Err, IfOk, refl, sym, ap, subst, ◌∙◌}
 use Rattle.std.specs.List.{list_any}
-use Rattle.std.specs.Cmp.{eq_by_cmp_equiv, nat_cmp_total, unsigned_tied}
-use Rattle.std.specs.Ordering.{is_eq, nat_cmp}
+use Rattle.std.specs.Cmp.{unsigned_tied}
+use Rattle.std.specs.Ordering.{eq_by_cmp, is_eq, nat_cmp}
 use Rattle.mark_graph.specs.RowMarks.{has_row}
 
 pub same_any : {A : Type 0} (f g : A → Bool) → ((a : A) → f a ≡ g a) → (xs : List A) → list_any f xs ≡ list_any g xs
 same_any f g same [] = refl
 same_any f g same (x ∷ xs) = (λ i. same x i || same_any f g same xs i)
 
--- a row more that is added
-pub one_added : (r row : ℕ) (before initial more old new : Bool) → new ≡ cond (is_eq (nat_cmp row r)) true old → old ≡ (before || initial) → more ≡ (before || is_eq (nat_cmp r row)) → new ≡ (more || initial)
-one_added r row before initial more old new is same all =
-    is ∙ ap (cond (is_eq (nat_cmp row r)) true) same ∙ by_cases (is_eq (nat_cmp row r)) before ∙ ap (λ b. (before || b) || initial) turned ∙ ap (λ b. b || initial) (sym all)
-  where
-    turned : is_eq (nat_cmp row r) ≡ is_eq (nat_cmp r row)
-    turned = (eq_by_cmp_equiv nat_cmp_total).symm row r
-
-    by_cases : (b c : Bool) → cond b true (c || initial) ≡ ((c || b) || initial)
-    by_cases true true = refl
-    by_cases true false = refl
-    by_cases false true = refl
-    by_cases false false = refl
+-- a row in a list, as a set sees it
+pub as_in_set : (r : ℕ) (rows : List ℕ) → has_row r rows ≡ list_any (eq_by_cmp nat_cmp r) rows
+as_in_set r = same_any (nat_eq r) (eq_by_cmp nat_cmp r) (λ k. sym (unsigned_tied r k))
 
 -- the rows of a set, by what was gathered
 pub gathered : {A : Type 0} (keys : List ℕ) (r : ℕ) (marks : List A) (f g : A → Bool) (none : Bool) → list_any (λ k. is_eq (nat_cmp r k)) keys ≡ (list_any f marks || none) → none ≡ false → ((m : A) → f m ≡ g m) → has_row r keys ≡ list_any g marks
 gathered keys r marks f g none is nothing same =
-    same_any (nat_eq r) (λ k. is_eq (nat_cmp r k)) (λ k. sym (unsigned_tied r k)) keys ∙ is ∙ (λ i. same_any f g same marks i || nothing i) ∙ or_false (list_any g marks)
+    as_in_set r keys ∙ is ∙ (λ i. same_any f g same marks i || nothing i) ∙ or_false (list_any g marks)
   where
     or_false : (b : Bool) → (b || false) ≡ b
     or_false true = refl

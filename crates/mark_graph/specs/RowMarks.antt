@@ -1,5 +1,5 @@
 -- The marks that rows watch: kept for each row, and for each mark the other way round.
-use Rattle.std.specs.Prelude.{◌≡◌, ◌<◌, ◌&&◌, ◌||◌, if◌then◌else◌, not, ℕ, Bool, false, nat_eq, List, Option, Some, None}
+use Rattle.std.specs.Prelude.{◌≡◌, ◌<◌, ◌&&◌, ◌||◌, if◌then◌else◌, not, ℕ, Bool, false, nat_eq, List, Option, Some, None, is_some}
 use Rattle.std.specs.List.{list_any}
 use Rattle.std.specs.Option.{ForSome}
 use Rattle.std.specs.BTreeMap as tree
@@ -22,10 +22,6 @@ some_row row (Some rows) = sorted.contains nat_cmp rows row
 abbrev pub HasRow : Option (BTreeSet ℕ) → Type 0
 HasRow kept = ForSome kept (λ rows. 0 < sorted.btree_set_len rows)
 
--- the rows of the set new are those of old and those that are added
-abbrev pub Gathers : (ℕ → Bool) → BTreeSet ℕ → BTreeSet ℕ → Type 0
-Gathers added old new = (r : ℕ) → sorted.contains nat_cmp new r ≡ (added r || sorted.contains nat_cmp old r)
-
 module _ {M : Type 0} (cmp : M → M → Ordering) where
   -- a list of marks contains the mark
   abbrev pub has_mark : List M → M → Bool
@@ -42,6 +38,10 @@ module _ {M : Type 0} (cmp : M → M → Ordering) where
   -- the row stands at the mark
   abbrev pub row_at : BTreeMap M (BTreeSet ℕ) → M → ℕ → Bool
   row_at by_mark mark row = some_row row (tree.get cmp by_mark mark)
+
+  -- the mark has rows
+  abbrev pub has_rows : BTreeMap M (BTreeSet ℕ) → M → Bool
+  has_rows by_mark mark = is_some (tree.get cmp by_mark mark)
 
   -- the row watches the mark
   abbrev pub watches : BTreeMap ℕ (BTreeSet M) → ℕ → M → Bool

@@ -1,62 +1,67 @@
 // The rows at each mark.
-ghost use Rattle.std.specs.Prelude.{◌≡◌, ◌&&◌, not, ℕ, true, false, IfOk, OnOk};
+ghost use Rattle.std.specs.Prelude.{◌≡◌, ◌&&◌, ◌||◌, not, ℕ, true, false, IfOk, OnOk};
 ghost use Rattle.std.specs.BTreeSet.{contains};
 ghost use Rattle.std.specs.List.{list_any};
 ghost use Rattle.std.specs.List.Sorted.{IsStrictlySortedBy};
 ghost use Rattle.std.specs.Ordering.{eq_by_cmp, nat_cmp};
-ghost use Rattle.mark_graph.specs.RowMarks.{AddsRow, AllHaveRows, Gathers, OthersHaveRows, RemovesRow, has_mark, has_row, is_only_in, row_at};
+ghost use Rattle.mark_graph.specs.RowMarks.{AddsRow, AllHaveRows, OthersHaveRows, RemovesRow, has_mark, has_row, has_rows, is_only_in, row_at};
 
 use crate::sorted_set::SortedSet;
 use mesh_base::copied::Copied;
 use mesh_base::list::List;
 use mesh_base::memory::Memory;
 use std::alloc::Global;
+use std::collections::btree_map::Entry;
 use std::collections::{BTreeMap, BTreeSet};
 
-/// Adds a row at a mark.
+/// Adds a row at a mark. Answers whether the mark had rows.
 pub fn put_one<M: Ord + Copied>(
     alloc: Global,
     by: &mut BTreeMap<M, SortedSet<u64>>,
     mark: &M,
     row: u64,
-) -> Result<(), Memory>
+) -> Result<bool, Memory>
     ensures added { OnOk result (AddsRow M.cmp (eq_by_cmp M.cmp mark.now) row by.old by.new) }
     ensures kept { AllHaveRows M.cmp by.old → OnOk result (AllHaveRows M.cmp by.new) }
+    ensures had { IfOk result (λ had_rows. had_rows ≡ has_rows M.cmp by.old mark.now) }
 {
-    match by.get_mut(mark) {
-        Some(rows) => {
-            rows.insert(row)?;
+    match by.entry(mark.copy(alloc)?)? {
+        Entry::Occupied(at) => {
+            at.into_mut().insert(row)?;
+            Ok(true)
         }
-        None => {
-            let mut rows = SortedSet::new(alloc);
-            rows.insert(row)?;
-            by.insert(mark.copy(alloc)?, rows)?;
+        Entry::Vacant(at) => {
+            at.insert(SortedSet::new(alloc)).insert(row)?;
+            Ok(false)
         }
     }
-    Ok(())
 }
 
-/// Removes a row from a mark.
-pub fn take_one<M: Ord + Copied>(by: &mut BTreeMap<M, SortedSet<u64>>, mark: &M, row: u64)
+/// Removes a row from a mark. Answers whether the mark has others.
+pub fn take_one<M: Ord + Copied>(by: &mut BTreeMap<M, SortedSet<u64>>, mark: &M, row: u64) -> bool
     ensures taken { RemovesRow M.cmp (eq_by_cmp M.cmp mark.now) row by.old by.new }
     ensures kept { AllHaveRows M.cmp by.old → AllHaveRows M.cmp by.new }
+    ensures others { result ≡ has_rows M.cmp by.new mark.now }
 {
-    if take_from(by, mark, row) {
-        let_go(by, mark);
+    if keeps_others(by, mark, row) {
+        return true;
     }
+    let_go(by, mark);
+    false
 }
 
-/// Removes a row from a mark. Answers whether no row is left there.
-fn take_from<M: Ord + Copied>(by: &mut BTreeMap<M, SortedSet<u64>>, mark: &M, row: u64) -> bool
+/// Removes a row from a mark. Answers whether others are left there.
+fn keeps_others<M: Ord + Copied>(by: &mut BTreeMap<M, SortedSet<u64>>, mark: &M, row: u64) -> bool
     ensures taken { RemovesRow M.cmp (eq_by_cmp M.cmp mark.now) row by.old by.new }
-    ensures emptied { result ≡ true → (r : ℕ) → row_at M.cmp by.new mark.now r ≡ false }
+    ensures none { result ≡ false → (r : ℕ) → row_at M.cmp by.new mark.now r ≡ false }
+    ensures some { result ≡ true → has_rows M.cmp by.new mark.now ≡ true }
     ensures kept { AllHaveRows M.cmp by.old → OthersHaveRows M.cmp mark.now by.new }
-    ensures filled { AllHaveRows M.cmp by.old → result ≡ false → AllHaveRows M.cmp by.new }
+    ensures filled { AllHaveRows M.cmp by.old → result ≡ true → AllHaveRows M.cmp by.new }
 {
     match by.get_mut(mark) {
         Some(rows) => {
             rows.remove(&row);
-            rows.is_empty()
+            !rows.is_empty()
         }
         None => false,
     }
@@ -67,6 +72,7 @@ fn let_go<M: Ord + Copied>(by: &mut BTreeMap<M, SortedSet<u64>>, mark: &M)
     requires { (r : ℕ) → row_at M.cmp by.old mark.now r ≡ false }
     ensures same { (m : M) (r : ℕ) → row_at M.cmp by.new m r ≡ row_at M.cmp by.old m r }
     ensures kept { OthersHaveRows M.cmp mark.now by.old → AllHaveRows M.cmp by.new }
+    ensures gone { has_rows M.cmp by.new mark.now ≡ false }
 {
     by.remove(mark);
 }
@@ -104,7 +110,8 @@ fn put_unless<M: Ord + Copied>(
     if set.contains(mark) {
         return Ok(());
     }
-    put_one(alloc, by, mark, row)
+    put_one(alloc, by, mark, row)?;
+    Ok(())
 }
 
 /// Removes a row from each mark of the old set that the new one lacks.
@@ -159,44 +166,37 @@ pub fn rows_at<M: Ord + Copied>(
         → has_row r rows ≡ list_any (λ m. row_at M.cmp by.now m r) marks.now) }
     ensures in_order { IfOk result (λ rows. IsStrictlySortedBy nat_cmp rows) }
 {
-    let mut set = BTreeSet::new(alloc);
-    gather_all(by, marks, &mut set)?;
-    list_of(alloc, set)
+    let rows = gather_all(alloc, by, marks)?;
+    Ok(SortedSet::of_list(List::from_vec(rows)).into_list())
 }
 
-/// Adds the rows at these marks to a set.
-pub fn gather_all<M: Ord + Copied>(
+/// The rows at these marks, in no order. Those of one mark alone stand in order.
+fn gather_all<M: Ord + Copied>(
+    alloc: Global,
     by: &BTreeMap<M, SortedSet<u64>>,
     marks: &[M],
-    set: &mut BTreeSet<u64>,
-) -> Result<(), Memory>
-    ensures { OnOk result (Gathers (λ r. list_any (λ m. row_at M.cmp by.now m r) marks.now) set.old
-        set.new) }
+) -> Result<Vec<u64>, Memory>
+    ensures { IfOk result (λ rows. (r : ℕ)
+        → has_row r rows.items ≡ list_any (λ m. row_at M.cmp by.now m r) marks.now) }
 {
+    let mut rows = Vec::new(alloc);
     for mark in marks {
-        gather_one(by, mark, set)?;
+        gather_one(by, mark, &mut rows)?;
     }
-    Ok(())
+    Ok(rows)
 }
 
+/// Appends the rows at a mark.
 fn gather_one<M: Ord + Copied>(
     by: &BTreeMap<M, SortedSet<u64>>,
     mark: &M,
-    set: &mut BTreeSet<u64>,
+    rows: &mut Vec<u64>,
 ) -> Result<(), Memory>
-    ensures { OnOk result (Gathers (row_at M.cmp by.now mark.now) set.old set.new) }
+    ensures { OnOk result ((r : ℕ) → has_row r rows.new.items
+        ≡ (has_row r rows.old.items || row_at M.cmp by.now mark.now r)) }
 {
-    match by.get(mark) {
-        Some(rows) => add_rows(set, rows),
-        None => Ok(()),
-    }
-}
-
-fn add_rows(set: &mut BTreeSet<u64>, rows: &SortedSet<u64>) -> Result<(), Memory>
-    ensures { OnOk result (Gathers (contains nat_cmp rows.now) set.old set.new) }
-{
-    for row in rows.as_slice() {
-        set.insert(*row)?;
+    if let Some(at_mark) = by.get(mark) {
+        rows.extend_from_slice(at_mark.as_slice())?;
     }
     Ok(())
 }

@@ -63,6 +63,14 @@ impl<T: Ord> SortedSet<T> {
         self.items.as_slice()
     }
 
+    pub fn into_list(self) -> List<T>
+        ensures items { result ≡ self.keys }
+        ensures in_order { IsStrictlySortedBy T.cmp result }
+    {
+        let SortedSet { items } = self;
+        List::from_vec(items)
+    }
+
     pub fn is_empty(&self) -> bool
         ensures none { result ≡ true → (item : T) → contains T.cmp self.now item ≡ false }
         ensures some { result ≡ false → 0 < btree_set_len self.now }

@@ -1,11 +1,10 @@
 // The rows of the keys that ids are open with.
 ghost use Rattle.std.specs.Prelude.{◌≡◌, ◌≤◌, ◌+◌, ℕ, [], true, IfOk, OnErr, OnOk, Some};
-ghost use Rattle.std.specs.List.{list_any};
 ghost use Rattle.std.specs.List.Sorted.{IsStrictlySortedBy};
 ghost use Rattle.std.specs.Option.{option_copied};
 ghost use Rattle.std.specs.Ordering.{nat_cmp};
 ghost use Rattle.view_types.specs.Objects.{ObjectMap};
-ghost use Rattle.mark_graph.specs.RowMarks.{has_row, row_at};
+ghost use Rattle.mark_graph.specs.RowMarks.{has_row};
 ghost use Rattle.mark_rules.specs.Changes.{Leads};
 ghost use Rattle.row_table.specs.IndexRows.{has_key};
 ghost use Rattle.row_views.specs.Ids.{Keeps, SetsAt, has_ids};
@@ -13,7 +12,7 @@ ghost use Rattle.row_views.specs.Standing.{FollowCost};
 ghost use Rattle.row_sets.specs.Standing.{EntersWithin, Standing, any_met, keys_at, open_cost, row_if};
 
 use crate::used_keys::UsedKeys;
-use mark_graph::by_mark::{gather_all, list_of};
+use mark_graph::by_mark::rows_at;
 use mark_graph::sorted_set::SortedSet;
 use mesh_base::copied::Copied;
 use mesh_base::list::List;
@@ -23,7 +22,7 @@ use object_store::change::Change;
 use object_store::store::Store;
 use row_table::row_index::RowIndex;
 use std::alloc::Global;
-use std::collections::{BTreeMap, BTreeSet};
+use std::collections::BTreeMap;
 
 /// The rows of an index that ids are open with, each kept once for all ids that have its key. After Memory nothing is known of the
 /// rows, but the keys of the ids stay.
@@ -129,7 +128,7 @@ where
         ensures keys { self.new.by_id ≡ self.old.by_id }
     {
         let keys = self.used.index.on_change(store, change, steps)?;
-        ids_at(self.alloc, &self.used.by_key, keys.as_slice())
+        rows_at(self.alloc, &self.used.by_key, keys.as_slice())
     }
 
     /// The row of a key that an id has.
@@ -162,19 +161,4 @@ fn keys_of<K>(by_id: &BTreeMap<u64, List<K>>, id: u64) -> &[K]
         Some(keys) => keys.as_slice(),
         None => &[],
     }
-}
-
-// The ids of these keys, ascending.
-fn ids_at<K: Ord + Copied>(
-    alloc: Global,
-    by_key: &BTreeMap<K, SortedSet<u64>>,
-    keys: &[K],
-) -> Result<List<u64>, Memory>
-    ensures ids { IfOk result (λ ids. (id : ℕ)
-        → has_row id ids ≡ list_any (λ key. row_at K.cmp by_key.now key id) keys.now) }
-    ensures in_order { IfOk result (λ ids. IsStrictlySortedBy nat_cmp ids) }
-{
-    let mut ids = BTreeSet::new(alloc);
-    gather_all(by_key, keys, &mut ids)?;
-    list_of(alloc, ids)
 }

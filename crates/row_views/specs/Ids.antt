@@ -1,11 +1,11 @@
 -- Ids, each with what is at it, and the ids of each key.
-use Rattle.std.specs.Prelude.{◌≡◌, ℕ, nat_eq, Bool, true, false, Option, Some, None, if◌then◌else◌, is_some}
+use Rattle.std.specs.Prelude.{◌≡◌, ℕ, nat_eq, Bool, true, false, Option, Some, None, if◌then◌else◌}
 use Rattle.std.specs.BTreeMap as tree
 use Rattle.std.specs.BTreeMap.{BTreeMap}
 use Rattle.std.specs.BTreeSet.{BTreeSet}
 use Rattle.std.specs.Ordering.{eq_by_cmp, nat_cmp}
 use Rattle.std.specs.declared.cmp.Ordering.{Ordering}
-use Rattle.mark_graph.specs.RowMarks.{AllHaveRows, row_at}
+use Rattle.mark_graph.specs.RowMarks.{AllHaveRows, has_rows, row_at}
 use Rattle.row_table.specs.IndexRows.{OneMore}
 
 -- this is at the id, and at each other id what was
@@ -28,7 +28,7 @@ module _ {Key : Type 0} (cmp : Key → Key → Ordering) where
 
   -- the key has ids
   abbrev pub has_ids : BTreeMap Key (BTreeSet ℕ) → Key → Bool
-  has_ids by_key key = is_some (tree.get cmp by_key key)
+  has_ids by_key key = has_rows cmp by_key key
 
   -- Each id stands at the key that it is open with, and at no other. A key that is kept has an id.
   pub record AreTied (by_key : BTreeMap Key (BTreeSet ℕ)) (by_id : BTreeMap ℕ Key) : Type 0 where

@@ -1,17 +1,16 @@
 // The rows of the keys that ids are open with.
 ghost use Rattle.std.specs.Prelude.{◌≡◌, ◌≤◌, ◌+◌, ℕ, None, Some, IfOk, OnErr, OnOk, if◌then◌else◌, nat_lt, option_map};
-ghost use Rattle.std.specs.List.{list_any};
 ghost use Rattle.std.specs.List.Sorted.{IsStrictlySortedBy};
 ghost use Rattle.std.specs.Option.{option_copied};
 ghost use Rattle.std.specs.Ordering.{nat_cmp};
 ghost use Rattle.view_types.specs.Objects.{ObjectMap};
-ghost use Rattle.mark_graph.specs.RowMarks.{has_row, row_at};
+ghost use Rattle.mark_graph.specs.RowMarks.{has_row};
 ghost use Rattle.mark_rules.specs.Changes.{Leads};
 ghost use Rattle.mark_rules.specs.Reads.{cost};
 ghost use Rattle.row_views.specs.Ids.{Keeps, OneMoreUnless, SetsAt, has_ids, key_at};
 ghost use Rattle.row_views.specs.Standing.{FollowCost, Standing, is_met};
 
-use mark_graph::by_mark::{gather_all, list_of, put_one, take_one};
+use mark_graph::by_mark::{put_one, rows_at, take_one};
 use mark_graph::sorted_set::SortedSet;
 use mesh_base::copied::Copied;
 use mesh_base::list::List;
@@ -21,7 +20,7 @@ use object_store::change::Change;
 use object_store::store::Store;
 use row_table::row_index::RowIndex;
 use std::alloc::Global;
-use std::collections::{BTreeMap, BTreeSet};
+use std::collections::BTreeMap;
 
 /// The rows of an index that ids are open with, each kept once for all ids of its key. After Memory nothing is known of the rows,
 /// but the keys of the ids stay.
@@ -148,7 +147,7 @@ where
         ensures keys { self.new.by_id ≡ self.old.by_id }
     {
         let keys = self.index.on_change(store, change, steps)?;
-        ids_at(self.alloc, &self.by_key, keys.as_slice())
+        rows_at(self.alloc, &self.by_key, keys.as_slice())
     }
 
     /// The key that an id is open with.
@@ -169,19 +168,4 @@ where
             None => None,
         }
     }
-}
-
-// The ids of these keys, ascending.
-fn ids_at<K: Ord + Copied>(
-    alloc: Global,
-    by_key: &BTreeMap<K, SortedSet<u64>>,
-    keys: &[K],
-) -> Result<List<u64>, Memory>
-    ensures ids { IfOk result (λ ids. (id : ℕ)
-        → has_row id ids ≡ list_any (λ key. row_at K.cmp by_key.now key id) keys.now) }
-    ensures in_order { IfOk result (λ ids. IsStrictlySortedBy nat_cmp ids) }
-{
-    let mut ids = BTreeSet::new(alloc);
-    gather_all(by_key, keys, &mut ids)?;
-    list_of(alloc, ids)
 }
