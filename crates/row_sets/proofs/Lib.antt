@@ -1,6 +1,5 @@
 pub mod Costs
 pub mod Entered
 pub mod InUse
-pub mod Put
 pub mod Standing
 pub mod Used

@@ -5,6 +5,5 @@
 //! have ids, and on object_store for the store and its changes. The contract of `RowSets` cites `specs/Standing`.
 #![tactic(auto)]
 
-mod ids;
 pub mod sets;
 pub mod used_keys;

@@ -9,7 +9,7 @@ ghost use Rattle.row_table.specs.IndexRows.{has_key};
 ghost use Rattle.row_views.specs.Ids.{OneMoreUnless, has_ids};
 ghost use Rattle.row_sets.specs.Standing.{EntersWithin, InUse, is_left_out, open_cost};
 
-use crate::ids::{put_id, take_id};
+use mark_graph::by_mark::{put_one, take_one};
 use mark_graph::sorted_set::SortedSet;
 use mesh_base::copied::Copied;
 use mesh_base::list::List;
@@ -93,7 +93,7 @@ where
             ((I.filter self.old.index).reads store.now.objects key.now)) }
         ensures filter { I.filter self.new.index ≡ I.filter self.old.index }
     {
-        let had_ids = put_id(self.alloc, &mut self.by_key, key, id)?;
+        let had_ids = put_one(self.alloc, &mut self.by_key, key, id)?;
         self.enter(store, key, had_ids, steps)
     }
 
@@ -181,7 +181,7 @@ where
             self.new.index self.new.by_key }
         ensures filter { I.filter self.new.index ≡ I.filter self.old.index }
     {
-        if !take_id(&mut self.by_key, key, id) {
+        if !take_one(&mut self.by_key, key, id) {
             self.index.leave(key);
         }
     }

@@ -18,7 +18,7 @@ returns-clause-in_use g c =
     let key = c.args.key.now in
     let index = c.enter.new.self.index in
     let new = c.enter.new.self.by_key in
-    let same : new ≡ c.put_id.new.by_key = c.enter.ensures.by_key in
+    let same : new ≡ c.put_one.new.by = c.enter.ensures.by_key in
     on_both c.enter.result c.enter.ensures.users c.enter.ensures.stands
     (λ more rows used. put_in_use cmp g.met.I.Key.Ord.total g.met.I.RowIndex.exact g.I.RowIndex.users g.I.RowIndex.stands c.args.store.now.objects self.index index self.by_key new c.args.id key used
     (subst (λ (by : BTreeMap g.row.I-Key.Denot (BTreeSet ℕ)). AllHaveRows cmp by) (sym same) (c.in_ok-had_ids.ensures.kept used.each))
