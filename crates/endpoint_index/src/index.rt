@@ -28,6 +28,7 @@ use mesh_base::steps::Steps;
 use net_cidr::ip::Ip;
 use object_store::change::Change;
 use object_store::store::Store;
+use row_table::peeked::Peeked;
 use row_table::row_index::RowIndex;
 use row_table::table::RowTable;
 use std::alloc::Global;
@@ -177,6 +178,18 @@ impl RowIndex for EndpointIndex {
 
     fn row(&self, key: &EndpointKey) -> Option<&EndpointView> {
         self.rows.row(key)
+    }
+
+    fn peek<L>(
+        &self,
+        store: &Store,
+        key: &EndpointKey,
+        steps: &mut Steps<L>,
+    ) -> Result<Peeked<'_, EndpointView>, Memory> {
+        if self.spent {
+            return Err(Memory);
+        }
+        self.rows.peek(store, key, steps)
     }
 
     fn marks(&self, key: &EndpointKey) -> Result<List<Mark>, Memory> {

@@ -86,6 +86,10 @@ impl RowRule for EndpointRule {
         kept.slices.rows.view()
     }
 
+    fn into_row(kept: KeptEndpoints) -> EndpointView {
+        kept.slices.rows.into_view()
+    }
+
     fn marks(alloc: Global, kept: &KeptEndpoints) -> Result<List<Mark>, Memory> {
         kept.marks(alloc)
     }

@@ -123,6 +123,13 @@ impl EndpointRows {
         &self.view
     }
 
+    /// The view by itself.
+    pub fn into_view(self) -> EndpointView
+        ensures { result ≡ self.view }
+    {
+        self.view
+    }
+
     /// The addresses and ports whose rows differ since the view was brought up the time before,
     /// each with the row that stood there.
     pub fn before(&self) -> &[(Ip, u16, Option<EndpointRow>)]

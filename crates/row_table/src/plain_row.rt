@@ -108,6 +108,10 @@ impl<F: RowFinder> RowRule for FindAnew<F> {
         &kept.row
     }
 
+    fn into_row(kept: PlainRow<F::Row>) -> F::Row {
+        kept.row
+    }
+
     fn marks(alloc: Global, kept: &PlainRow<F::Row>) -> Result<List<Mark>, Memory> {
         kept.marks.copy(alloc)
     }

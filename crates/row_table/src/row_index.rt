@@ -8,7 +8,9 @@ ghost use Rattle.view_types.specs.declared.mark.Mark.{Mark};
 ghost use Rattle.mark_rules.specs.Changes.{Leads};
 ghost use Rattle.mark_rules.specs.Reads.{cost};
 ghost use Rattle.row_table.specs.IndexRows.{AreMet, Filter, IsCurrent, OneLess, OneMore};
+ghost use Rattle.row_table.specs.PeekedRow.{peeked_row};
 
+use crate::peeked::Peeked;
 use mesh_base::list::List;
 use mesh_base::memory::Memory;
 use mesh_base::steps::Steps;
@@ -86,6 +88,19 @@ pub trait RowIndex {
     /// The row of a key that has users.
     fn row(&self, key: &Self::Key) -> Option<&Self::Row>
         ensures { option_copied result ≡ row_at self.now key.now };
+
+    /// The row of a key: that which is kept, or one that is made for this call. Nothing more is kept.
+    fn peek<L>(
+        &self,
+        store: &Store,
+        key: &Self::Key,
+        steps: &mut Steps<L>,
+    ) -> Result<Peeked<'_, Self::Row>, Memory>
+        ensures row { IfOk result (λ peeked. stands self.now store.now.objects
+            → peeked_row peeked ≡ (filter self.now).row_of store.now.objects key.now) }
+        ensures steps { steps.new ≤ steps.old + (if nat_lt 0 (users self.now key.now) then 0
+            else cost store.now.objects ((filter self.now).reads store.now.objects key.now)) }
+        ensures was_spent { is_spent self.now ≡ true → IsErr result };
 
     /// The marks that the row of a key reads, if it has users. Each may stand more than once.
     fn marks(&self, key: &Self::Key) -> Result<List<Mark>, Memory>

@@ -113,6 +113,9 @@ pub trait RowRule: Drop {
     fn row(kept: &Self::Kept) -> &Self::Row
         ensures { result.now ≡ row_in kept.now };
 
+    fn into_row(kept: Self::Kept) -> Self::Row
+        ensures { result ≡ row_in kept };
+
     /// Makes a list of the marks. This is asked for only where no move of marks is told.
     fn marks(alloc: Global, kept: &Self::Kept) -> Result<List<Mark>, Memory>
         ensures { IfOk result (λ marks. marks ≡ marks_in kept.now) };

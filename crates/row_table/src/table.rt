@@ -8,6 +8,7 @@ ghost use Rattle.row_table.specs.IndexRows.{AreMet, has_key};
 ghost use Rattle.row_table.specs.TableRows.{AllStand, AreTied, Follow, kept_in, marks_of, row_at, users_in};
 ghost use Rattle.row_table.specs.RowLaws.{current_row};
 
+use crate::peeked::Peeked;
 use crate::row_index::RowIndex;
 use crate::row_rule::{RowRule, StoreChange};
 use crate::table_rows::{RuleChange, TableRows};
@@ -145,6 +146,24 @@ impl<F: RowRule> RowIndex for RowTable<F> {
 
     fn row(&self, key: &F::Key) -> Option<&F::Row> {
         Some(F::row(self.kept(key)?))
+    }
+
+    fn peek<L>(
+        &self,
+        store: &Store,
+        key: &F::Key,
+        steps: &mut Steps<L>,
+    ) -> Result<Peeked<'_, F::Row>, Memory> {
+        if self.spent || store.is_spent() {
+            return Err(Memory);
+        }
+        match self.kept(key) {
+            Some(kept) => Ok(Peeked::Kept(F::row(kept))),
+            None => {
+                let kept = self.rule.find(self.alloc, store, key, steps)?;
+                Ok(Peeked::Made(F::into_row(kept)))
+            }
+        }
     }
 
     fn marks(&self, key: &F::Key) -> Result<List<Mark>, Memory> {

@@ -93,6 +93,10 @@ impl RowRule for ServerRule {
         &kept.row
     }
 
+    fn into_row(kept: KeptServer) -> Option<ServerPart> {
+        kept.row
+    }
+
     fn marks(alloc: Global, kept: &KeptServer) -> Result<List<Mark>, Memory> {
         kept.marks.copy(alloc)
     }
