@@ -17,7 +17,7 @@ use Rattle.view_types.specs.declared.server_view.RouteRow.{RouteRow}
 use Rattle.view_rules.specs.PolicyLaws.{server_key}
 use Rattle.mark_rules.specs.Marks.{meets}
 use Rattle.mark_rules.specs.Reads.{authz_reads, cost, reads, route_reads, server_reads}
-use Rattle.mark_rules.specs.Rows.{ServerPart, keys_behind, name_in, server_part, server_routes}
+use Rattle.mark_rules.specs.Rows.{key_of_row, keys_behind, name_in, routes_behind, server_part, server_routes}
 use Rattle.mark_rules.specs.contracts.keys.RouteKeyOrd.TheImpl.Laws as route_laws
 use Rattle.mark_rules.specs.contracts.keys.ServerKeyOrd as server_order
 use Rattle.mark_rules.specs.contracts.keys.ServerKeyOrd.TheImpl.Laws as server_laws
@@ -38,11 +38,11 @@ use Rattle.route_index.specs.RouteKeys.{route_keys_exact}
 use Rattle.server_index.specs.ServerKeys.{server_keys_exact}
 use Rattle.inbound_views.specs.Costs.{AllEnter, RowsFollow, cost_of_authz, cost_of_routes}
 use Rattle.inbound_views.specs.InUse.{authz_row_is, route_row_is}
-use Rattle.inbound_views.specs.PortRows.{authz_key, authz_keys, authz_rows, query_for, route_key, route_keys, route_rows, server_rows}
+use Rattle.inbound_views.specs.PortRows.{authz_key, authz_keys, authz_rows, listed, own_authz, query_for, route_key, route_keys, route_rows, server_rows}
 use Rattle.inbound_views.specs.Standing.{AreJoined, authz_of, query_at, routes_of, uses_authz, uses_routes, uses_server}
 use Rattle.inbound_views.specs.declared.views.InboundViews.{InboundViews}
 use Rattle.inbound_views.proofs.Joined.{key_cmp, route_cmp}
-use Rattle.inbound_views.proofs.Rows.{no_routes, route_authz}
+use Rattle.inbound_views.proofs.Rows.{authz_listed, no_routes, parts_listed, route_authz}
 
 abbrev pub server_cmp : ServerKey → ServerKey → Ordering
 server_cmp = server_order.TheImpl.cmp-value.it
@@ -86,16 +86,33 @@ module _ (config : Config) (held : ObjectMap) where
       let of_authz = sum_by-cons (λ k. cost held (authz_reads held k)) (server_key ns server) (filter_map authz_key rest) in
       omega (arith, all, after, each, of_route, of_authz)
 
-  pub port_cost : (key : ServerKey) → open_cost config held (Some (query_for key)) ≡ cost held (server_reads key) + (cost_of_routes held (route_keys config held (Some (query_for key))) + cost_of_authz held (authz_keys config held (Some (query_for key))))
-  port_cost key =
-      let behind : List RowKey = keys_behind (server_routes held) key.ns (name_in (server_part config held key)) in
-      sum_by-cons one (row.Server key) behind ∙ ap (λ n. cost held (server_reads key) + n) (behind_sum (server_routes held) key.ns (name_in (server_part config held key)))
+  pub behind_parts : (routes : RouteKey → List RouteRow) (ns : List ℕ) (name : Option (List ℕ)) → cost_of config held (keys_behind routes ns name)
+      ≡ cost_of_authz held (own_authz ns name) + (cost_of_routes held (listed ns name) + cost_of_authz held (map (key_of_row ns) (routes_behind routes ns name)))
+  behind_parts routes ns name =
+      let all = behind_sum routes ns name in
+      let of_routes = ap (cost_of_routes held) (parts_listed ns routes name) in
+      let of_authz = ap (cost_of_authz held) (authz_listed ns routes name) ∙ sum_by-append (λ key. cost held (authz_reads held key)) (own_authz ns name) (map (key_of_row ns) (routes_behind routes ns name)) in
+      omega (arith, all, of_routes, of_authz)
 
--- what a port is served by costs at most what its row reads
-pub server_less : (config : Config) (held : ObjectMap) (filter : Filter ServerKey (Option ServerPart)) → filter ≡ server_rows config → (used : Bool) (key : ServerKey) (old new : ℕ) → new ≤ old + cond used 0 (cost held (filter.reads held key)) → new ≤ old + cost held (server_reads key)
-server_less config held filter is used key old new most = by used (subst (λ (f : Filter ServerKey (Option ServerPart)). new ≤ old + cond used 0 (cost held (f.reads held key))) is most)
+  pub port_whole : (key : ServerKey) → open_cost config held (Some (query_for key)) ≡ cost held (server_reads key) + cost_of config held (keys_behind (server_routes held) key.ns (name_in (server_part config held key)))
+  port_whole key = sum_by-cons one (row.Server key) (keys_behind (server_routes held) key.ns (name_in (server_part config held key)))
+
+  pub port_cost : (key : ServerKey) → open_cost config held (Some (query_for key)) ≡ cost held (server_reads key) + (cost_of_routes held (route_keys config held (Some (query_for key))) + cost_of_authz held (authz_keys config held (Some (query_for key))))
+  port_cost key = port_whole key ∙ ap (λ n. cost held (server_reads key) + n) (behind_sum (server_routes held) key.ns (name_in (server_part config held key)))
+
+-- what one key reads
+pub one_route : (held : ObjectMap) (key : RouteKey) → cost_of_routes held (key ∷ []) ≡ cost held (route_reads key) + 0
+one_route held key = sum_by-cons (λ k. cost held (route_reads k)) key []
+
+-- and what one more does
+pub more_authz : (held : ObjectMap) (key : ObjKey) (keys : List ObjKey) → cost_of_authz held (key ∷ keys) ≡ cost held (authz_reads held key) + cost_of_authz held keys
+more_authz held key keys = sum_by-cons (λ k. cost held (authz_reads held k)) key keys
+
+-- a row of an index that is this one costs at most what it reads
+pub read_less : {Key Row : Type 0} (filter other : Filter Key Row) → filter ≡ other → (held : ObjectMap) (used : Bool) (key : Key) (old new : ℕ) → new ≤ old + cond used 0 (cost held (filter.reads held key)) → new ≤ old + cost held (other.reads held key)
+read_less {Key} {Row} filter other same held used key old new most = by used (subst (λ (f : Filter Key Row). new ≤ old + cond used 0 (cost held (f.reads held key))) same most)
   where
-    by : (b : Bool) → new ≤ old + cond b 0 (cost held (server_reads key)) → new ≤ old + cost held (server_reads key)
+    by : (b : Bool) → new ≤ old + cond b 0 (cost held (other.reads held key)) → new ≤ old + cost held (other.reads held key)
     by true less = omega (arith, less)
     by false less = less
 

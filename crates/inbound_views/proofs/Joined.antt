@@ -1,9 +1,9 @@
 -- Views that are joined from rows that are kept.
-use Rattle.std.proofs.Common.{◌≡◌, ℕ, true, List, [], ◌∷◌, map, Option, Some, None, refl, sym, ap, ◌∙◌}
+use Rattle.std.proofs.Common.{◌≡◌, ℕ, Bool, true, false, cond, List, [], ◌∷◌, map, Option, Some, None, refl, sym, ap, ◌∙◌}
 use Rattle.std.specs.Cmp.{IsTotalOrder}
 use Rattle.std.specs.FinMap.{IsAntisymmetric}
 use Rattle.std.specs.List.{filter_map}
-use Rattle.std.specs.Prelude.{option_map}
+use Rattle.std.specs.Prelude.{option_map, unwrap_or}
 use Rattle.std.specs.declared.cmp.Ordering.{Ordering}
 use Rattle.mesh_base.specs.contracts.key.ObjKeyOrd as key_order
 use Rattle.mesh_base.specs.contracts.key.ObjKeyOrd.TheImpl.Laws as key_laws
@@ -15,7 +15,7 @@ use Rattle.view_types.specs.declared.server_view.RouteRow.{RouteRow}
 use Rattle.view_types.specs.declared.server_view.ServerView.TheVariants.{Present}
 use Rattle.view_types.specs.declared.view.View.TheVariants as view
 use Rattle.view_rules.specs.PolicyLaws.{AreLawful, server_key}
-use Rattle.mark_rules.specs.Rows.{ServerPart, authz_behind, authz_row, join_inbound, key_of_row, keys_behind, name_in, routes_behind, row_joined, server_part, server_routes, with_authz}
+use Rattle.mark_rules.specs.Rows.{ServerPart, authz_behind, authz_row, join_inbound, key_of_row, keys_behind, name_in, routes_behind, row_joined, server_joined, server_part, server_routes, with_authz}
 use Rattle.mark_rules.specs.contracts.keys.RouteKeyOrd as route_order
 use Rattle.mark_rules.specs.contracts.keys.RouteKeyOrd.TheImpl.Laws as route_laws
 use Rattle.mark_rules.specs.declared.keys.RouteKey.{RouteKey}
@@ -42,6 +42,11 @@ key_cmp = key_order.TheImpl.cmp-value.it
 -- the first of a list is in it
 pub has_first : {Key : Type 0} (cmp : Key → Key → Ordering) → IsTotalOrder cmp → IsAntisymmetric cmp → (key : Key) (keys : List Key) → has_key cmp (key ∷ keys) key ≡ true
 has_first cmp total exact key keys = either_first _ _ (is_itself cmp total exact key)
+
+-- those of a key that may be in use
+pub rows_kept : {Row : Type 0} (used : Bool) (all : List Row) (rows : Option (List Row)) → rows ≡ cond used (Some all) None → unwrap_or rows [] ≡ rows_if used all
+rows_kept true all rows is = ap (λ shown. unwrap_or shown []) is
+rows_kept false all rows is = ap (λ shown. unwrap_or shown []) is
 
 -- ---- views by rows that are the same where they are asked for
 
@@ -72,6 +77,10 @@ module _ (routes others : RouteKey → List RouteRow) (authz apart : ObjKey → 
       let both = behind_same part.2 by_route by_authz in
       λ i. Present (row_joined part (both.0 i) (both.1 i))
 
+-- the view of a port is that of its query
+pub port_shown : (config : Config) (held : ObjectMap) (key : ServerKey) → AtKeys held → AreLawful held → Some (view.Server (server_joined config held key)) ≡ view_at config held (Some (query_for key))
+port_shown config held key at_keys lawful = sym (ap Some (views_are_joined config held at_keys lawful (query_for key)))
+
 -- ---- the view of an id
 
 module _ (views : InboundViews) (config : Config) (held : ObjectMap) (id : ℕ)
@@ -85,5 +94,5 @@ module _ (views : InboundViews) (config : Config) (held : ObjectMap) (id : ℕ)
       (join_same (kept_routes views held) (server_routes held) (kept_authz views config held) (authz_row config held) key.ns (server_part config held key)
       (λ k has. ap (λ used. rows_if used (server_routes held k)) (routes_in k (ap (λ (keys : List RouteKey). has_key route_cmp keys k) (routes ∙ ap (λ asked. route_keys config held (option_map query_for asked)) is) ∙ has)))
       (λ k has. ap (λ used. rows_if used (authz_row config held k)) (authz_in k (ap (λ (keys : List ObjKey). has_key key_cmp keys k) (authz ∙ ap (λ asked. authz_keys config held (option_map query_for asked)) is) ∙ has))))
-      ∙ sym (ap Some (views_are_joined config held at_keys lawful (query_for key)))
+      ∙ port_shown config held key at_keys lawful
       ∙ sym (ap (λ asked. view_at config held (option_map query_for asked)) is)

@@ -2,6 +2,7 @@ mod Costs
 mod Entering
 mod Following
 mod Joined
-mod SetKeys
 mod Opening
+mod Peeked
 mod Rows
+mod SetKeys

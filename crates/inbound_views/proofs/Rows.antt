@@ -12,7 +12,7 @@ use Rattle.view_rules.specs.PolicyLaws.{server_key}
 use Rattle.mark_rules.specs.Changes.{Leads}
 use Rattle.mark_rules.specs.Marks.{meets}
 use Rattle.mark_rules.specs.Reads.{reads, server_reads}
-use Rattle.mark_rules.specs.Rows.{ServerPart, key_of_row, keys_behind, name_in, server_part, server_routes}
+use Rattle.mark_rules.specs.Rows.{ServerPart, key_of_row, keys_behind, name_in, routes_behind, server_part, server_routes}
 use Rattle.mark_rules.specs.declared.keys.RouteKey.{RouteKey}
 use Rattle.mark_rules.specs.declared.keys.RowKey.{RowKey}
 use Rattle.mark_rules.specs.declared.keys.RowKey.TheVariants as row
@@ -23,7 +23,7 @@ use Rattle.mark_rules.proofs.Views.{queries_ask_by_rows}
 use Rattle.row_views.specs.Queries.{reads_one}
 use Rattle.row_views.specs.Standing.{is_met}
 use Rattle.row_sets.specs.Standing.{any_met}
-use Rattle.inbound_views.specs.PortRows.{authz_key, authz_keys, authz_of_server, authz_rows, listed, query_for, route_key, route_keys, route_rows, server_rows}
+use Rattle.inbound_views.specs.PortRows.{authz_key, authz_keys, authz_of_server, authz_rows, listed, own_authz, query_for, route_key, route_keys, route_rows, server_rows}
 
 or_none : (a b : Bool) → ((a || false) || b) ≡ (a || b)
 or_none true b = refl
@@ -52,6 +52,10 @@ module _ (ns : List ℕ) where
   pub parts_listed : (routes : RouteKey → List RouteRow) (name : Option (List ℕ)) → filter_map route_key (keys_behind routes ns name) ≡ listed ns name
   parts_listed routes None = refl
   parts_listed routes (Some server) = let key : RouteKey = record { ns = ns; server = server } in ap (λ (keys : List RouteKey). key ∷ keys) (no_routes (routes key))
+
+  pub authz_listed : (routes : RouteKey → List RouteRow) (name : Option (List ℕ)) → filter_map authz_key (keys_behind routes ns name) ≡ own_authz ns name ++ map (key_of_row ns) (routes_behind routes ns name)
+  authz_listed routes None = refl
+  authz_listed routes (Some server) = ap (λ (keys : List ObjKey). server_key ns server ∷ keys) (all_authz (routes (record { ns = ns; server = server })))
 
   module _ (test : RowKey → Bool) where
     any_routes : (rs : List RouteRow) → list_any test (map route_authz rs) ≡ list_any (λ key. test (row.Authz key)) (filter_map authz_key (map route_authz rs))

@@ -3,7 +3,7 @@ use Rattle.std.proofs.Common.{◌≡◌, ◌↔◌, ◌==◌, IsTrue, ◌++◌, 
 use Rattle.std.proofs.lemmas.Bool.{false≢true}
 use Rattle.std.proofs.lemmas.Bool.Decides.{eqb_tells}
 use Rattle.std.proofs.lemmas.Grind.{flat_map-append}
-use Rattle.std.proofs.lemmas.List.{append-nil, map-append, nil_from_length, take_more}
+use Rattle.std.proofs.lemmas.List.{append-nil, nil_from_length, take_more}
 use Rattle.std.proofs.lemmas.List.Folds.{list_any-append, list_any_at}
 use Rattle.std.specs.Cmp.{IsTotalOrder}
 use Rattle.std.specs.FinMap.{IsAntisymmetric}
@@ -34,14 +34,6 @@ use Rattle.inbound_views.proofs.Joined.{has_first, key_cmp, route_cmp}
 use Rattle.inbound_views.proofs.Rows.{authz_is, routes_are}
 
 -- ---- rows of keys that may be in use
-
-pub used_rows : {Row : Type 0} (used : Bool) (rows all : List Row) → Some rows ≡ cond used (Some all) None → rows ≡ rows_if used all
-used_rows true rows all is = cc is
-used_rows false rows all is = absurd (cc is)
-
-pub unused_rows : {Row : Type 0} (used : Bool) (all : List Row) → None ≡ cond used (Some all) None → [] ≡ rows_if used all
-unused_rows true all is = absurd (cc is)
-unused_rows false all is = refl
 
 -- a row that is shown of a key
 pub rows_shown : {Key Row : Type 0} (held : ObjectMap) (filter other : Filter Key Row) (used : Bool) (key : Key) (row : Option Row) → filter ≡ other → row ≡ cond used (Some (filter.row_of held key)) None → row ≡ cond used (Some (other.row_of held key)) None
@@ -122,9 +114,6 @@ are_used old mid config held id earlier servers same is sets ids = (
 )
 
 -- ---- one item more of a list
-
-pub mapped_more : {X Y : Type 0} (f : X → Y) (xs : List X) (i : ℕ) (x : X) → i < length xs → x ≡ get_or xs i x → map f (take i xs) ++ f x ∷ [] ≡ map f (take (i + 1) xs)
-mapped_more f xs i x lt is = ap (λ y. map f (take i xs) ++ f y ∷ []) is ∙ sym (map-append f (take i xs) (get_or xs i x ∷ [])) ∙ ap (map f) (sym (take_more xs i x lt))
 
 pub flat_more : {X Y : Type 0} (f : X → List Y) (xs : List X) (i : ℕ) (x : X) → i < length xs → x ≡ get_or xs i x → flat_map f (take i xs) ++ f x ≡ flat_map f (take (i + 1) xs)
 flat_more f xs i x lt is =

@@ -78,3 +78,8 @@ authz_of_server routes server = server_key server.ns server.server ∷ map (key_
 abbrev pub listed : List ℕ → Option (List ℕ) → List RouteKey
 listed ns None = []
 listed ns (Some server) = record { ns = ns; server = server } ∷ []
+
+-- the key of its authorizations
+abbrev pub own_authz : List ℕ → Option (List ℕ) → List ObjKey
+own_authz ns None = []
+own_authz ns (Some server) = server_key ns server ∷ []

@@ -1,23 +1,29 @@
 // The views of ports, joined from their rows.
-ghost use Rattle.std.specs.Prelude.{◌≡◌, IfOk, Some, map};
+ghost use Rattle.std.specs.Prelude.{◌≡◌, ◌≤◌, ◌+◌, IfOk, Some, map};
 ghost use Rattle.std.specs.Option.{option_copied};
 ghost use Rattle.view_types.specs.Objects.{ObjectMap};
 ghost use Rattle.view_types.specs.declared.config.Config.{Config};
 ghost use Rattle.view_types.specs.declared.server_view.ServerView.TheVariants.{Present};
-ghost use Rattle.mark_rules.specs.Rows.{authz_behind, join_inbound, routes_behind, row_joined, server_part, with_authz};
+ghost use Rattle.mark_rules.specs.Reads.{authz_reads, cost};
+ghost use Rattle.mark_rules.specs.Rows.{authz_behind, join_inbound, key_of_row, keys_behind, name_in, routes_behind, row_joined, server_part, with_authz};
+ghost use Rattle.row_views.specs.Costs.{cost_of};
 ghost use Rattle.row_views.specs.Ids.{key_at};
+ghost use Rattle.inbound_views.specs.Costs.{cost_of_authz, cost_of_routes};
+ghost use Rattle.inbound_views.specs.PortRows.{listed, own_authz};
 ghost use Rattle.inbound_views.specs.Standing.{kept_authz, kept_routes};
 
-use crate::keys::{key_of_row, server_key};
+use crate::keys::{key_of_row, routes_key, server_key};
+use crate::sources::RowSource;
 use crate::views::{InboundViews, KeepsRows};
-use mark_rules::keys::{RouteKey, ServerKey};
+use mark_rules::keys::ServerKey;
 use mesh_base::copied::Copied;
-use mesh_base::key::ObjKey;
 use mesh_base::list::List;
 use mesh_base::memory::Memory;
+use mesh_base::steps::Steps;
 use mesh_base::text::Text;
 use policy_rows::probes::unless_routes;
 use server_index::kept::ServerPart;
+use std::alloc::Global;
 use view_types::server_view::{AuthzRow, RouteRow, ServerRow, ServerView};
 
 impl InboundViews {
@@ -30,127 +36,179 @@ impl InboundViews {
             key.now.ns (server_part config held key.now)) }
     {
         match self.servers.row(id) {
-            Some(part) => self.joined_part(&key.ns, part),
-            None => Ok(ServerView::Absent),
-        }
-    }
-
-    fn joined_part(&self, ns: &Text, part: &Option<ServerPart>) -> Result<ServerView, Memory>
-        ensures { IfOk result (λ view. (config : Config) (held : ObjectMap)
-            → ⟦<InboundViews as KeepsRows>⟧.stand self.now config held
-            → view ≡ join_inbound (kept_routes self.now held) (kept_authz self.now config held)
-            ns.now part.now) }
-    {
-        match part {
-            Some(part) => Ok(ServerView::Present(self.joined_row(ns, part)?)),
-            None => Ok(ServerView::Absent),
-        }
-    }
-
-    // What is shown of a port that is served like this.
-    fn joined_row(&self, ns: &Text, part: &ServerPart) -> Result<ServerRow, Memory>
-        ensures { IfOk result (λ row. (config : Config) (held : ObjectMap)
-            → ⟦<InboundViews as KeepsRows>⟧.stand self.now config held
-            → Present row ≡ join_inbound (kept_routes self.now held)
-            (kept_authz self.now config held) ns.now (Some part.now)) }
-    {
-        let server = part.2.as_ref();
-        let authz = self.server_authz(ns, server)?;
-        let routes = self.server_routes(ns, server)?;
-        let row = self.row_joined(part, authz, routes)?;
-        Ok(row)
-    }
-
-    // With the authorizations of a Server and its routes, and with the Pod's probes where it has none.
-    fn row_joined(
-        &self,
-        part: &ServerPart,
-        authz: List<AuthzRow>,
-        routes: List<RouteRow>,
-    ) -> Result<ServerRow, Memory>
-        ensures { IfOk result (λ row. row ≡ row_joined part.now authz routes) }
-    {
-        let probes = part.3.copy(self.alloc)?;
-        let probes = unless_routes(self.alloc, routes.as_slice(), probes);
-        Ok(ServerRow {
-            protocol: part.0,
-            policy: part.1,
-            server: part.2.copy(self.alloc)?,
-            authz,
-            routes,
-            probes,
-        })
-    }
-
-    // The authorizations of a Server, if there is one.
-    fn server_authz(&self, ns: &Text, server: Option<&Text>) -> Result<List<AuthzRow>, Memory>
-        ensures { IfOk result (λ rows. (config : Config) (held : ObjectMap)
-            → ⟦<InboundViews as KeepsRows>⟧.stand self.now config held → rows ≡ authz_behind
-            (kept_authz self.now config held) ns.now (option_copied server.entry)) }
-    {
-        match server {
-            Some(name) => self.copied_authz(&server_key(ns, name)?),
-            None => Ok(List::new(self.alloc)),
-        }
-    }
-
-    // The routes of a Server, if there is one, each with its authorizations.
-    fn server_routes(&self, ns: &Text, server: Option<&Text>) -> Result<List<RouteRow>, Memory>
-        ensures { IfOk result (λ rows. (config : Config) (held : ObjectMap)
-            → ⟦<InboundViews as KeepsRows>⟧.stand self.now config held
-            → rows ≡ map (with_authz (kept_authz self.now config held) ns.now)
-            (routes_behind (kept_routes self.now held) ns.now (option_copied server.entry))) }
-    {
-        match server {
-            Some(name) => {
-                let key = RouteKey {
-                    ns: ns.copy()?,
-                    server: name.copy()?,
-                };
-                self.joined_routes(ns, self.kept_routes(&key))
+            Some(part) => {
+                let part = copied_part(self.alloc, part)?;
+                let mut none = Steps::<()>::new();
+                joined_port(self, self.alloc, &key.ns, part, &mut none)
             }
-            None => Ok(List::new(self.alloc)),
+            None => Ok(ServerView::Absent),
         }
     }
+}
 
-    fn joined_routes(&self, ns: &Text, routes: &[RouteRow]) -> Result<List<RouteRow>, Memory>
-        ensures { IfOk result (λ rows. (config : Config) (held : ObjectMap)
-            → ⟦<InboundViews as KeepsRows>⟧.stand self.now config held
-            → rows ≡ map (with_authz (kept_authz self.now config held) ns.now) routes.now) }
-    {
-        let mut rows = List::new(self.alloc);
-        for route in routes {
-            rows.add(self.joined_route(ns, route)?)?;
+/// The view of a port of a namespace that is served like this.
+pub(crate) fn joined_port<S: RowSource, L>(
+    source: &S,
+    alloc: Global,
+    ns: &Text,
+    part: Option<ServerPart>,
+    steps: &mut Steps<L>,
+) -> Result<ServerView, Memory>
+    ensures view { IfOk result (λ view. (config : Config) (held : ObjectMap)
+        → S.stand source.now config held
+        → view ≡ join_inbound (S.routes_at source.now held) (S.authz_at source.now config held)
+        ns.now part) }
+    ensures steps { (config : Config) (held : ObjectMap) → S.stand source.now config held
+        → steps.new ≤ steps.old + cost_of config held
+        (keys_behind (S.routes_at source.now held) ns.now (name_in part)) }
+{
+    match part {
+        Some(part) => {
+            let row = joined_row(source, alloc, ns, part, steps)?;
+            Ok(ServerView::Present(row))
         }
-        Ok(rows)
+        None => Ok(ServerView::Absent),
     }
+}
 
-    // A route with its authorizations.
-    fn joined_route(&self, ns: &Text, route: &RouteRow) -> Result<RouteRow, Memory>
-        ensures { IfOk result (λ row. (config : Config) (held : ObjectMap)
-            → ⟦<InboundViews as KeepsRows>⟧.stand self.now config held
-            → row ≡ with_authz (kept_authz self.now config held) ns.now route.now) }
-    {
-        let key = key_of_row(ns, route)?;
-        Ok(RouteRow {
-            kind: route.kind,
-            name: route.name.copy()?,
-            created: route.created.copy(self.alloc)?,
-            hosts: route.hosts.copy(self.alloc)?,
-            rules: route.rules.copy(self.alloc)?,
-            authz: self.copied_authz(&key)?,
-        })
+// What is shown of a port that is served like this.
+fn joined_row<S: RowSource, L>(
+    source: &S,
+    alloc: Global,
+    ns: &Text,
+    part: ServerPart,
+    steps: &mut Steps<L>,
+) -> Result<ServerRow, Memory>
+    ensures row { IfOk result (λ row. (config : Config) (held : ObjectMap)
+        → S.stand source.now config held → Present row ≡ join_inbound
+        (S.routes_at source.now held) (S.authz_at source.now config held) ns.now (Some part)) }
+    ensures steps { (config : Config) (held : ObjectMap) → S.stand source.now config held
+        → steps.new ≤ steps.old
+        + cost_of config held (keys_behind (S.routes_at source.now held) ns.now part.2) }
+{
+    let server = part.2.as_ref();
+    let authz = server_authz(source, alloc, ns, server, steps)?;
+    let routes = server_routes(source, alloc, ns, server, steps)?;
+    Ok(row_of_part(alloc, part, authz, routes))
+}
+
+// With the authorizations of a Server and its routes, and with the Pod's probes where it has none.
+fn row_of_part(
+    alloc: Global,
+    part: ServerPart,
+    authz: List<AuthzRow>,
+    routes: List<RouteRow>,
+) -> ServerRow
+    ensures { result ≡ row_joined part authz routes }
+{
+    let (protocol, policy, server, probes) = part;
+    let probes = unless_routes(alloc, routes.as_slice(), probes);
+    ServerRow {
+        protocol,
+        policy,
+        server,
+        authz,
+        routes,
+        probes,
     }
+}
 
-    // The authorizations of a Server or of a route, if its key is in use.
-    fn copied_authz(&self, key: &ObjKey) -> Result<List<AuthzRow>, Memory>
-        ensures { IfOk result (λ rows. (config : Config) (held : ObjectMap)
-            → ⟦<InboundViews as KeepsRows>⟧.stand self.now config held
-            → rows ≡ kept_authz self.now config held key.now) }
-    {
-        match self.authz.row(key) {
-            Some(rows) => rows.copy(self.alloc),
-            None => Ok(List::new(self.alloc)),
+// The authorizations of a Server, if there is one.
+fn server_authz<S: RowSource, L>(
+    source: &S,
+    alloc: Global,
+    ns: &Text,
+    server: Option<&Text>,
+    steps: &mut Steps<L>,
+) -> Result<List<AuthzRow>, Memory>
+    ensures rows { IfOk result (λ rows. (config : Config) (held : ObjectMap)
+        → S.stand source.now config held → rows ≡ authz_behind (S.authz_at source.now config held)
+        ns.now (option_copied server.entry)) }
+    ensures steps { (config : Config) (held : ObjectMap) → S.stand source.now config held
+        → steps.new ≤ steps.old
+        + cost_of_authz held (own_authz ns.now (option_copied server.entry)) }
+{
+    match server {
+        Some(name) => source.authz(&server_key(ns, name)?, steps),
+        None => Ok(List::new(alloc)),
+    }
+}
+
+// The routes of a Server, if there is one, each with its authorizations.
+fn server_routes<S: RowSource, L>(
+    source: &S,
+    alloc: Global,
+    ns: &Text,
+    server: Option<&Text>,
+    steps: &mut Steps<L>,
+) -> Result<List<RouteRow>, Memory>
+    ensures rows { IfOk result (λ rows. (config : Config) (held : ObjectMap)
+        → S.stand source.now config held
+        → rows ≡ map (with_authz (S.authz_at source.now config held) ns.now)
+        (routes_behind (S.routes_at source.now held) ns.now (option_copied server.entry))) }
+    ensures steps { (config : Config) (held : ObjectMap) → S.stand source.now config held
+        → steps.new ≤ steps.old
+        + (cost_of_routes held (listed ns.now (option_copied server.entry))
+        + cost_of_authz held (map (key_of_row ns.now) (routes_behind
+        (S.routes_at source.now held) ns.now (option_copied server.entry)))) }
+{
+    match server {
+        Some(name) => {
+            let routes = source.routes(&routes_key(ns, name)?, steps)?;
+            joined_routes(source, alloc, ns, routes, steps)
         }
+        None => Ok(List::new(alloc)),
+    }
+}
+
+fn joined_routes<S: RowSource, L>(
+    source: &S,
+    alloc: Global,
+    ns: &Text,
+    routes: List<RouteRow>,
+    steps: &mut Steps<L>,
+) -> Result<List<RouteRow>, Memory>
+    ensures rows { IfOk result (λ rows. (config : Config) (held : ObjectMap)
+        → S.stand source.now config held
+        → rows ≡ map (with_authz (S.authz_at source.now config held) ns.now) routes) }
+    ensures steps { (config : Config) (held : ObjectMap) → S.stand source.now config held
+        → steps.new ≤ steps.old + cost_of_authz held (map (key_of_row ns.now) routes) }
+{
+    let mut rows = List::new(alloc);
+    for route in routes.into_vec() {
+        rows.add(joined_route(source, ns, route, steps)?)?;
+    }
+    Ok(rows)
+}
+
+// A route with its authorizations.
+fn joined_route<S: RowSource, L>(
+    source: &S,
+    ns: &Text,
+    route: RouteRow,
+    steps: &mut Steps<L>,
+) -> Result<RouteRow, Memory>
+    ensures row { IfOk result (λ row. (config : Config) (held : ObjectMap)
+        → S.stand source.now config held
+        → row ≡ with_authz (S.authz_at source.now config held) ns.now route) }
+    ensures steps { (config : Config) (held : ObjectMap) → S.stand source.now config held
+        → steps.new ≤ steps.old + cost held (authz_reads held (key_of_row ns.now route)) }
+{
+    let mut route = route;
+    let key = key_of_row(ns, &route)?;
+    route.authz = source.authz(&key, steps)?;
+    Ok(route)
+}
+
+/// What a port is served by, of its own.
+pub(crate) fn copied_part(
+    alloc: Global,
+    part: &Option<ServerPart>,
+) -> Result<Option<ServerPart>, Memory>
+    ensures { IfOk result (λ copy. copy ≡ part.now) }
+{
+    match part {
+        Some(part) => Ok(Some((part.0, part.1, part.2.copy(alloc)?, part.3.copy(alloc)?))),
+        None => Ok(None),
     }
 }

@@ -58,12 +58,19 @@ pub(crate) fn listed(
 {
     let mut keys = List::new(alloc);
     if let Some(name) = name {
-        keys.add(RouteKey {
-            ns: ns.copy()?,
-            server: name.copy()?,
-        })?;
+        keys.add(routes_key(ns, name)?)?;
     }
     Ok(keys)
+}
+
+/// The key of the routes of a Server.
+pub(crate) fn routes_key(ns: &Text, name: &Text) -> Result<RouteKey, Memory>
+    ensures { IfOk result (λ key. key ≡ record { ns = ns.now; server = name.now }) }
+{
+    Ok(RouteKey {
+        ns: ns.copy()?,
+        server: name.copy()?,
+    })
 }
 
 /// Whether this is the key of the routes of a Server, if there is one.

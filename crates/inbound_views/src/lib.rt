@@ -1,4 +1,5 @@
-//! Views of ports of Pods, joined from rows that subscriptions share.
+//! Views of ports of Pods, joined from rows that subscriptions share. The view of any port can be peeked at: its rows are lent where they
+//! are kept, and made for the call where they aren't.
 //!
 //! Stands on server_index, route_index and authz_index for the rows, on row_views and row_sets for the ids that share them, on
 //! mark_rules for the rows that a view is joined from and the marks that these read, and on object_store. `specs/PortRows` says
@@ -9,4 +10,6 @@
 mod joining;
 mod keys;
 pub mod moving;
+mod peeking;
+mod sources;
 pub mod views;

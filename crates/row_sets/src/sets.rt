@@ -1,12 +1,14 @@
 // The rows of the keys that ids are open with.
-ghost use Rattle.std.specs.Prelude.{◌≡◌, ◌≤◌, ◌+◌, ℕ, [], true, IfOk, OnErr, OnOk, Some};
+ghost use Rattle.std.specs.Prelude.{◌≡◌, ◌≤◌, ◌+◌, ℕ, [], true, IfOk, OnErr, OnOk, Some, if◌then◌else◌, nat_lt};
 ghost use Rattle.std.specs.List.Sorted.{IsStrictlySortedBy};
 ghost use Rattle.std.specs.Option.{option_copied};
 ghost use Rattle.std.specs.Ordering.{nat_cmp};
 ghost use Rattle.view_types.specs.Objects.{ObjectMap};
 ghost use Rattle.mark_graph.specs.RowMarks.{has_row};
 ghost use Rattle.mark_rules.specs.Changes.{Leads};
+ghost use Rattle.mark_rules.specs.Reads.{cost};
 ghost use Rattle.row_table.specs.IndexRows.{has_key};
+ghost use Rattle.row_table.specs.PeekedRow.{peeked_row};
 ghost use Rattle.row_views.specs.Ids.{Keeps, SetsAt, has_ids};
 ghost use Rattle.row_views.specs.Standing.{FollowCost};
 ghost use Rattle.row_sets.specs.Standing.{EntersWithin, Standing, any_met, keys_at, open_cost, row_if};
@@ -20,6 +22,7 @@ use mesh_base::memory::Memory;
 use mesh_base::steps::Steps;
 use object_store::change::Change;
 use object_store::store::Store;
+use row_table::peeked::Peeked;
 use row_table::row_index::RowIndex;
 use std::alloc::Global;
 use std::collections::BTreeMap;
@@ -143,6 +146,24 @@ where
             → option_copied result ≡ Some ((I.filter self.now.used.index).row_of held key.now) }
     {
         self.used.index.row(key)
+    }
+
+    /// The row of a key that no id need have. Nothing more is kept.
+    pub fn peek<L>(
+        &self,
+        store: &Store,
+        key: &I::Key,
+        steps: &mut Steps<L>,
+    ) -> Result<Peeked<'_, I::Row>, Memory>
+        ensures row { IfOk result (λ peeked. Standing I.Key.Ord.cmp I.users I.stands
+            store.now.objects self.now.used.index self.now.used.by_key self.now.by_id
+            → peeked_row peeked
+            ≡ (I.filter self.now.used.index).row_of store.now.objects key.now) }
+        ensures steps { steps.new ≤ steps.old + (if nat_lt 0 (I.users self.now.used.index key.now)
+            then 0 else cost store.now.objects
+            ((I.filter self.now.used.index).reads store.now.objects key.now)) }
+    {
+        self.used.index.peek(store, key, steps)
     }
 
     /// The keys that an id is open with.

@@ -87,6 +87,20 @@ pub trait QueryViews: Drop {
             → AtKeys held → AreLawful held → stands self.now config held
             → view ≡ view_at config held (query_of self.now id)) };
 
+    /// The view of a query that no id need be open with, if it is kept at all. Rows that are kept are used, and the others made for
+    /// this call.
+    fn peek<L>(
+        &self,
+        store: &Store,
+        query: &Query,
+        steps: &mut Steps<L>,
+    ) -> Result<Option<View>, Memory>
+        ensures view { IfOk result (λ view. (config : Config) → AtKeys store.now.objects
+            → AreLawful store.now.objects → stands self.now config store.now.objects
+            → view ≡ view_at config store.now.objects (kept_query query.now)) }
+        ensures steps { (config : Config) → stands self.now config store.now.objects → steps.new
+            ≤ steps.old + open_cost config store.now.objects (kept_query query.now) };
+
     /// What is kept of a query tells its view, and what it reads.
     ghost same: { ShowsSame kept_query };
 

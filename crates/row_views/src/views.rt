@@ -7,6 +7,7 @@ ghost use Rattle.view_types.specs.Objects.{ObjectMap};
 ghost use Rattle.mark_graph.specs.RowMarks.{has_row};
 ghost use Rattle.mark_rules.specs.Changes.{Leads};
 ghost use Rattle.mark_rules.specs.Reads.{cost};
+ghost use Rattle.row_table.specs.PeekedRow.{peeked_row};
 ghost use Rattle.row_views.specs.Ids.{Keeps, OneMoreUnless, SetsAt, has_ids, key_at};
 ghost use Rattle.row_views.specs.Standing.{FollowCost, Standing, is_met};
 
@@ -18,6 +19,7 @@ use mesh_base::memory::Memory;
 use mesh_base::steps::Steps;
 use object_store::change::Change;
 use object_store::store::Store;
+use row_table::peeked::Peeked;
 use row_table::row_index::RowIndex;
 use std::alloc::Global;
 use std::collections::BTreeMap;
@@ -167,5 +169,22 @@ where
             Some(key) => self.index.row(key),
             None => None,
         }
+    }
+
+    /// The row of a key that no id need be open with. Nothing more is kept.
+    pub fn peek<L>(
+        &self,
+        store: &Store,
+        key: &I::Key,
+        steps: &mut Steps<L>,
+    ) -> Result<Peeked<'_, I::Row>, Memory>
+        ensures row { IfOk result (λ peeked. Standing I.Key.Ord.cmp I.users I.stands
+            store.now.objects self.now.index self.now.by_key self.now.by_id → peeked_row peeked
+            ≡ (I.filter self.now.index).row_of store.now.objects key.now) }
+        ensures steps { steps.new ≤ steps.old + (if nat_lt 0 (I.users self.now.index key.now)
+            then 0 else cost store.now.objects
+            ((I.filter self.now.index).reads store.now.objects key.now)) }
+    {
+        self.index.peek(store, key, steps)
     }
 }

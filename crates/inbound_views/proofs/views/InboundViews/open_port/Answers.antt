@@ -5,10 +5,10 @@ use Rattle.mark_rules.specs.declared.keys.RouteKey.{RouteKey}
 use Rattle.mark_rules.specs.declared.keys.ServerKey.{ServerKey}
 use Rattle.row_views.specs.Ids.{SetsAt, key_at}
 use Rattle.inbound_views.specs.Costs.{cost_of_authz, cost_of_routes}
-use Rattle.inbound_views.specs.PortRows.{authz_keys, query_for, route_keys}
+use Rattle.inbound_views.specs.PortRows.{authz_keys, query_for, route_keys, server_rows}
 use Rattle.inbound_views.specs.Standing.{authz_of, routes_of}
 use Rattle.inbound_views.specs.contracts.views.InboundViewsKeepsRows.TheImpl.{ghosts}
-use Rattle.inbound_views.proofs.Costs.{port_cost, server_less}
+use Rattle.inbound_views.proofs.Costs.{port_cost, read_less}
 use Rattle.inbound_views.proofs.Opening.{closed_again, set_joined}
 use Rattle.inbound_views.proofs.SetKeys.{set_here}
 use Rattle.inbound_views.proofs.views.InboundViews.open_port.Goals as goal
@@ -43,7 +43,7 @@ returns-in-Err-clause-kept g c =
 pub returns-in_err-open-clause-steps : goal.returns-in_err-open-clause-steps
 returns-in_err-open-clause-steps g c = λ config joined.
     let held = c.args.store.now.objects in
-    let first = server_less config held _ joined.kept.servers.filtered _ c.args.key c.args.steps.now c.open.new.steps (c.open.ensures.steps joined.kept.servers.rows) in
+    let first = read_less _ (server_rows config) joined.kept.servers.filtered held _ c.args.key c.args.steps.now c.open.new.steps (c.open.ensures.steps joined.kept.servers.rows) in
     let total = port_cost config held c.args.key in
     omega (arith, first, total)
 
@@ -52,7 +52,7 @@ returns-in-Ok-clause-steps g c = λ config joined.
     let held = c.args.store.now.objects in
     let kept = joined.kept in
     let at : key_at c.open.new.self.by_id c.args.id ≡ Some c.args.key = set_here c.args.id (Some c.args.key) (key_at c.args.self.now.servers.by_id) (key_at c.open.new.self.by_id) c.in_ok-open.ensures.keys in
-    let first = server_less config held _ kept.servers.filtered _ c.args.key c.args.steps.now c.open.new.steps (c.open.ensures.steps kept.servers.rows) in
+    let first = read_less _ (server_rows config) kept.servers.filtered held _ c.args.key c.args.steps.now c.open.new.steps (c.open.ensures.steps kept.servers.rows) in
     let second = c.set_rows.ensures.steps config refl (record {
       servers = record { rows = c.in_ok-open.ensures.stands kept.servers.rows; filtered = c.open.ensures.filter ∙ kept.servers.filtered };
       routes = kept.routes;
@@ -68,7 +68,7 @@ returns-in-Err-clause-steps g c = λ config joined.
     let held = c.args.store.now.objects in
     let kept = joined.kept in
     let at : key_at c.open.new.self.by_id c.args.id ≡ Some c.args.key = set_here c.args.id (Some c.args.key) (key_at c.args.self.now.servers.by_id) (key_at c.open.new.self.by_id) c.in_ok-open.ensures.keys in
-    let first = server_less config held _ kept.servers.filtered _ c.args.key c.args.steps.now c.open.new.steps (c.open.ensures.steps kept.servers.rows) in
+    let first = read_less _ (server_rows config) kept.servers.filtered held _ c.args.key c.args.steps.now c.open.new.steps (c.open.ensures.steps kept.servers.rows) in
     let second = c.set_rows.ensures.steps config refl (record {
       servers = record { rows = c.in_ok-open.ensures.stands kept.servers.rows; filtered = c.open.ensures.filter ∙ kept.servers.filtered };
       routes = kept.routes;

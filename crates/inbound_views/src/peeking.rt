@@ -1,0 +1,86 @@
+// The view of a port that no id needs to be open with. Its rows are lent where they are kept, and made for it where they aren't.
+ghost use Rattle.std.specs.Prelude.{◌≡◌, ◌≤◌, ◌+◌, IfOk, Some};
+ghost use Rattle.view_types.specs.Objects.{ObjectMap};
+ghost use Rattle.view_types.specs.declared.config.Config.{Config};
+ghost use Rattle.mark_rules.specs.Rows.{server_joined};
+ghost use Rattle.row_table.specs.PeekedRow.{peeked_row};
+ghost use Rattle.row_views.specs.Costs.{open_cost};
+ghost use Rattle.inbound_views.specs.PortRows.{query_for};
+
+use crate::joining::{copied_part, joined_port};
+use crate::sources::RowSource;
+use crate::views::{InboundViews, KeepsRows};
+use mark_rules::keys::{RouteKey, ServerKey};
+use mesh_base::key::ObjKey;
+use mesh_base::list::List;
+use mesh_base::memory::Memory;
+use mesh_base::steps::Steps;
+use object_store::store::Store;
+use row_table::peeked::Peeked;
+use server_index::kept::ServerPart;
+use std::alloc::Global;
+use view_types::server_view::{AuthzRow, RouteRow, ServerView};
+
+/// The rows behind ports over the objects of a store, whether or not they are kept.
+#[derive(Clone, Copy)]
+pub struct PeekedRows<'a> {
+    views: &'a InboundViews,
+    store: &'a Store,
+}
+
+impl RowSource for PeekedRows<'_> {
+    ghost use Rattle.std.specs.Prelude.{◌≡◌};
+    ghost use Rattle.mark_rules.specs.Rows.{authz_row, server_routes};
+
+    ghost stand = { λ s config held.
+        ⟦<InboundViews as KeepsRows>⟧.stand s.views.now config held × (held ≡ s.store.now.objects) };
+
+    ghost routes_at = { λ s held key. server_routes held key };
+
+    ghost authz_at = { λ s config held key. authz_row config held key };
+
+    fn routes<L>(&self, key: &RouteKey, steps: &mut Steps<L>) -> Result<List<RouteRow>, Memory> {
+        let rows = self.views.routes.peek(self.store, key, steps)?;
+        rows.into_row(self.views.alloc)
+    }
+
+    fn authz<L>(&self, key: &ObjKey, steps: &mut Steps<L>) -> Result<List<AuthzRow>, Memory> {
+        let rows = self.views.authz.peek(self.store, key, steps)?;
+        rows.into_row(self.views.alloc)
+    }
+}
+
+impl InboundViews {
+    /// The view of a port over the objects of the store.
+    pub(crate) fn peek_port<L>(
+        &self,
+        store: &Store,
+        key: &ServerKey,
+        steps: &mut Steps<L>,
+    ) -> Result<ServerView, Memory>
+        ensures view { IfOk result (λ view. (config : Config)
+            → ⟦<InboundViews as KeepsRows>⟧.stand self.now config store.now.objects
+            → view ≡ server_joined config store.now.objects key.now) }
+        ensures steps { (config : Config)
+            → ⟦<InboundViews as KeepsRows>⟧.stand self.now config store.now.objects → steps.new
+            ≤ steps.old + open_cost config store.now.objects (Some (query_for key.now)) }
+    {
+        let peeked = self.servers.peek(store, key, steps)?;
+        let part = own_part(self.alloc, peeked)?;
+        let rows = PeekedRows { views: self, store };
+        joined_port(&rows, self.alloc, &key.ns, part, steps)
+    }
+}
+
+// What a port is served by, which was peeked at.
+fn own_part(
+    alloc: Global,
+    part: Peeked<'_, Option<ServerPart>>,
+) -> Result<Option<ServerPart>, Memory>
+    ensures { IfOk result (λ own. own ≡ peeked_row part.entry) }
+{
+    match part {
+        Peeked::Kept(part) => copied_part(alloc, part),
+        Peeked::Made(part) => Ok(part),
+    }
+}
