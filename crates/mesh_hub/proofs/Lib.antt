@@ -5,5 +5,4 @@ mod Costs
 mod Drained
 pub mod HubSteps
 mod LiveSubs
-mod Simulating
 mod UpTo

@@ -71,13 +71,6 @@ module _ (spent : Bool) (all : Subs) where
   pub going_live : spent ≡ false → live_in spent all ≡ subs_of (ghosts.shown_to all.endpoints) all.live.subs
   going_live going = ap (λ (b : Bool). live_in b all) going
 
-  -- they stay where neither they nor the streams change
-  pub same_live : (after : Subs) → after.live ≡ all.live → after.endpoints ≡ all.endpoints → live_in spent after ≡ live_in spent all
-  same_live after live endpoints = elim spent as (λ b. live_in b after ≡ live_in b all) [
-    | true ↦ (λ i. (live i).subs)
-    | false ↦ (λ i. subs_of (ghosts.shown_to (endpoints i)) (live i).subs)
-  ]
-
   pub none_live : (id : ℕ) → sub_at id all.live.subs ≡ None → sub_at id (live_in spent all) ≡ None
   none_live id none = elim spent as (λ b. sub_at id (live_in b all) ≡ None) [
     | true ↦ none

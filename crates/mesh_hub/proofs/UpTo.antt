@@ -50,7 +50,7 @@ above_all n id lt (sub ∷ subs) none =
     (grind (arith, nat_tests), above_all n id lt subs (neither_second _ _ none))
 
 -- an id above the greatest is above all
-pub over_all : (last : Option ℕ) (id : ℕ) (subs : List LiveSubscription) → IfSome last (λ n. n < id) → AreUpTo last subs → AreBelow id subs
+over_all : (last : Option ℕ) (id : ℕ) (subs : List LiveSubscription) → IfSome last (λ n. n < id) → AreUpTo last subs → AreBelow id subs
 over_all None id [] over none = tt
 over_all None id (sub ∷ subs) over none = absurd (cc none)
 over_all (Some n) id subs over none = above_all n id over subs none

@@ -1,4 +1,4 @@
-ghost use Rattle.std.specs.Prelude.{◌≡◌, ◌<◌, ◌≤◌, ◌&&◌, ◌||◌, not, nat_eq, ℕ, false, true, None, Ok, IfOk, IfSome, OnErr, OnOk, Some};
+ghost use Rattle.std.specs.Prelude.{◌≡◌, ◌≤◌, ◌&&◌, ◌||◌, not, nat_eq, ℕ, false, true, None, Ok, IfOk, OnErr, OnOk, Some};
 ghost use Rattle.view_types.specs.declared.query.Query.TheVariants.{Port};
 ghost use Rattle.view_types.specs.declared.view.View.TheVariants.{Server};
 ghost use Rattle.view_rules.specs.Batch.{batch};
@@ -83,7 +83,7 @@ impl Drop for Hub {
 impl Hub {
     ghost use Rattle.mesh_hub.specs.Costs.{AppliesWithin, FindsWithin};
     ghost use Rattle.mesh_hub.specs.Due.{IdlesUnlessDue, IsUndueUnlessMemory, StaysDue, StaysDueOr, Undue, is_due};
-    ghost use Rattle.mesh_hub.specs.Hub.{Answers, Cancels, LiveSubscription, Rests, Simulates, Spends, answer_of, applied, apply_refusal, drained, frames_at, fresh, is_live, new_refusal, state_of, sub_at, subscribed};
+    ghost use Rattle.mesh_hub.specs.Hub.{Answers, Cancels, LiveSubscription, Simulates, answer_of, applied, apply_refusal, drained, frames_at, fresh, is_live, new_refusal, state_of, sub_at, subscribed};
     ghost use Rattle.mesh_hub.specs.InUse.{users_in};
     ghost use Rattle.mesh_hub.specs.Replies.{MayApply, MayDrain, MaySubscribe};
     ghost use Rattle.mesh_hub.specs.Sending.{IsDueOrTooLong, IsSent};
@@ -239,18 +239,14 @@ impl Hub {
             (state_of self.old) (state_of self.new) }
         ensures asks { AsksPatterns P.Patterns patterns.old patterns.new (MetPattern result) }
         ensures due { StaysDue self.old self.new }
+        ensures subscribers { self.new.subscribers ≡ self.old.subscribers }
         ensures steps { FindsWithin (state_of self.old)
             (Port request.now.ns request.now.pod request.now.port) steps.old steps.new }
     {
         if self.spent {
             return Err(SimFault::Memory);
         }
-        let _held = self.store.get();
-        let Ok(view) = self.port_view(request, steps) else {
-            return Err(SimFault::Memory);
-        };
-        let view = server_in(&view);
-        match decide(self.alloc, view, request, &self.config, patterns) {
+        match self.verdict(request, patterns, steps) {
             Ok(verdict) => Ok(verdict),
             Err(SimFault::Pattern { route, rule, item }) => {
                 Err(SimFault::Pattern { route, rule, item })
@@ -262,26 +258,37 @@ impl Hub {
         }
     }
 
-    // The view of the port that a request is for. Without memory the hub is spent.
-    fn port_view<L>(&mut self, request: &Request, steps: &mut Steps<L>) -> Result<View, Memory>
-        requires going { self.old.spent ≡ false }
-        ensures value { IfOk result (λ view. view ≡ Server (inbound self.old.config
-            self.old.store.objects request.now.ns request.now.pod request.now.port)) }
-        ensures rests { OnOk result (Rests (state_of self.old) (state_of self.new)) }
-        ensures live { self.new.subscribers.live ≡ self.old.subscribers.live }
-        ensures spends { OnErr result (Spends (state_of self.old) (state_of self.new)) }
-        ensures steps { FindsWithin (state_of self.old)
+    // What comes of a request, by the view of its port.
+    fn verdict<P: Patterns, L>(
+        &self,
+        request: &Request,
+        patterns: &mut P,
+        steps: &mut Steps<L>,
+    ) -> Result<Verdict, SimFault>
+        requires going { self.now.spent ≡ false }
+        ensures simulated { Simulated self.now.config self.now.store.objects
+            (facts_of P.Patterns patterns.old) request.now result }
+        ensures asks { AsksPatterns P.Patterns patterns.old patterns.new (MetPattern result) }
+        ensures steps { FindsWithin (state_of self.now)
             (Port request.now.ns request.now.pod request.now.port) steps.old steps.new }
     {
-        fits_its_type(self.last);
-        let store = self.store.get();
-        match peek_port(&mut self.subscribers, store, request, steps) {
-            Ok(view) => Ok(view),
-            Err(_) => {
-                self.spent = true;
-                Err(Memory)
-            }
-        }
+        let _held = self.store.get();
+        let Ok(view) = self.port_view(request, steps) else {
+            return Err(SimFault::Memory);
+        };
+        let view = server_in(&view);
+        decide(self.alloc, view, request, &self.config, patterns)
+    }
+
+    // The view of the port that a request is for.
+    fn port_view<L>(&self, request: &Request, steps: &mut Steps<L>) -> Result<View, Memory>
+        requires going { self.now.spent ≡ false }
+        ensures value { IfOk result (λ view. view ≡ Server (inbound self.now.config
+            self.now.store.objects request.now.ns request.now.pod request.now.port)) }
+        ensures steps { FindsWithin (state_of self.now)
+            (Port request.now.ns request.now.pod request.now.port) steps.old steps.new }
+    {
+        peek_port(&self.subscribers, self.store.get(), request, steps)
     }
 
     /// After every call, unless memory ran out, the rows that have users in the indexes are exactly those of the queries of the live
@@ -405,16 +412,6 @@ impl Hub {
             Some(view) => Ok(view),
             None => unreachable!(),
         }
-    }
-}
-
-// An id is a number within its type.
-fn fits_its_type(id: Option<u32>)
-    ensures { IfSome id (λ n. n < 4294967296) }
-{
-    match id {
-        Some(_n) => {}
-        None => {}
     }
 }
 

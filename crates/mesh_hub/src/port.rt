@@ -1,5 +1,5 @@
 // The view of a port that a simulation asks for.
-ghost use Rattle.std.specs.Prelude.{◌≡◌, ◌≤◌, ◌+◌, IfOk, OnOk};
+ghost use Rattle.std.specs.Prelude.{◌≡◌, ◌≤◌, ◌+◌, IfOk};
 ghost use Rattle.mesh_base.specs.declared.limits.Limits.{Limits};
 ghost use Rattle.view_types.specs.Objects.{AtKeys};
 ghost use Rattle.view_types.specs.declared.config.Config.{Config};
@@ -10,7 +10,6 @@ ghost use Rattle.view_rules.specs.Inbound.{inbound};
 ghost use Rattle.view_rules.specs.PolicyLaws.{AreLawful};
 ghost use Rattle.mark_rules.specs.Rows.{rows};
 ghost use Rattle.row_views.specs.Costs.{cost_of};
-ghost use Rattle.subscriptions.specs.Live.{AreBelow};
 ghost use Rattle.mesh_hub.specs.LiveSubs.{Stand};
 
 use kept_views::views::KeptViews;
@@ -26,27 +25,21 @@ use view_types::view::View;
 
 // The view of the port that a request is for, whether or not somebody subscribes to it.
 pub fn peek_port<L>(
-    subscribers: &mut Subscribers<SharedEndpoints, KeptViews>,
+    subscribers: &Subscribers<SharedEndpoints, KeptViews>,
     store: &Store,
     request: &Request,
     steps: &mut Steps<L>,
 ) -> Result<View, Memory>
     requires at_keys { AtKeys store.now.objects }
     requires lawful { AreLawful store.now.objects }
-    requires below { AreBelow 4294967296 subscribers.old.live.subs }
     requires standing { (config : Config) × (limits : Limits)
-        × Stand config limits store.now.objects subscribers.old }
+        × Stand config limits store.now.objects subscribers.now }
     ensures value { IfOk result (λ view. (config : Config) (limits : Limits)
-        → Stand config limits store.now.objects subscribers.old
+        → Stand config limits store.now.objects subscribers.now
         → view ≡ Server (inbound config store.now.objects request.now.ns request.now.pod
         request.now.port)) }
-    ensures live { subscribers.new.live ≡ subscribers.old.live }
-    ensures endpoints { subscribers.new.endpoints ≡ subscribers.old.endpoints }
-    ensures stands { OnOk result ((config : Config) (limits : Limits)
-        → Stand config limits store.now.objects subscribers.old
-        → Stand config limits store.now.objects subscribers.new) }
     ensures steps { (config : Config) (limits : Limits)
-        → Stand config limits store.now.objects subscribers.old
+        → Stand config limits store.now.objects subscribers.now
         → steps.new ≤ steps.old + cost_of config store.now.objects (rows config store.now.objects
         (Port request.now.ns request.now.pod request.now.port)) }
 {

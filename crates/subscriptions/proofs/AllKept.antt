@@ -1,8 +1,7 @@
 -- The views that are kept are those of the live subscriptions with such queries, after each call.
-use Rattle.std.proofs.Common.{◌≡◌, ℕ, Bool, true, not, cond, nat_eq, eq-eqb, [], Option, Some, None, refl, sym, ap, ◌∙◌, inl, inr}
+use Rattle.std.proofs.Common.{◌≡◌, ℕ, true, not, cond, nat_eq, [], Option, Some, None, refl, sym, ap, ◌∙◌}
 use Rattle.std.specs.Prelude.{option_map}
 use Rattle.std.specs.Option.{is_some}
-use Rattle.std.proofs.lemmas.Bool.Decides.{eqb_tells}
 use Rattle.mesh_base.specs.declared.sub_id.SubId.{SubId}
 use Rattle.view_types.specs.Objects.{ObjectMap}
 use Rattle.view_types.specs.declared.config.Config.{Config}
@@ -48,15 +47,3 @@ module _ (kept_query : Query → Option Query) where
         by : (kept : Option Query) → kept_query query ≡ kept → option_map (as_asked query) (view_at config held kept) ≡ Some (view_of config held query)
         by None is = absurd (cc (sym (ap is_some is) ∙ kept_where kept_query covers query other))
         by (Some asked) is = ap Some (same query asked is config held).0
-
--- ---- an id that is open for a while
-
-module _ (queries opened : ℕ → Option Query) (id : ℕ) (asked : Option Query) (opens : SetsAt id asked queries opened) where
-  pub opened_at : opened id ≡ asked
-  opened_at = opens id ∙ ap (λ (b : Bool). cond b asked (queries id)) (eq-eqb id id refl)
-
-  pub closed_again : (then : ℕ → Option Query) → queries id ≡ None → SetsAt id None opened then → Keeps queries then
-  closed_again then free closes n = elim (eqb_tells n id) [
-    | inl same ↦ closes n ∙ ap (λ (b : Bool). cond b None (opened n)) same.0 ∙ sym (ap queries same.1 ∙ free)
-    | inr apart ↦ closes n ∙ ap (λ (b : Bool). cond b None (opened n)) apart.0 ∙ opens n ∙ ap (λ (b : Bool). cond b asked (queries n)) apart.0
-  ]

@@ -14,9 +14,8 @@ ghost use Rattle.feed_history.specs.Ids.{ended, in_place};
 ghost use Rattle.watch_events.specs.declared.event.Event.{Event};
 ghost use Rattle.mark_rules.specs.Rows.{rows};
 ghost use Rattle.row_views.specs.Costs.{FollowsWithin, cost_of};
-ghost use Rattle.row_views.specs.Ids.{Keeps, SetsAt};
+ghost use Rattle.row_views.specs.Ids.{SetsAt};
 ghost use Rattle.row_views.specs.InUse.{AreInUse};
-ghost use Rattle.row_views.specs.Queries.{view_at};
 ghost use Rattle.subscriptions.specs.Costs.{stream_cost};
 ghost use Rattle.subscriptions.specs.DueIds.{Rises, is_among};
 ghost use Rattle.subscriptions.specs.Live.{AreBelow, Covers, LiveSubscription, endpoint_key, id_of, key_at, query_at, shown_in_place, sub_at, subs_of};
@@ -41,9 +40,6 @@ use row_views::query_views::QueryViews;
 use std::alloc::Global;
 use view_types::query::Query;
 use view_types::view::View;
-
-// The id under which a view is peeked at. It is above those of all subscriptions.
-const PEEK_ID: u64 = 4_294_967_296;
 
 /// The live subscriptions, some of which are due. Those that ask for endpoints have a stream each, and the others share the views
 /// that are kept.
@@ -180,56 +176,31 @@ impl<E: EndpointStreams, V: QueryViews> Subscribers<E, V> {
             → endpoint_key query ≡ None → view ≡ Some (view_of config held query)) }
     {
         match self.live.get(id) {
-            Some(sub) => self.view_asked(id.0 as u64, &sub.query),
+            Some(sub) => Ok(told(&sub.query, self.views.view(id.0 as u64)?)),
             None => Ok(None),
         }
     }
 
-    // The view that is kept for an id, told as the query asks.
-    fn view_asked(&self, id: u64, query: &Query) -> Result<Option<View>, Memory>
-        ensures { IfOk result (λ view. (config : Config) (held : ObjectMap) → AtKeys held
-            → AreLawful held → V.stands self.now.views config held
-            → view ≡ option_map (as_asked query.now)
-            (view_at config held (V.query_of self.now.views id))) }
-    {
-        match self.views.view(id)? {
-            Some(view) => Ok(Some(as_asked(query, view))),
-            None => Ok(None),
-        }
-    }
-
-    /// The view of a query that nobody subscribed to, if it is kept. It is kept for this call only.
+    /// The view of a query over the objects of the store, if it is one that is kept, whether or not somebody subscribed to it. Nothing
+    /// is kept of it.
     pub fn peek<L>(
-        &mut self,
+        &self,
         store: &Store,
         query: &Query,
         steps: &mut Steps<L>,
     ) -> Result<Option<View>, Memory>
-        requires below { AreBelow 4294967296 self.old.live.subs }
-        requires unkept { V.query_of self.old.views 4294967296 ≡ None }
         ensures value { IfOk result (λ view. (config : Config) (limits : Limits)
             → AtKeys store.now.objects → AreLawful store.now.objects → Covers V.kept_query
             → AllStand E.key_of E.shown_to E.stands V.kept_query V.query_of V.stands
-            config limits store.now.objects self.old
+            config limits store.now.objects self.now
             → endpoint_key query.now ≡ None
             → view ≡ Some (view_of config store.now.objects query.now)) }
         ensures steps { (config : Config) (limits : Limits) → Covers V.kept_query
             → AllStand E.key_of E.shown_to E.stands V.kept_query V.query_of V.stands
-            config limits store.now.objects self.old → steps.new ≤ steps.old
+            config limits store.now.objects self.now → steps.new ≤ steps.old
             + cost_of config store.now.objects (rows config store.now.objects query.now) }
-        ensures live { self.new.live ≡ self.old.live }
-        ensures endpoints { self.new.endpoints ≡ self.old.endpoints }
-        ensures queries { Keeps (V.query_of self.old.views) (V.query_of self.new.views) }
-        ensures stands { OnOk result ((config : Config) (limits : Limits)
-            → AllStand E.key_of E.shown_to E.stands V.kept_query V.query_of V.stands
-            config limits store.now.objects self.old
-            → AllStand E.key_of E.shown_to E.stands V.kept_query V.query_of V.stands
-            config limits store.now.objects self.new) }
     {
-        self.views.open(store, PEEK_ID, query, steps)?;
-        let view = self.view_asked(PEEK_ID, query);
-        self.views.close(PEEK_ID);
-        view
+        Ok(told(query, self.views.peek(store, query, steps)?))
     }
 
     /// Notes the view that the subscriber of the id was shown, which asks for no endpoints. It is due no more.
@@ -326,6 +297,16 @@ impl<E: EndpointStreams, V: QueryViews> Subscribers<E, V> {
         self.live.make_due(viewed.as_slice())?;
         self.live.make_due(streamed.as_slice())?;
         Ok(())
+    }
+}
+
+// A view that is kept, if there is one, told as the query asks.
+fn told(query: &Query, view: Option<View>) -> Option<View>
+    ensures { result ≡ option_map (as_asked query.now) view }
+{
+    match view {
+        Some(view) => Some(as_asked(query, view)),
+        None => None,
     }
 }
 
