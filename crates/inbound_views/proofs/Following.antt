@@ -1,5 +1,5 @@
 -- Views of ports after a change.
-use Rattle.std.proofs.Common.{◌≡◌, ◌⊎◌, inl, inr, ◌||◌, ◌++◌, ℕ, Bool, true, false, nat_eq, List, refl, sym, ap, ◌∙◌}
+use Rattle.std.proofs.Common.{◌≡◌, ◌||◌, ◌++◌, ℕ, Bool, true, false, nat_eq, List, refl, sym, ap, ◌∙◌}
 use Rattle.std.proofs.lemmas.List.Folds.{list_any-append}
 use Rattle.std.specs.BTreeMap.{BTreeMap}
 use Rattle.std.specs.Prelude.{option_map}
@@ -8,6 +8,7 @@ use Rattle.view_types.specs.Objects.{ObjectMap}
 use Rattle.view_types.specs.declared.config.Config.{Config}
 use Rattle.view_types.specs.declared.mark.Mark.{Mark}
 use Rattle.mark_graph.specs.RowMarks.{has_row}
+use Rattle.mark_rules.proofs.MarkTests.{neither_first, neither_second}
 use Rattle.mark_rules.specs.Changes.{Leads}
 use Rattle.mark_rules.specs.declared.keys.RouteKey.{RouteKey}
 use Rattle.mark_rules.specs.declared.keys.ServerKey.{ServerKey}
@@ -16,8 +17,10 @@ use Rattle.row_views.specs.Queries.{reads_one}
 use Rattle.row_views.specs.Standing.{is_met}
 use Rattle.row_sets.specs.Standing.{any_met, keys_at}
 use Rattle.inbound_views.specs.PortRows.{authz_keys, authz_rows, query_for, route_keys, route_rows, server_rows}
-use Rattle.inbound_views.specs.Standing.{AreJoined, AreMoved, HasAuthz, HasRoutes, SetsAllRows, authz_of, query_at, reads_row, routes_of}
+use Rattle.inbound_views.specs.Standing.{AreJoined, AreMoved, AreThoseWithout, HasAuthz, HasKeys, HasRoutes, SetsAllRows, authz_of, query_at, reads_row, routes_of}
 use Rattle.inbound_views.specs.declared.moving.Earlier.TheVariants.{Stay, Leave}
+use Rattle.inbound_views.specs.declared.moving.KeysOf.{KeysOf}
+use Rattle.inbound_views.specs.declared.moving.KeysOf.TheVariants.{Routes, Rows}
 use Rattle.inbound_views.specs.declared.views.InboundViews.{InboundViews}
 use Rattle.inbound_views.proofs.Rows.{asks, authz_still, servers_still}
 
@@ -34,8 +37,7 @@ same_queries old new same id = ap (λ (by_id : BTreeMap ℕ ServerKey). option_m
 pub same_ports : (old new : InboundViews) → new.servers ≡ old.servers → new.servers.by_id ≡ old.servers.by_id
 same_ports old new same = λ i. (same i).by_id
 
-module _ (stand : InboundViews → Config → ObjectMap → Type 0) (config : Config) (changed : List Mark) (before after : ObjectMap) (leads : Leads changed before after)
-    (old mid first new : InboundViews) (moved : List ℕ) (joined : AreJoined stand config before old) (are : AreMoved config before after changed old moved)
+module _ (stand : InboundViews → Config → ObjectMap → Type 0) (config : Config) (before after : ObjectMap) (old mid first new : InboundViews) (moved : List ℕ) (joined : AreJoined stand config before old) (are : AreMoved config before after old moved)
     (mid_ports : mid.servers.by_id ≡ old.servers.by_id) (first_ports : first.servers.by_id ≡ mid.servers.by_id) (new_ports : new.servers.by_id ≡ first.servers.by_id)
     (mid_routes : mid.routes.by_id ≡ old.routes.by_id) (mid_authz : mid.authz.by_id ≡ old.authz.by_id)
     (sets : SetsAllRows stand config after Stay moved mid first) (resets : SetsAllRows stand config after Leave moved first new) where
@@ -48,24 +50,17 @@ module _ (stand : InboundViews → Config → ObjectMap → Type 0) (config : Co
   now_asked : (id : ℕ) → query_at old id ≡ query_at new id
   now_asked id = sym (same_queries old new (new_ports ∙ first_ports ∙ mid_ports) id)
 
-  -- an id whose keys aren't set anew
-  keys_now : (id : ℕ) → has_row id moved ≡ false → route_keys config after (query_at old id) ≡ route_keys config before (query_at old id)
-  keys_now id out = sym (are.servers id out (joined.routes id)) ∙ joined.routes id
-
-  routes_now : (id : ℕ) (b : Bool) → has_row id moved ≡ b → HasRoutes config after new id
-  routes_now id true in_list = (resets.these refl id in_list).0 ∙ ap (route_keys config after) (sym (same_queries first new new_ports id))
-  routes_now id false out = still_routes id out ∙ are.servers id out (joined.routes id) ∙ ap (route_keys config after) (now_asked id)
-
-  authz_now : (id : ℕ) (b : Bool) → has_row id moved ≡ b → HasAuthz config after new id
-  authz_now id true in_list = (resets.these refl id in_list).1 ∙ ap (authz_keys config after) (sym (same_queries first new new_ports id))
-  authz_now id false out =
-      still_authz id out
-      ∙ joined.authz id
-      ∙ sym (authz_still config changed before after leads (key_at old.servers.by_id id) (keys_now id out) (ap (any_met route_rows before changed) (sym (joined.routes id)) ∙ are.routes id out))
-      ∙ ap (authz_keys config after) (now_asked id)
+  keys_now : (id : ℕ) (b : Bool) → has_row id moved ≡ b → HasKeys config after Rows new id
+  keys_now id true in_list =
+      let set = resets.these refl id in_list in
+      let asked = sym (same_queries first new new_ports id) in
+      (set.0 ∙ ap (route_keys config after) asked, set.1 ∙ ap (authz_keys config after) asked)
+  keys_now id false out =
+      let has = are.others id out (joined.routes id, joined.authz id) in
+      (still_routes id out ∙ has.0 ∙ ap (route_keys config after) (now_asked id), still_authz id out ∙ has.1 ∙ ap (authz_keys config after) (now_asked id))
 
   pub joined_after : AreJoined stand config after new
-  joined_after = record { kept = resets.kept; routes = λ id. routes_now id (has_row id moved) refl; authz = λ id. authz_now id (has_row id moved) refl }
+  joined_after = record { kept = resets.kept; routes = λ id. (keys_now id (has_row id moved) refl).0; authz = λ id. (keys_now id (has_row id moved) refl).1 }
 
 -- ---- the ids that a change touches
 
@@ -81,16 +76,51 @@ in_all id asked rerouted authorized a r z is also too =
     or_over true b c = refl
     or_over false b c = refl
 
--- an id that is noted if its port is served by another Server
-pub port_right : (config : Config) (changed : List Mark) (before after : ObjectMap) → Leads changed before after → (views : InboundViews) (id : ℕ) (asked moved : List ℕ) → has_row id asked ≡ is_met (server_rows config) before changed (key_at views.servers.by_id id)
-    → (has_row id asked ≡ true → has_row id moved ≡ false → HasRoutes config after views id) → has_row id moved ≡ false → HasRoutes config before views id → HasRoutes config after views id
-port_right config changed before after leads views id asked moved is noted out right = by (has_row id asked) refl
-  where
-    by : (b : Bool) → has_row id asked ≡ b → HasRoutes config after views id
-    by true at = noted at out
-    by false at = right ∙ sym (servers_still config changed before after leads (key_at views.servers.by_id id) (sym is ∙ at))
+-- ---- the ids whose keys are others after it
 
--- why an id is noted
-pub why_noted : {A : Type 0} (a b c : Bool) → b ≡ c → (a || b) ≡ true → (a ≡ true → A) → A ⊎ (c ≡ true)
-why_noted true b c same is why = inl (why refl)
-why_noted false b c same is why = inr (sym same ∙ is)
+-- ids have the same keys by views that are open with the same
+module _ (config : Config) (held : ObjectMap) (views others : InboundViews) (ports : others.servers.by_id ≡ views.servers.by_id) (routes : others.routes.by_id ≡ views.routes.by_id) (authz : others.authz.by_id ≡ views.authz.by_id) where
+  routes_same : (id : ℕ) → HasRoutes config held others id → HasRoutes config held views id
+  routes_same id has = ap (λ (by_id : BTreeMap ℕ (List RouteKey)). keys_at by_id id) (sym routes) ∙ has ∙ ap (route_keys config held) (same_queries views others ports id)
+
+  authz_same : (id : ℕ) → HasAuthz config held others id → HasAuthz config held views id
+  authz_same id has = ap (λ (by_id : BTreeMap ℕ (List ObjKey)). keys_at by_id id) (sym authz) ∙ has ∙ ap (authz_keys config held) (same_queries views others ports id)
+
+  has_same : (keys : KeysOf) (id : ℕ) → HasKeys config held keys others id → HasKeys config held keys views id
+  has_same Routes id has = routes_same id has
+  has_same Rows id has = (routes_same id has.0, authz_same id has.1)
+
+pub without_same : (config : Config) (held : ObjectMap) (views others : InboundViews) → others.servers.by_id ≡ views.servers.by_id → others.routes.by_id ≡ views.routes.by_id → others.authz.by_id ≡ views.authz.by_id
+    → (keys : KeysOf) (ids without : List ℕ) → AreThoseWithout (HasKeys config held keys others) ids without → AreThoseWithout (HasKeys config held keys views) ids without
+without_same config held views others ports routes authz keys ids without are = record {
+  all = λ id has out. has_same config held views others ports routes authz keys id (are.all id has out);
+  only = λ id has. let noted = are.only id has in (noted.0, λ holds. noted.1 (has_same config held others views (sym ports) (sym routes) (sym authz) keys id holds));
+}
+
+-- those of the ids that ask for a row of a Server with a mark of the change, and of those with such routes
+module _ (config : Config) (changed : List Mark) (before after : ObjectMap) (leads : Leads changed before after) (views : InboundViews) (asked rerouted moved others : List ℕ)
+    (is_asked : (id : ℕ) → has_row id asked ≡ is_met (server_rows config) before changed (key_at views.servers.by_id id)) (is_rerouted : (id : ℕ) → has_row id rerouted ≡ any_met route_rows before changed (routes_of views id))
+    (by_routes : AreThoseWithout (HasKeys config after Routes views) asked moved) (by_rows : AreThoseWithout (HasKeys config after Rows views) rerouted others) where
+  routes_stay : (id : ℕ) (b : Bool) → has_row id asked ≡ b → has_row id moved ≡ false → HasRoutes config before views id → HasRoutes config after views id
+  routes_stay id true at out has = by_routes.all id at out
+  routes_stay id false at out has = has ∙ sym (servers_still config changed before after leads (key_at views.servers.by_id id) (sym (is_asked id) ∙ at))
+
+  authz_stay : (id : ℕ) (b : Bool) → has_row id rerouted ≡ b → has_row id others ≡ false → HasKeys config before Rows views id → HasRoutes config after views id → HasAuthz config after views id
+  authz_stay id true at out has now = (by_rows.all id at out).1
+  authz_stay id false at out has now =
+      has.1 ∙ sym (authz_still config changed before after leads (key_at views.servers.by_id id) (sym now ∙ has.0) (ap (any_met route_rows before changed) (sym has.0) ∙ sym (is_rerouted id) ∙ at))
+
+  rows_stay : (id : ℕ) → has_row id moved ≡ false → has_row id others ≡ false → HasKeys config before Rows views id → HasKeys config after Rows views id
+  rows_stay id out also has =
+      let now = routes_stay id (has_row id asked) refl out has.0 in
+      (now, authz_stay id (has_row id rerouted) refl also has now)
+
+  only_these : (id : ℕ) (b : Bool) → has_row id moved ≡ b → (b || has_row id others) ≡ true → ¬ HasKeys config after Rows views id
+  only_these id true is either = λ has. (by_routes.only id is).1 has.0
+  only_these id false is either = (by_rows.only id either).1
+
+  pub are_moved : (all : List ℕ) → ((id : ℕ) → has_row id all ≡ (has_row id moved || has_row id others)) → AreMoved config before after views all
+  are_moved all among = record {
+    others = λ id out. let neither = sym (among id) ∙ out in rows_stay id (neither_first _ _ neither) (neither_second (has_row id moved) _ neither);
+    only = λ id in_list. only_these id (has_row id moved) refl (sym (among id) ∙ in_list);
+  }

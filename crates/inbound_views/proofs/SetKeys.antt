@@ -7,13 +7,14 @@ use Rattle.std.proofs.lemmas.List.{append-nil, nil_from_length, take_more}
 use Rattle.std.proofs.lemmas.List.Folds.{list_any-append, list_any_at}
 use Rattle.std.specs.Cmp.{IsTotalOrder}
 use Rattle.std.specs.FinMap.{IsAntisymmetric}
-use Rattle.std.specs.List.{flat_map}
+use Rattle.std.specs.List.{flat_map, slice_get}
 use Rattle.std.specs.Prelude.{option_and_then, option_map}
 use Rattle.std.specs.declared.cmp.Ordering.{Ordering}
 use Rattle.mesh_base.specs.declared.key.ObjKey.{ObjKey}
 use Rattle.view_types.specs.Objects.{ObjectMap}
 use Rattle.view_types.specs.declared.config.Config.{Config}
 use Rattle.view_types.specs.declared.query.Query.{Query}
+use Rattle.view_types.specs.declared.server_view.RouteRow.{RouteRow}
 use Rattle.mark_graph.specs.RowMarks.{has_row, row_at}
 use Rattle.mark_rules.specs.Rows.{ServerPart, name_in, server_part, server_routes}
 use Rattle.mark_rules.specs.contracts.keys.RouteKeyOrd.TheImpl.Laws as route_laws
@@ -26,7 +27,7 @@ use Rattle.row_views.proofs.Ids.{has_where}
 use Rattle.row_views.specs.Ids.{SetsAt, has_ids, key_at}
 use Rattle.route_index.specs.RouteKeys.{route_keys_exact}
 use Rattle.inbound_views.specs.PortRows.{authz_keys, authz_of_server, listed, query_for, route_keys, server_rows}
-use Rattle.inbound_views.specs.Standing.{AreThoseWithout, AreUsed, HasRowsOf, NotesUnless, SetsAllRows, SetsRows, authz_of, kept_routes, query_at, routes_of, rows_if, with_earlier}
+use Rattle.inbound_views.specs.Standing.{AreThoseWithout, AreUsed, HasRoutes, HasRowsOf, NotesUnless, SetsAllRows, SetsRows, authz_of, kept_routes, query_at, routes_of, rows_if, uses_routes, with_earlier}
 use Rattle.inbound_views.specs.declared.moving.Earlier.{Earlier}
 use Rattle.inbound_views.specs.declared.moving.Earlier.TheVariants.{Stay, Leave}
 use Rattle.inbound_views.specs.declared.views.InboundViews.{InboundViews}
@@ -93,6 +94,31 @@ module _ (views : InboundViews) (config : Config) (held : ObjectMap) (asked : Op
       flat_same route_cmp route_laws.total-law route_keys_exact (authz_of_server (kept_routes views held)) (authz_of_server (server_routes held)) (route_keys config held (option_map query_for asked))
       (λ key has. ap (λ used. authz_of_server (λ k. rows_if used (server_routes held k)) key) (in_use key has))
       ∙ sym (authz_is config held asked)
+
+-- the authorizations of a Server and of its routes, if there is one
+abbrev pub authz_of_one : (RouteKey → List RouteRow) → Option RouteKey → List ObjKey
+authz_of_one routes None = []
+authz_of_one routes (Some server) = authz_of_server routes server
+
+-- a port is served by one Server at most, which is the first that its routes are of
+first_server : (config : Config) (held : ObjectMap) (routes : RouteKey → List RouteRow) (asked : Option ServerKey)
+    → authz_of_one routes (slice_get (route_keys config held (option_map query_for asked)) 0) ≡ flat_map (authz_of_server routes) (route_keys config held (option_map query_for asked))
+first_server config held routes None = refl
+first_server config held routes (Some key) =
+    subst (λ (keys : List RouteKey). authz_of_one routes (slice_get keys 0) ≡ flat_map (authz_of_server routes) keys) (sym (routes_are config held key)) (by (name_in (server_part config held key)))
+  where
+    by : (name : Option (List ℕ)) → authz_of_one routes (slice_get (listed key.ns name) 0) ≡ flat_map (authz_of_server routes) (listed key.ns name)
+    by None = refl
+    by (Some server) = sym (append-nil (authz_of_server routes (record { ns = key.ns; server = server })))
+
+-- the authorizations behind the port of an id, by the first key of its routes
+pub authz_of_first : (views : InboundViews) (config : Config) (held : ObjectMap) (id : ℕ) → HasRoutes config held views id → ((key : RouteKey) → has_key route_cmp (routes_of views id) key ≡ true → uses_routes views key ≡ true)
+    → (first : Option RouteKey) → first ≡ slice_get (routes_of views id) 0 → authz_of_one (kept_routes views held) first ≡ authz_keys config held (query_at views id)
+authz_of_first views config held id has in_use first is =
+    let asked = key_at views.servers.by_id id in
+    ap (authz_of_one (kept_routes views held)) (is ∙ ap (λ (keys : List RouteKey). slice_get keys 0) has)
+    ∙ first_server config held (kept_routes views held) asked
+    ∙ authz_found views config held asked (λ key there. in_use key (ap (λ (keys : List RouteKey). has_key route_cmp keys key) has ∙ there))
 
 -- the authorizations that are put for an id, with those before
 pub authz_put : (views : InboundViews) (config : Config) (held : ObjectMap) (id : ℕ) (earlier : Earlier) (servers : List RouteKey) (found put before : List ObjKey) → AreUsed config held servers id views → found ≡ flat_map (authz_of_server (kept_routes views held)) servers

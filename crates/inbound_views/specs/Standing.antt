@@ -24,6 +24,8 @@ use Rattle.row_sets.specs.Standing.{Standing, any_met, keys_at}
 use Rattle.inbound_views.specs.PortRows.{authz_keys, authz_rows, query_for, route_keys, route_rows, server_rows}
 use Rattle.inbound_views.specs.declared.moving.Earlier.{Earlier}
 use Rattle.inbound_views.specs.declared.moving.Earlier.TheVariants.{Stay, Leave}
+use Rattle.inbound_views.specs.declared.moving.KeysOf.{KeysOf}
+use Rattle.inbound_views.specs.declared.moving.KeysOf.TheVariants.{Routes, Rows}
 use Rattle.inbound_views.specs.declared.views.InboundViews.{InboundViews}
 
 -- ---- what ids are open with
@@ -46,6 +48,11 @@ module _ (config : Config) (held : ObjectMap) (views : InboundViews) (id : ℕ) 
   -- and with the authorizations of this Server and of each of its routes
   abbrev pub HasAuthz : Type 0
   HasAuthz = authz_of views id ≡ authz_keys config held (query_at views id)
+
+-- it is open with the key of the routes of its Server, or with the keys of all rows behind its port
+abbrev pub HasKeys : Config → ObjectMap → KeysOf → InboundViews → ℕ → Type 0
+HasKeys config held Routes views id = HasRoutes config held views id
+HasKeys config held Rows views id = HasRoutes config held views id × HasAuthz config held views id
 
 -- ---- what is kept of the keys that are in use
 
@@ -102,12 +109,10 @@ pub record AreThoseWithout (Holds : ℕ → Type 0) (ids without : List ℕ) : T
   pub all : (id : ℕ) → has_row id ids ≡ true → has_row id without ≡ false → Holds id
   pub only : (id : ℕ) → has_row id without ≡ true → (has_row id ids ≡ true) × (¬ Holds id)
 
--- Those with a route that reads a mark of the change, and those with other routes after it than those of the Server of their port. All
--- others have these after it if they did before.
-pub record AreMoved (config : Config) (before after : ObjectMap) (changed : List Mark) (views : InboundViews) (moved : List ℕ) : Type 0 where
-  pub servers : (id : ℕ) → has_row id moved ≡ false → HasRoutes config before views id → HasRoutes config after views id
-  pub routes : (id : ℕ) → has_row id moved ≡ false → any_met route_rows before changed (routes_of views id) ≡ false
-  pub only : (id : ℕ) → has_row id moved ≡ true → (¬ HasRoutes config after views id) ⊎ (any_met route_rows before changed (routes_of views id) ≡ true)
+-- After a change, those that have other keys than those of the rows behind their ports. All others have these if they did before it.
+pub record AreMoved (config : Config) (before after : ObjectMap) (views : InboundViews) (moved : List ℕ) : Type 0 where
+  pub others : (id : ℕ) → has_row id moved ≡ false → HasKeys config before Rows views id → HasKeys config after Rows views id
+  pub only : (id : ℕ) → has_row id moved ≡ true → ¬ HasKeys config after Rows views id
 
 -- each of these keys is one of those
 abbrev pub Covers : {Key : Type 0} → (Key → Key → Ordering) → List Key → List Key → Type 0

@@ -1,5 +1,5 @@
 // The keys of the rows behind ports.
-ghost use Rattle.std.specs.Prelude.{◌≡◌, ◌↔◌, ◌++◌, IfOk, IsTrue, OnOk, map, option_map};
+ghost use Rattle.std.specs.Prelude.{◌≡◌, ◌↔◌, ◌++◌, ◌∷◌, IfOk, IsTrue, OnOk, map, option_map};
 ghost use Rattle.std.specs.Option.{option_copied};
 ghost use Rattle.view_types.specs.declared.query.Query.TheVariants.{Port};
 ghost use Rattle.view_rules.specs.PolicyLaws.{server_key};
@@ -118,4 +118,40 @@ pub(crate) fn add_routes(
         keys.add(key_of_row(ns, route)?)?;
     }
     Ok(())
+}
+
+/// Whether these are the keys of the authorizations of a Server and of these routes.
+pub(crate) fn are_behind(keys: &[ObjKey], server: &RouteKey, routes: &[RouteRow]) -> bool
+    ensures { IsTrue result ↔ (keys.now ≡ server_key server.now.ns server.now.server
+        ∷ map (key_of_row server.now.ns) routes.now) }
+{
+    match keys {
+        [first, rest @ ..] => {
+            is_key(first, Kind::Server, &server.ns, &server.server)
+                && are_of_rows(rest, &server.ns, routes)
+        }
+        [] => false,
+    }
+}
+
+// Whether these are the keys of these routes.
+fn are_of_rows(keys: &[ObjKey], ns: &Text, routes: &[RouteRow]) -> bool
+    ensures { IsTrue result ↔ (keys.now ≡ map (key_of_row ns.now) routes.now) }
+{
+    if keys.len() != routes.len() {
+        return false;
+    }
+    for (i, route) in routes.iter().enumerate() {
+        if !is_key(&keys[i], route.kind, ns, &route.name) {
+            return false;
+        }
+    }
+    true
+}
+
+// Whether an object has this key.
+fn is_key(key: &ObjKey, kind: Kind, ns: &Text, name: &Text) -> bool
+    ensures { IsTrue result ↔ (key.now ≡ record { kind = kind; ns = ns.now; name = name.now }) }
+{
+    key.kind.is_same(&kind) && key.ns.is_same(ns) && key.name.is_same(name)
 }

@@ -8,10 +8,10 @@ ghost use Rattle.mark_rules.specs.Rows.{name_in, server_part};
 ghost use Rattle.row_views.specs.Ids.{SetsAt, key_at};
 ghost use Rattle.inbound_views.specs.Costs.{AllEnter, AuthzEnter, Enters, RoutesEnter, cost_of_authz, cost_of_routes};
 ghost use Rattle.inbound_views.specs.PortRows.{authz_keys, authz_of_server, route_keys};
-ghost use Rattle.inbound_views.specs.Standing.{AreThoseWithout, AreUsed, HasRoutes, HasRowsOf, NotesUnless, SetsAllRows, SetsRows, authz_of, kept_routes, query_at, routes_of, with_earlier};
+ghost use Rattle.inbound_views.specs.Standing.{AreThoseWithout, AreUsed, HasAuthz, HasKeys, HasRoutes, HasRowsOf, NotesUnless, SetsAllRows, SetsRows, authz_of, kept_routes, query_at, routes_of, with_earlier};
 ghost use Rattle.inbound_views.specs.declared.moving.Earlier.TheVariants.{Stay, Leave};
 
-use crate::keys::{add_routes, are_listed, listed, name_in, server_key};
+use crate::keys::{add_routes, are_behind, are_listed, listed, name_in, server_key};
 use crate::views::{InboundViews, KeepsRows};
 use mark_rules::keys::RouteKey;
 use mesh_base::copied::Copied;
@@ -29,6 +29,15 @@ use view_types::server_view::RouteRow;
 pub enum Earlier {
     Stay,
     Leave,
+}
+
+/// Keys of the rows behind a port.
+#[derive(Clone, Copy)]
+pub enum KeysOf {
+    /// That of the routes of its Server.
+    Routes,
+    /// This, and those of the authorizations of the Server and of its routes.
+    Rows,
 }
 
 impl InboundViews {
@@ -154,29 +163,50 @@ impl InboundViews {
         self.authz.set(store, id, authz, steps)
     }
 
-    /// Those of these ids that are open with the routes of another Server than that which their port is served by.
-    pub(crate) fn moved_among(&self, ids: &[u64]) -> Result<List<u64>, Memory>
+    /// Those of these ids that are open with other keys than these.
+    pub(crate) fn moved_among(&self, ids: &[u64], keys: KeysOf) -> Result<List<u64>, Memory>
         ensures { IfOk result (λ moved. (config : Config) (held : ObjectMap)
             → ⟦<InboundViews as KeepsRows>⟧.stand self.now config held
-            → AreThoseWithout (HasRoutes config held self.now) ids.now moved) }
+            → AreThoseWithout (HasKeys config held keys self.now) ids.now moved) }
     {
         let mut moved = List::new(self.alloc);
         for id in ids {
-            self.note_moved(&mut moved, *id)?;
+            self.note_moved(&mut moved, *id, keys)?;
         }
         Ok(moved)
     }
 
     // Notes the id if it is one of these.
-    fn note_moved(&self, moved: &mut List<u64>, id: u64) -> Result<(), Memory>
+    fn note_moved(&self, moved: &mut List<u64>, id: u64, keys: KeysOf) -> Result<(), Memory>
         ensures { OnOk result ((config : Config) (held : ObjectMap)
             → ⟦<InboundViews as KeepsRows>⟧.stand self.now config held
-            → NotesUnless (HasRoutes config held self.now id) id moved.old moved.new) }
+            → NotesUnless (HasKeys config held keys self.now id) id moved.old moved.new) }
     {
-        if self.has_routes(id) {
+        if self.has_keys(id, keys) {
             return Ok(());
         }
         moved.add(id)
+    }
+
+    // Whether an id is open with these keys.
+    fn has_keys(&self, id: u64, keys: KeysOf) -> bool
+        ensures { (config : Config) (held : ObjectMap)
+            → ⟦<InboundViews as KeepsRows>⟧.stand self.now config held
+            → IsTrue result ↔ HasKeys config held keys self.now id }
+    {
+        match keys {
+            KeysOf::Routes => self.has_routes(id),
+            KeysOf::Rows => self.has_rows(id),
+        }
+    }
+
+    // Whether an id is open with the keys of all rows behind its port.
+    fn has_rows(&self, id: u64) -> bool
+        ensures { (config : Config) (held : ObjectMap)
+            → ⟦<InboundViews as KeepsRows>⟧.stand self.now config held → IsTrue result
+            ↔ (HasRoutes config held self.now id × HasAuthz config held self.now id) }
+    {
+        self.has_routes(id) && self.has_authz(id)
     }
 
     // Whether an id is open with the routes of the Server that its port is served by.
@@ -189,6 +219,20 @@ impl InboundViews {
         match self.servers.key(id) {
             Some(key) => are_listed(routes, &key.ns, self.server_named(id)),
             None => routes.is_empty(),
+        }
+    }
+
+    // Whether an id that is open with the routes of its Server is so with the authorizations of both.
+    fn has_authz(&self, id: u64) -> bool
+        ensures { (config : Config) (held : ObjectMap)
+            → ⟦<InboundViews as KeepsRows>⟧.stand self.now config held
+            → HasRoutes config held self.now id
+            → IsTrue result ↔ HasAuthz config held self.now id }
+    {
+        let authz = self.authz.keys(id);
+        match self.routes.keys(id).first() {
+            Some(server) => are_behind(authz, server, self.kept_routes(server)),
+            None => authz.is_empty(),
         }
     }
 

@@ -7,7 +7,7 @@ ghost use Rattle.view_types.specs.declared.config.Config.{Config as TheConfig};
 ghost use Rattle.mark_graph.specs.RowMarks.{has_row};
 
 use crate::keys::port_key;
-use crate::moving::{Earlier, append};
+use crate::moving::{Earlier, KeysOf, append};
 use authz_index::index::{AuthzIndex, new_index as new_authz_index};
 use mark_graph::by_mark::{list_of, set_of};
 use mark_rules::keys::{RouteKey, ServerKey};
@@ -43,7 +43,7 @@ pub struct InboundViews {
 /// The ids that a change touches.
 #[derive(Drop)]
 struct Touched {
-    /// Those whose keys may be others after it.
+    /// Those whose keys are others after it.
     moved: List<u64>,
     /// Those with a row that reads a mark of it.
     all: List<u64>,
@@ -144,7 +144,7 @@ impl InboundViews {
         ensures moved { IfOk result (λ ids. (config : TheConfig) (held : ObjectMap)
             → ⟦<InboundViews as KeepsRows>⟧.stand self.old config held
             → Leads change.now.marks held store.now.objects
-            → AreMoved config held store.now.objects change.now.marks self.old ids.moved) }
+            → AreMoved config held store.now.objects self.old ids.moved) }
         ensures stand { OnOk result ((config : TheConfig) (held : ObjectMap)
             → ⟦<InboundViews as KeepsRows>⟧.stand self.old config held
             → Leads change.now.marks held store.now.objects
@@ -159,8 +159,9 @@ impl InboundViews {
         let asked = self.servers.follow(store, change, steps)?;
         let rerouted = self.routes.follow(store, change, steps)?;
         let authorized = self.authz.follow(store, change, steps)?;
-        let moved = self.moved_among(asked.as_slice())?;
-        let moved = append(self.alloc, moved, rerouted.as_slice())?;
+        let moved = self.moved_among(asked.as_slice(), KeysOf::Routes)?;
+        let others = self.moved_among(rerouted.as_slice(), KeysOf::Rows)?;
+        let moved = append(self.alloc, moved, others.as_slice())?;
         let moved = in_order(self.alloc, moved)?;
         let all = append(self.alloc, asked, rerouted.as_slice())?;
         let all = append(self.alloc, all, authorized.as_slice())?;

@@ -1,18 +1,15 @@
-use Rattle.std.proofs.Common.{◌≡◌, ◌++◌, ◌||◌, ℕ, List, sym, ap, ◌∙◌}
-use Rattle.std.specs.BTreeMap.{BTreeMap}
+use Rattle.std.proofs.Common.{◌≡◌, ◌++◌, ℕ, List, ap, subst, ◌∙◌}
 use Rattle.mark_graph.specs.RowMarks.{has_row}
-use Rattle.mark_rules.proofs.MarkTests.{neither_first, neither_second}
-use Rattle.mark_rules.specs.declared.keys.RouteKey.{RouteKey}
 use Rattle.row_views.specs.Ids.{key_at}
 use Rattle.row_views.specs.Standing.{is_met}
-use Rattle.row_sets.specs.Standing.{any_met, keys_at}
-use Rattle.inbound_views.specs.PortRows.{route_keys, route_rows}
-use Rattle.inbound_views.specs.Standing.{authz_of, query_at, routes_of, uses_authz, uses_routes, uses_server}
+use Rattle.row_sets.specs.Standing.{any_met}
+use Rattle.inbound_views.specs.Standing.{AreThoseWithout, HasKeys, authz_of, routes_of, uses_authz, uses_routes, uses_server}
 use Rattle.inbound_views.specs.contracts.views.InboundViewsKeepsRows.TheImpl.{ghosts}
+use Rattle.inbound_views.specs.declared.moving.KeysOf.TheVariants.{Routes, Rows}
 use Rattle.inbound_views.specs.declared.views.InboundViews.{InboundViews}
 use Rattle.inbound_views.proofs.Costs.{follows_as, server_cmp}
 use Rattle.inbound_views.proofs.Joined.{key_cmp, route_cmp}
-use Rattle.inbound_views.proofs.Following.{in_all, in_either, port_right, same_queries, why_noted}
+use Rattle.inbound_views.proofs.Following.{are_moved, in_all, in_either, without_same}
 use Rattle.inbound_views.proofs.views.InboundViews.follow_rows.Goals as goal
 
 pub returns-clause-touched : goal.returns-clause-touched
@@ -23,7 +20,7 @@ returns-clause-touched g c = λ config held kept id.
     let rerouted = c.in_ok-rerouted.ensures.touched held kept.routes.rows id ∙ ap (λ filter. any_met filter held marks (routes_of self id)) kept.routes.filtered in
     let authorized = c.in_ok-authorized.ensures.touched held kept.authz.rows id ∙ ap (λ filter. any_met filter held marks (authz_of self id)) kept.authz.filtered in
     c.in_ok-all-3.ensures.ids id
-    ∙ ap (has_row id) (c.in_ok-all-2.ensures ∙ (λ i. (c.in_ok-all.ensures ∙ ap (λ ids. c.in_ok-asked.asked ++ ids) c.as_slice-3.ensures) i ++ c.as_slice-4.ensures i))
+    ∙ ap (has_row id) (c.in_ok-all-2.ensures ∙ (λ i. (c.in_ok-all.ensures ∙ ap (λ ids. c.in_ok-asked.asked ++ ids) c.as_slice-4.ensures) i ++ c.as_slice-5.ensures i))
     ∙ in_all id c.in_ok-asked.asked c.in_ok-rerouted.rerouted c.in_ok-authorized.authorized _ _ _ asked rerouted authorized
 
 pub returns-clause-stand : goal.returns-clause-stand
@@ -44,22 +41,16 @@ returns-clause-moved g c = λ config held kept leads.
       routes = record { rows = c.in_ok-rerouted.ensures.stands held kept.routes.rows leads; filtered = c.follow-2.ensures.filter ∙ kept.routes.filtered };
       authz = record { rows = c.in_ok-authorized.ensures.stands held kept.authz.rows leads; filtered = c.follow-3.ensures.filter ∙ kept.authz.filtered };
     } in
-    let among : (id : ℕ) → has_row id c.in_ok-moved-3.moved ≡ (has_row id c.in_ok-moved.moved || has_row id c.in_ok-rerouted.rerouted) =
-    λ id. c.in_ok-moved-3.ensures.ids id ∙ ap (has_row id) (c.in_ok-moved-2.ensures ∙ ap (λ ids. c.in_ok-moved.moved ++ ids) c.as_slice-2.ensures) ∙ in_either id c.in_ok-moved.moved c.in_ok-rerouted.rerouted in
-    let noted = c.in_ok-moved.ensures config after kept_mid in
-    let same_routes : (id : ℕ) → routes_of mid id ≡ routes_of self id = λ id. ap (λ (by_id : BTreeMap ℕ (List RouteKey)). keys_at by_id id) c.follow-2.ensures.keys in
-    let same_asked : (id : ℕ) → route_keys config after (query_at mid id) ≡ route_keys config after (query_at self id) = λ id. ap (route_keys config after) (same_queries self mid c.follow.ensures.keys id) in
-    let rerouted : (id : ℕ) → has_row id c.in_ok-rerouted.rerouted ≡ any_met route_rows held marks (routes_of self id) =
-    λ id. c.in_ok-rerouted.ensures.touched held kept.routes.rows id ∙ ap (λ filter. any_met filter held marks (routes_of self id)) kept.routes.filtered in
-    record {
-      servers = λ id out right.
-          port_right config marks held after leads self id c.in_ok-asked.asked c.in_ok-moved.moved
-          (c.in_ok-asked.ensures.touched held kept.servers.rows id ∙ ap (λ filter. is_met filter held marks (key_at self.servers.by_id id)) kept.servers.filtered)
-          (λ at unmoved. sym (same_routes id) ∙ noted.all id (ap (has_row id) c.as_slice.ensures ∙ at) unmoved ∙ same_asked id)
-          (neither_first _ _ (sym (among id) ∙ out)) right;
-      routes = λ id out. sym (rerouted id) ∙ neither_second (has_row id c.in_ok-moved.moved) _ (sym (among id) ∙ out);
-      only = λ id in_list. why_noted _ _ _ (rerouted id) (sym (among id) ∙ in_list) (λ there has. (noted.only id there).1 (same_routes id ∙ has ∙ sym (same_asked id)));
-    }
+    let still = without_same config after self mid c.follow.ensures.keys c.follow-2.ensures.keys c.follow-3.ensures.keys in
+    let by_routes : AreThoseWithout (HasKeys config after Routes self) c.in_ok-asked.asked c.in_ok-moved.moved =
+    still Routes c.in_ok-asked.asked c.in_ok-moved.moved (subst (λ (ids : List ℕ). AreThoseWithout (HasKeys config after Routes mid) ids c.in_ok-moved.moved) c.as_slice.ensures (c.in_ok-moved.ensures config after kept_mid)) in
+    let by_rows : AreThoseWithout (HasKeys config after Rows self) c.in_ok-rerouted.rerouted c.in_ok-others.others =
+    still Rows c.in_ok-rerouted.rerouted c.in_ok-others.others (subst (λ (ids : List ℕ). AreThoseWithout (HasKeys config after Rows mid) ids c.in_ok-others.others) c.as_slice-2.ensures (c.in_ok-others.ensures config after kept_mid)) in
+    are_moved config marks held after leads self c.in_ok-asked.asked c.in_ok-rerouted.rerouted c.in_ok-moved.moved c.in_ok-others.others
+    (λ id. c.in_ok-asked.ensures.touched held kept.servers.rows id ∙ ap (λ filter. is_met filter held marks (key_at self.servers.by_id id)) kept.servers.filtered)
+    (λ id. c.in_ok-rerouted.ensures.touched held kept.routes.rows id ∙ ap (λ filter. any_met filter held marks (routes_of self id)) kept.routes.filtered)
+    by_routes by_rows c.in_ok-moved-3.moved
+    (λ id. c.in_ok-moved-3.ensures.ids id ∙ ap (has_row id) (c.in_ok-moved-2.ensures ∙ ap (λ ids. c.in_ok-moved.moved ++ ids) c.as_slice-3.ensures) ∙ in_either id c.in_ok-moved.moved c.in_ok-others.others)
 
 pub returns-clause-steps : goal.returns-clause-steps
 returns-clause-steps g c = λ config held kept.

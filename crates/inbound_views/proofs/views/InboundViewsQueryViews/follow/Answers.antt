@@ -53,7 +53,7 @@ returns-clause-stands g c = λ config held old leads. map_truncated old (λ join
     subst (λ (ids : List ℕ). SetsAllRows ghosts.stand config after Stay ids mid first) c.as_slice.ensures (c.in_ok-set_all.ensures.set config (c.in_ok-touched.ensures.stand config held joined.kept leads)) in
     let resets : SetsAllRows ghosts.stand config after Leave moved first new =
     subst (λ (ids : List ℕ). SetsAllRows ghosts.stand config after Leave ids first new) c.as_slice-2.ensures (c.in_ok-set_all-2.ensures.set config sets.kept) in
-    joined_after ghosts.stand config c.args.change.now.marks held after leads self mid first new c.in_ok-touched.touched.moved joined (c.in_ok-touched.ensures.moved config held joined.kept leads)
+    joined_after ghosts.stand config held after self mid first new c.in_ok-touched.touched.moved joined (c.in_ok-touched.ensures.moved config held joined.kept leads)
     c.follow_rows.ensures.ports (same_ports mid first c.set_all.ensures.servers) (same_ports first new c.set_all-2.ensures.servers)
     c.in_ok-touched.ensures.routes c.in_ok-touched.ensures.authz sets resets)
 
