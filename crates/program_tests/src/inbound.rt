@@ -136,6 +136,10 @@ route_r2_first: {"type":"ADDED","object":{"apiVersion":"policy.linkerd.io/v1","k
 web_four_routes: frame 1 0000000081080110051a037765622a270801120272321a14323032342d30312d30315430303a30303a30305a2a090a070a05080212012f2a270801120272311a14323032342d30312d30325430303a30303a30305a2a090a070a05080212012f2a110801120272302a090a070a05080212012f2a110802120272312a090a070a05080212012f
 route: {"type":"ADDED","object":{"apiVersion":"policy.linkerd.io/v1","kind":"HTTPRoute","metadata":{"name":"r1","namespace":"app"},"spec":{"parentRefs":[{"group":"policy.linkerd.io","kind":"Server","name":"web"}]}}}
 policy_on_r1: {"type":"ADDED","object":{"apiVersion":"policy.linkerd.io/v1alpha1","kind":"AuthorizationPolicy","metadata":{"name":"pa","namespace":"app"},"spec":{"targetRef":{"group":"policy.linkerd.io","kind":"HTTPRoute","name":"r1"},"requiredAuthenticationRefs":[]}}}
+policy_on_r2: {"type":"ADDED","object":{"apiVersion":"policy.linkerd.io/v1alpha1","kind":"AuthorizationPolicy","metadata":{"name":"pb","namespace":"app"},"spec":{"targetRef":{"group":"policy.linkerd.io","kind":"HTTPRoute","name":"r2"},"requiredAuthenticationRefs":[]}}}
+only_r2: {"kind":"HTTPRouteList","apiVersion":"policy.linkerd.io/v1","items":[{"metadata":{"name":"r2","namespace":"app"},"spec":{"parentRefs":[{"group":"policy.linkerd.io","kind":"Server","name":"web"}]}}]}
+web_r1_of_pa: frame 1 000000003b080110051a037765622a300801120272312a090a070a05080212012f321d0802120270611a090a070a050d000000001a060a040a02120022020a00
+web_r2_of_pb: frame 1 000000003b080110051a037765622a300801120272322a090a070a05080212012f321d0802120270621a090a070a050d000000001a060a040a02120022020a00
 policy_on_gateway_r1: {"type":"ADDED","object":{"apiVersion":"policy.linkerd.io/v1alpha1","kind":"AuthorizationPolicy","metadata":{"name":"pg","namespace":"app"},"spec":{"targetRef":{"group":"gateway.networking.k8s.io","kind":"HTTPRoute","name":"r1"},"requiredAuthenticationRefs":[]}}}
 web_r1_guarded: frame 1 000000004e080110051a037765622a110802120272312a090a070a05080212012f2a300801120272312a090a070a05080212012f321d0802120270611a090a070a050d000000001a060a040a02120022020a00
 web_r1_both_guarded: frame 1 000000006d080110051a037765622a300802120272312a090a070a05080212012f321d0802120270671a090a070a050d000000001a060a040a02120022020a002a300801120272312a090a070a05080212012f321d0802120270611a090a070a050d000000001a060a040a02120022020a00
@@ -304,6 +308,7 @@ routes of both groups: pod server route route_gateway watch_port => web_r1_both
 a policy on a route that isn't there: pod server policy_on_r1 watch_port => web
 a filter that is passed over is read all the same: pod server route_bad_filter watch_port => refused 3 BadValue object.spec.rules[0].filters[0].requestRedirect.port Range, web
 a route comes and goes: pod server watch_port drain route drain route_gone => web, web_r1, web
+a list with another route in place of the one there, each with its authorization: pod server route policy_on_r1 policy_on_r2 watch_port drain only_r2 => web_r1_of_pa, web_r2_of_pb
 a Server comes and goes: pod watch_port drain server drain server_gone => default, web, default
 a list without Servers: pod server watch_port drain no_servers => web, default
 two subscriptions to one port, each with its own last view: pod watch_port drain server watch_port_2 => default, web, web_to_2
