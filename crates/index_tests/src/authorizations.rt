@@ -28,7 +28,8 @@ route {"apiVersion":"policy.linkerd.io/v1beta3","kind":"HTTPRoute","metadata":{"
 
 // What happens; then the keys that the index answers, and the row of each key that has users: its ServerAuthorizations (+) and
 // its AuthorizationPolicies (#), and how many marks are read. Each key is a letter: the Server web (s), the route r of
-// policy.linkerd.io (l) and that of gateway.networking.k8s.io (g), and a Pod (p), which has no authorizations.
+// policy.linkerd.io (l) and that of gateway.networking.k8s.io (g), and a Pod (p), which has no authorizations. A row that is
+// peeked at stands in the place of keys, and behind ~ how many objects are looked up for it.
 const ROWS: &str = "\
 enter s => - s:/4
 set web => s s:/4
@@ -51,6 +52,8 @@ set both => s s:/6
 enter l => - s:/6 l:/1
 set on-route => l s:/6 l:#on-route/2
 set on-gateway => - s:/6 l:#on-route/2
+peek g => g:#on-gateway~1 s:/6 l:#on-route/2
+peek l => l:#on-route~0 s:/6 l:#on-route/2
 enter g => - s:/6 l:#on-route/2 g:#on-gateway/1
 remove cli => sl s:/6 l:/2 g:#on-gateway/1
 set cli => sl s:/6 l:#on-route/2 g:#on-gateway/1

@@ -26,7 +26,8 @@ server {"apiVersion":"policy.linkerd.io/v1beta3","kind":"Server","metadata":{"na
 
 // What happens; then the keys that the index answers, and the row of each key that has users: its routes of policy.linkerd.io
 // (+) and of gateway.networking.k8s.io (@) in their order, each with the number of its rules, and how many marks are read. Each
-// key is a letter: the Servers web (w) and db (d).
+// key is a letter: the Servers web (w) and db (d). A row that is
+// peeked at stands in the place of keys, and behind ~ how many objects are looked up for it.
 const ROWS: &str = "\
 enter w => - w:/1
 set a => w w:+a1/1
@@ -44,6 +45,8 @@ set a-sent => wd w:@b0+b0/1 d:/1
 set a-away => - w:@b0+b0/1 d:/1
 remove gate => w w:+b0/1 d:/1
 leave w => - d:/1
+peek w => w:+b0~1 d:/1
+peek d => d:~0 d:/1
 remove b => - d:/1
 set a => - d:/1
 enter w => - w:+a1/1 d:/1

@@ -28,7 +28,8 @@ a.other {"apiVersion":"policy.linkerd.io/v1beta3","kind":"Server","metadata":{"n
 
 // What happens; then the keys that the index answers, and the row of each key that has users: the name of the Server or
 // default, the protocol, the policy and the paths of probes, or none without the Pod; and how many marks are read. Each key is a
-// letter: the ports 8080 (h) and 9990 (i) of the Pod web-1.
+// letter: the ports 8080 (h) and 9990 (i) of the Pod web-1. A row that is
+// peeked at stands in the place of keys, and behind ~ how many objects are looked up for it.
 const ROWS: &str = "\
 enter h => - h:none/2
 set m => h h:none/2
@@ -55,7 +56,10 @@ leave i => - h:m http2 deny/2
 remove m => h h:default unknown all-unauthenticated/2
 leave h => -
 set m => -
+peek h => h:m http2 deny~2
 enter h => - h:m http2 deny/2
+peek h => h:m http2 deny~0 h:m http2 deny/2
+peek i => i:default unknown all-unauthenticated~2 h:m http2 deny/2
 set live => h h:m http2 deny /a /b/2
 enter i => - h:m http2 deny /a /b/2 i:default unknown all-unauthenticated /c/2
 remove m => hi h:default unknown all-unauthenticated /a /b/2 i:default unknown all-unauthenticated /c/2

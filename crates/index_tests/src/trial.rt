@@ -39,6 +39,7 @@ pub(crate) struct Trial<I> {
 impl<I: RowIndex> Trial<I>
 where
     I::Key: Drop,
+    I::Row: Drop,
 {
     pub(crate) fn new(alloc: Global, objects: &'static str, config: Config, index: I) -> Trial<I> {
         Trial {
@@ -66,8 +67,9 @@ where
         Ok(())
     }
 
-    // Does what the words say: `enter` or `leave` and the letter of a key, `set` or `remove` and the name of an object. It
-    // tells the letters of the keys that the index answers, and what is shown of each row with the number of its marks.
+    // Does what the words say: `enter`, `leave` or `peek` and the letter of a key, `set` or `remove` and the name of an object. It
+    // tells the letters of the keys that the index answers, or the row that was peeked at with the number of objects that were
+    // looked up for it, and what is shown of each row that is kept with the number of its marks.
     fn step<W: Writing<I::Key, I::Row>>(
         &mut self,
         writing: &W,
@@ -85,12 +87,30 @@ where
                 self.index.leave(&writing.key(self.alloc, name)?);
                 shown.push_str("-")?;
             }
+            "peek" => self.push_peeked(writing, name, &mut shown)?,
             "set" => self.push_answer(writing, "ADDED", name, &mut shown)?,
             "remove" => self.push_answer(writing, "DELETED", name, &mut shown)?,
             _ => return Err(Fail::new("no step is written so")),
         }
         self.push_rows(writing, &mut shown)?;
         Ok(shown)
+    }
+
+    // Adds the row that is peeked at.
+    fn push_peeked<W: Writing<I::Key, I::Row>>(
+        &mut self,
+        writing: &W,
+        letter: &str,
+        shown: &mut String,
+    ) -> Result<(), Fail> {
+        let key = writing.key(self.alloc, letter)?;
+        let before = self.steps.count();
+        let row = self.index.peek(&self.store, &key, &mut self.steps)?;
+        shown.push_str(format!(in self.alloc; "{letter}:")?.as_str())?;
+        writing.push_row(shown, row.row())?;
+        let count = self.steps.count().saturating_sub(before);
+        shown.push_str(format!(in self.alloc; "~{count}")?.as_str())?;
+        Ok(())
     }
 
     // Adds the letters of the keys that the index answers.
