@@ -7,7 +7,7 @@
     bench/policy.py --instructions              instructions as valgrind counts them, which don't depend on what else runs
 
 Each row is one measurement of `replay`, as compare.py says. The time of a change is that of a run less that of a run over the same feed
-without the changes."""
+without the changes. Both have one change before, which pays for what is done once at the first."""
 import json
 import random
 import subprocess
@@ -119,11 +119,11 @@ def watched(count):
 
 
 def changed(count, times, drained):
-    """One Server takes another policy so often, and the WatchPorts of the first `drained` Pods are drained each time. In the end all
-    subscriptions are cancelled, so that nothing is drained there."""
+    """One Server takes another policy once and then so often, and the WatchPorts of the first `drained` Pods are drained each time. In the
+    end all subscriptions are cancelled, so that nothing is drained there."""
     yield from watched(count)
-    for time in range(times):
-        yield text_of(server_of("web-0", "web-0", accessPolicy=("deny", "audit")[time % 2]))
+    for time in range(1 + times):
+        yield text_of(server_of("web-0", "web-0", accessPolicy=("audit", "deny")[time % 2]))
         for number in range(drained):
             yield drain_line(number + 1)
     for number in range(count):
@@ -132,8 +132,7 @@ def changed(count, times, drained):
 
 def servers(bench):
     for drained, title, counts in ((SERVERS, "all", CHANGES), (1, "one", DRAINED)):
-        # the first change shows what was shown before
-        found = bench.changes(counts, lambda count: changed(SERVERS, count, drained), lambda count: SERVERS + max(0, count - 1))
+        found = bench.changes(counts, lambda count: changed(SERVERS, count, drained), lambda count: SERVERS + 1 + count)
         bench.tell(f"one of {SERVERS:,} Servers changes, {title} drained", found, bench.some(counts[0]))
     times, lines = bench.some(DRAINED[0]), bench.some(LINES)
     reads = bench.tell(f"a line of {LINE} bytes that does nothing", bench.replays((idle_line() for _ in range(lines)), 0), lines)
@@ -185,11 +184,11 @@ def routed(times, line):
 
 
 def remade(times):
-    """A WatchPort of that Server, of which one route changes so often, drained each time."""
+    """A WatchPort of that Server, of which one route changes once and then so often, drained each time."""
     yield from many_routes(MANY)
     yield watch_line(1, "web-1")
     yield drain_line(1)
-    for time in range(times):
+    for time in range(1 + times):
         spec = {"parentRefs": [{"group": "policy.linkerd.io", "kind": "Server", "name": "web"}],
                 "rules": [{"matches": [{"path": {"type": "PathPrefix", "value": f"/time{time}"}}]}]}
         yield text_of(added("policy.linkerd.io/v1", "HTTPRoute", "r0000", spec))
@@ -200,7 +199,7 @@ def routes(bench):
     request = {"control": "simulate", "workload": "app:web-1", "port": 8080, "client": "10.0.0.9", "http": {"path": "/items7"}}
     found = bench.changes(MADE, lambda count: routed(count, lambda _: text_of(request)), lambda count: count)
     bench.tell(f"a simulation over {MANY:,} routes and {MANY:,} authorizations", found, bench.some(MADE[0]))
-    found = bench.changes(MADE, remade, lambda count: count + 1)
+    found = bench.changes(MADE, remade, lambda count: count + 2)
     bench.tell("one of these routes changes, the WatchPort is drained", found, bench.some(MADE[0]))
 
 
@@ -213,14 +212,14 @@ def allowing(number, cidr="10.0.0.0/8"):
 
 
 def allowed(times, method):
-    """A port of a Server with ALLOWED authorizations, one of which changes so often, drained each time."""
+    """A port of a Server with ALLOWED authorizations, one of which changes once and then so often, drained each time."""
     yield text_of(pod_named("web-1", "web"))
     yield text_of(server_of("web", "web"))
     for number in range(ALLOWED):
         yield text_of(allowing(number))
     yield watch_line(1, "web-1", method)
     yield drain_line(1)
-    for time in range(times):
+    for time in range(1 + times):
         yield text_of(allowing(0, f"10.{time % 200}.0.0/16"))
         yield drain_line(1)
 
@@ -235,7 +234,7 @@ def bytes_sent(bench, lines):
 def authorizations_of_a_server(bench):
     """Both versions of the stream. The second is measured of the program alone, since the older one may not know it."""
     for method, some in (("WatchPort", bench), ("WatchPort2", Bench(bench.programs[:1], bench.meter, bench.folder))):
-        found = some.changes(MADE, lambda count, method=method: allowed(count, method), lambda count: count + 1)
+        found = some.changes(MADE, lambda count, method=method: allowed(count, method), lambda count: count + 2)
         some.tell(f"one of {ALLOWED:,} authorizations changes, the {method} is drained", found, some.some(MADE[0]))
         sent = bytes_sent(bench, allowed(1, method)) - bytes_sent(bench, allowed(0, method))
         print(f"  one change sends {sent:,} bytes", flush=True)
