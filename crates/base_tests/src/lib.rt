@@ -1,7 +1,7 @@
 //! Tests of the base crates: outside vectors, and each call once with ample memory. They stand apart, since a crate with
 //! tests is proved twice.
 //!
-//! Stands on mesh_outside, line_run, net_cidr, label_select, k8s_meta and proto_wire.
+//! Stands on mesh_base, mesh_outside, line_run, net_cidr, label_select, k8s_meta and proto_wire.
 #![tactic(auto)]
 
 #[cfg(test)]
@@ -22,5 +22,7 @@ mod quantities;
 mod rows;
 #[cfg(test)]
 mod selectors;
+#[cfg(test)]
+mod texts;
 #[cfg(test)]
 mod wire;

@@ -31,7 +31,10 @@ pub fn words_of<R: Env + AllocGlobal>(rt: &R) -> Result<Vec<Text>, Status>
     };
     let mut words = Vec::new(rt.alloc());
     for word in args.skip(1) {
-        let Ok(()) = words.push(Text::from_string(word)) else {
+        let Ok(word) = Text::from_string(word) else {
+            return Err(Status::Memory);
+        };
+        let Ok(()) = words.push(word) else {
             return Err(Status::Memory);
         };
     }

@@ -17,7 +17,7 @@ use view_types::verdict::Verdict;
 pub fn text_of(alloc: Global, refusal: &Refusal) -> Result<Text, Memory>
     ensures { IfOk result (λ text. text ≡ refusal_text refusal.now) }
 {
-    Ok(Text::from_string(format!(in alloc; "{refusal}")?))
+    Ok(Text::from_string(format!(in alloc; "{refusal}")?)?)
 }
 
 /// Writes `refused <line> <fault>`.

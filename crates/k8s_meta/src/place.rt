@@ -11,6 +11,7 @@ use crate::fault::{ReadFault, What};
 use crate::key::Key;
 use crate::path::Path;
 use crate::strings::string_in;
+use mesh_base::memory::Memory;
 use mesh_base::text::Text;
 use serde_json::{Map, Number, Value};
 use std::alloc::Global;
@@ -103,13 +104,17 @@ impl<'a> Place<'a> {
         }
     }
 
+    fn path_text(&self) -> Result<Text, Memory>
+        ensures { IfOk result (λ path. path ≡ (seen self.now).at) }
+    {
+        Text::from_string(self.path.text(self.alloc)?)
+    }
+
     pub fn wrong_type(&self) -> ReadFault
         ensures { IsFault result (faults.WrongType (seen self.now).at) }
     {
-        match self.path.text(self.alloc) {
-            Ok(path) => ReadFault::WrongType {
-                path: Text::from_string(path),
-            },
+        match self.path_text() {
+            Ok(path) => ReadFault::WrongType { path },
             Err(_) => ReadFault::Memory,
         }
     }
@@ -117,10 +122,8 @@ impl<'a> Place<'a> {
     pub fn missing(&self) -> ReadFault
         ensures { IsFault result (faults.Missing (seen self.now).at) }
     {
-        match self.path.text(self.alloc) {
-            Ok(path) => ReadFault::Missing {
-                path: Text::from_string(path),
-            },
+        match self.path_text() {
+            Ok(path) => ReadFault::Missing { path },
             Err(_) => ReadFault::Memory,
         }
     }
@@ -128,10 +131,8 @@ impl<'a> Place<'a> {
     pub fn bad_name(&self) -> ReadFault
         ensures { IsFault result (faults.BadName (seen self.now).at) }
     {
-        match self.path.text(self.alloc) {
-            Ok(path) => ReadFault::BadName {
-                path: Text::from_string(path),
-            },
+        match self.path_text() {
+            Ok(path) => ReadFault::BadName { path },
             Err(_) => ReadFault::Memory,
         }
     }
@@ -139,11 +140,8 @@ impl<'a> Place<'a> {
     pub fn bad_value(&self, what: What) -> ReadFault
         ensures { IsFault result (faults.BadValue (seen self.now).at what) }
     {
-        match self.path.text(self.alloc) {
-            Ok(path) => ReadFault::BadValue {
-                path: Text::from_string(path),
-                what,
-            },
+        match self.path_text() {
+            Ok(path) => ReadFault::BadValue { path, what },
             Err(_) => ReadFault::Memory,
         }
     }

@@ -8,14 +8,30 @@ use crate::memory::Memory;
 use std::alloc::Global;
 use std::cmp::Ordering;
 use std::marker::Model;
+use std::rc::RcStr;
 
-/// A text, which contracts see as its bytes.
+/// A text, which contracts see as its bytes. Its copies share them, so that a copy takes no memory.
 #[derive(Debug, Drop)]
 pub struct Text {
+    text: RcStr,
+}
+
+/// A text that nobody shares, which is made of a `String` without memory.
+#[derive(Debug, Drop)]
+pub struct OwnText {
     text: String,
 }
 
 impl Model for Text {
+    ghost use Rattle.std.specs.Prelude.{List, ℕ};
+    ghost use Rattle.std.specs.Rc.{rc_str_bytes};
+
+    ghost Value = { List ℕ };
+
+    ghost view = { λ t. rc_str_bytes t.text };
+}
+
+impl Model for OwnText {
     ghost use Rattle.std.specs.Prelude.{List, ℕ};
     ghost use Rattle.std.specs.String.{string_bytes};
 
@@ -28,15 +44,16 @@ impl Text {
     pub fn from_str(alloc: Global, text: &str) -> Result<Text, Memory>
         ensures { IfOk result (λ made. made ≡ text.now) }
     {
-        let text = String::from_str(alloc, text)?;
+        let text = RcStr::from_str(alloc, text)?;
         Ok(Text { text })
     }
 
-    /// The text of a `String`, without a copy.
-    pub fn from_string(text: String) -> Text
-        ensures { result ≡ string_bytes text }
+    /// The text of a `String`, whose bytes are not copied.
+    pub fn from_string(text: String) -> Result<Text, Memory>
+        ensures { IfOk result (λ made. made ≡ string_bytes text) }
     {
-        Text { text }
+        let text = RcStr::from_string(text)?;
+        Ok(Text { text })
     }
 
     pub fn as_str(&self) -> &str
@@ -45,6 +62,7 @@ impl Text {
         self.text.as_str()
     }
 
+    /// Memory comes only where the text has 2^64 - 1 copies.
     pub fn copy(&self) -> Result<Text, Memory>
         ensures { IfOk result (λ copy. copy ≡ self.now) }
     {
@@ -57,6 +75,20 @@ impl Text {
         ensures utf8 { IsUtf8 result.now }
     {
         self.text.as_str().as_bytes()
+    }
+}
+
+impl OwnText {
+    pub fn from_string(text: String) -> OwnText
+        ensures { result ≡ string_bytes text }
+    {
+        OwnText { text }
+    }
+
+    pub fn as_str(&self) -> &str
+        ensures { result.now ≡ self.now }
+    {
+        self.text.as_str()
     }
 }
 

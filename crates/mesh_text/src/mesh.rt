@@ -34,7 +34,7 @@ pub fn identity_of(
     let control = config.control_ns.as_str();
     let domain = config.trust_domain.as_str();
     let text = format!(in alloc; "{account}.{ns}.serviceaccount.identity.{control}.{domain}")?;
-    Ok(Text::from_string(text))
+    Ok(Text::from_string(text)?)
 }
 
 /// The full name of a Service, under which its profile stands.
@@ -45,7 +45,7 @@ pub fn full_name(alloc: Global, config: &Config, ns: &Text, name: &Text) -> Resu
     let ns = ns.as_str();
     let domain = config.cluster_domain.as_str();
     let text = format!(in alloc; "{name}.{ns}.svc.{domain}")?;
-    Ok(Text::from_string(text))
+    Text::from_string(text)
 }
 
 /// The ports of a Pod or Service at which no protocol is looked for.

@@ -112,7 +112,7 @@ pub(crate) fn write_in_parts(
 pub(crate) fn words_of(alloc: Global, words: &str) -> Result<Vec<Text>, Fail> {
     let mut texts = Vec::new(alloc);
     for word in words.split(' ') {
-        texts.push(Text::from_string(String::from_str(alloc, word)?))?;
+        texts.push(Text::from_str(alloc, word)?)?;
     }
     Ok(texts)
 }

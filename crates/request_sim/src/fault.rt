@@ -2,7 +2,7 @@ ghost use Rattle.std.specs.Prelude.{◌≡◌};
 ghost use Rattle.request_sim.specs.declared.fault.SimFault.TheVariants.{Memory};
 
 use mesh_base::memory;
-use mesh_base::text::Text;
+use mesh_base::text::OwnText;
 
 /// Why a simulation has no verdict.
 #[derive(Debug, Drop)]
@@ -11,7 +11,7 @@ pub enum SimFault {
     /// A regular expression was refused. It stands in a match of a route that is attached to the Server of the port.
     Pattern {
         /// `namespace/name` of the route.
-        route: Text,
+        route: OwnText,
         /// The place of the rule, from 0.
         rule: u64,
         /// The place of the match in the rule, from 0.

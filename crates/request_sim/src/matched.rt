@@ -10,7 +10,7 @@ ghost use Rattle.request_sim.specs.declared.fault.SimFault.TheVariants.{Pattern}
 
 use crate::fault::SimFault;
 use mesh_base::memory::Memory;
-use mesh_base::text::Text;
+use mesh_base::text::{OwnText, Text};
 use mesh_outside::Patterns;
 use route_match::best::{Candidate, best_match};
 use route_match::fault::MatchFault;
@@ -80,7 +80,7 @@ fn pattern_fault(room: String, row: &RouteRow, rule: usize, item: usize) -> SimF
     }
 }
 
-fn text_of(front: String, name: &Text) -> Text
+fn text_of(front: String, name: &Text) -> OwnText
     requires { string_len front + length name.now ≤ string_capacity front }
     ensures { result ≡ string_bytes front ++ name.now }
 {
@@ -88,5 +88,5 @@ fn text_of(front: String, name: &Text) -> Text
     let Ok(()) = text.push_str(name.as_str()) else {
         unreachable!();
     };
-    Text::from_string(text)
+    OwnText::from_string(text)
 }

@@ -2,8 +2,9 @@
 use crate::command::{Command, value_of};
 use crate::options::{ARGUMENTS, Argument};
 use crate::words::{CommandReader, Wrong};
+use mesh_base::memory::Memory;
 use mesh_base::text::Text;
-use std::alloc::{AllocError, Global};
+use std::alloc::Global;
 
 // What was read of the words so far.
 #[derive(Drop)]
@@ -109,17 +110,17 @@ fn probe_words(
     probe: &str,
     argument: Argument,
     value: &str,
-) -> Result<Vec<Text>, AllocError> {
+) -> Result<Vec<Text>, Memory> {
     let mut words = Vec::new(alloc);
     for word in probe.split(' ') {
-        words.push(Text::from_string(String::from_str(alloc, word)?))?;
+        words.push(Text::from_str(alloc, word)?)?;
     }
     let last = if argument == Argument::Number {
         String::from_str(alloc, value)?
     } else {
         format!(in alloc; "{}={value}", argument.name())?
     };
-    words.push(Text::from_string(last))?;
+    words.push(Text::from_string(last)?)?;
     Ok(words)
 }
 
