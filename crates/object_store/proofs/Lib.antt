@@ -7,6 +7,7 @@ pub mod Kept
 pub mod KeptAt
 pub mod Leading
 pub mod OneMore
+pub mod PartsOfPlaces
 pub mod PutAll
 pub mod Room
 pub mod SameKeys

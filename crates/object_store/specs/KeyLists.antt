@@ -57,10 +57,6 @@ abbrev pub has_other : Mark → Option Object → Bool
 has_other mark None = false
 has_other mark (Some o) = has_mark (other_marks o) mark
 
--- a key is kept for a mark exactly where an object is held at it that has the mark
-abbrev pub AreKeysOf : ObjectMap → MarkKeys → Type 0
-AreKeysOf objects keys = (mark : Mark) (key : ObjKey) → is_kept keys mark key ≡ has_other mark (get objects key)
-
 -- it is the mark of a key, which at most one object has
 abbrev pub is_of_key : Mark → Bool
 is_of_key (Obj key) = true
@@ -82,22 +78,53 @@ is_aside mark key aside = is_at aside.parent mark && has_key key aside.keys
 abbrev pub is_among : List Mark → Mark → Bool
 is_among marks mark = not (is_of_key mark) && has_mark marks mark
 
+-- ---- keys at places, each where an object belongs there
+
+module _ {X : Type 0} (belongs : X → Option Object → Bool) where
+  -- a key stands at a place exactly where an object is held at it that belongs there
+  abbrev pub StandAt : ObjectMap → (X → ObjKey → Bool) → Type 0
+  StandAt objects stands = (place : X) (key : ObjKey) → stands place key ≡ belongs place (get objects key)
+
+  -- the object belonged to the place, and stood at the key
+  abbrev pub was_at : X → ObjKey → Object → Bool
+  was_at place key o = belongs place (Some o) && is_key key (key_of o)
+
+  -- the new key is the key, and the object at it belongs to the place
+  abbrev pub comes_at : ObjectMap → X → ObjKey → ObjKey → Bool
+  comes_at objects place key new = is_key key new && belongs place (get objects new)
+
+  -- an object's key is taken out where the object belonged
+  abbrev pub AreTaken : List Object → (X → ObjKey → Bool) → (X → ObjKey → Bool) → Type 0
+  AreTaken old before after = (place : X) (key : ObjKey) → after place key ≡ (not (list_any (was_at place key) old) && before place key)
+
+  -- a new key is put in where the object at it belongs
+  abbrev pub ArePut : ObjectMap → List ObjKey → (X → ObjKey → Bool) → (X → ObjKey → Bool) → Type 0
+  ArePut objects new before after = (place : X) (key : ObjKey) → after place key ≡ (list_any (comes_at objects place key) new || before place key)
+
+  -- The keys follow a change: those of its old objects are taken out at their places, and then its new keys are put in at the
+  -- places to which the objects belong. Every other key stays.
+  abbrev pub FollowAt : ObjectMap → (X → ObjKey → Bool) → (X → ObjKey → Bool) → Change → Type 0
+  FollowAt objects before after change = (place : X) (key : ObjKey)
+      → after place key ≡ (list_any (comes_at objects place key) change.new || (not (list_any (was_at place key) change.old) && before place key))
+
+-- a key is kept for a mark exactly where an object is held at it that has the mark
+abbrev pub AreKeysOf : ObjectMap → MarkKeys → Type 0
+AreKeysOf objects keys = StandAt has_other objects (is_kept keys)
+
 -- the object had the mark, and stood at the key
 abbrev pub is_old : Mark → ObjKey → Object → Bool
-is_old mark key o = has_mark (other_marks o) mark && is_key key (key_of o)
+is_old mark key o = was_at has_other mark key o
 
 -- the new key is the key, and the object at it has the mark
 abbrev pub is_new : ObjectMap → Mark → ObjKey → ObjKey → Bool
-is_new objects mark key new = is_key key new && has_other mark (get objects new)
+is_new objects mark key new = comes_at has_other objects mark key new
 
--- The keys follow a change: those of its old objects are taken out at their marks, and then its new keys are put in at the
--- marks that the objects have there. Every other key stays.
+-- the keys that are kept for marks follow a change
 abbrev pub Follows : ObjectMap → MarkKeys → MarkKeys → Change → Type 0
-Follows objects before after change = (mark : Mark) (key : ObjKey)
-    → is_kept after mark key ≡ (list_any (is_new objects mark key) change.new || (not (list_any (is_old mark key) change.old) && is_kept before mark key))
+Follows objects before after change = FollowAt has_other objects (is_kept before) (is_kept after) change
 
 -- a refusal leaves the keys as they were, unless it spends the store
-abbrev pub StayUnlessSpent : MarkKeys → MarkKeys → StoreFault → Type 0
+abbrev pub StayUnlessSpent : {K : Type 0} → K → K → StoreFault → Type 0
 StayUnlessSpent before after Memory = Unit {0}
 StayUnlessSpent before after (Full held) = after ≡ before
 

@@ -3,3 +3,4 @@ pub mod Held
 pub mod KeyLists
 pub mod Kinds
 pub mod Relisted
+pub mod ServerKeys

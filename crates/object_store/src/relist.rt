@@ -8,11 +8,12 @@ ghost use Rattle.mesh_base.specs.Keyed.{IsKeyed};
 ghost use Rattle.view_types.specs.Objects.{key_of, IsListOf};
 ghost use Rattle.object_store.specs.Changes.{IsFull};
 ghost use Rattle.object_store.specs.Relisted.{Relists, exceeds};
-ghost use Rattle.object_store.specs.KeyLists.{AreKeysOf, StayUnlessSpent};
+ghost use Rattle.object_store.specs.KeyLists.{StayUnlessSpent};
+ghost use Rattle.object_store.specs.ServerKeys.{AreKept};
 
 use crate::change::{Change, StoreFault};
-use crate::mark_keys::MarkKeys;
 use crate::objects::Objects;
+use crate::store_keys::StoreKeys;
 use crate::upkeep::follow_kind;
 use mark_rules::object_marks::add_all_marks;
 use mesh_base::key::{Kind, ObjKey};
@@ -25,7 +26,7 @@ use view_types::object::Object;
 pub fn relist(
     alloc: Global,
     objects: &mut Objects,
-    keys: &mut MarkKeys,
+    keys: &mut StoreKeys,
     limit: u32,
     kind: Kind,
     items: List<Object>,
@@ -36,7 +37,7 @@ pub fn relist(
     ensures room { OnOk result (exceeds objects.old limit kind items ≡ false) }
     ensures full { IfErr result (IsFull objects.old objects.new (exceeds objects.old limit kind items)) }
     ensures kept { len objects.new ≤ limit }
-    ensures keys { OnOk result (AreKeysOf objects.old keys.old → AreKeysOf objects.new keys.new) }
+    ensures keys { OnOk result (AreKept objects.old keys.old → AreKept objects.new keys.new) }
     ensures keys_stay { IfErr result (StayUnlessSpent keys.old keys.new) }
 {
     objects.stand_at_keys();

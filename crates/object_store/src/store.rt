@@ -5,14 +5,15 @@ ghost use Rattle.mark_rules.specs.Reads.{count_at};
 ghost use Rattle.view_types.specs.declared.mark.Mark.TheVariants.{IpPod, IpService, Obj, PolicyOn, RouteOn, ServerAuthzIn, ServersIn, SlicesOf};
 ghost use Rattle.view_types.specs.Objects.{AtKeys, key_of, IsListOf};
 ghost use Rattle.object_store.specs.Relisted.{Relists, exceeds};
-ghost use Rattle.object_store.specs.KeyLists.{AreKeysOf, FindsFirst, FindsKeys, StayUnlessSpent, is_of_key};
+ghost use Rattle.object_store.specs.KeyLists.{FindsFirst, FindsKeys, StayUnlessSpent, is_of_key};
 ghost use Rattle.object_store.specs.Held.{key_with};
+ghost use Rattle.object_store.specs.ServerKeys.{AreKept, FindsServers};
 ghost use Rattle.object_store.specs.Changes.{Puts, Takes, Refuses, IsFull, lacks_room};
 
 use crate::change::{Change, StoreFault};
-use crate::mark_keys::MarkKeys;
 use crate::objects::Objects;
 use crate::relist::relist;
+use crate::store_keys::StoreKeys;
 use crate::upkeep::follow;
 use mark_rules::object_marks::marks_of;
 use mesh_base::key::{Kind, ObjKey};
@@ -31,7 +32,7 @@ use view_types::route::ParentKind;
 /// The objects that are held, at most `limit`. Once memory ran out, nothing can be changed any more.
 pub struct Store {
     objects: Objects,
-    keys: MarkKeys,
+    keys: StoreKeys,
     limit: u32,
     spent: bool,
     alloc: Global,
@@ -54,7 +55,7 @@ impl Model for Store {
     ghost use Rattle.std.specs.Prelude.{◌≡◌, ◌≤◌, false};
     ghost use Rattle.std.specs.FinMap.{len};
     ghost use Rattle.object_store.specs.Held.{Held, held_code};
-    ghost use Rattle.object_store.specs.KeyLists.{AreKeysOf};
+    ghost use Rattle.object_store.specs.ServerKeys.{AreKept};
 
     ghost Value = { Held };
 
@@ -63,7 +64,7 @@ impl Model for Store {
     ghost view = { λ s. record { objects = s.objects; limit = s.limit; spent = s.spent } };
 
     ghost invariant = { λ s. (len s.objects ≤ s.limit)
-        × (s.spent ≡ false → AreKeysOf s.objects s.keys) };
+        × (s.spent ≡ false → AreKept s.objects s.keys) };
 }
 
 impl Store {
@@ -72,7 +73,7 @@ impl Store {
     {
         Store {
             objects: Objects::new(alloc),
-            keys: MarkKeys::new(alloc),
+            keys: StoreKeys::new(alloc),
             limit,
             spent: false,
             alloc,
@@ -149,7 +150,7 @@ impl Store {
         ensures { FindsKeys self.now mark.now result.now }
     {
         self.objects.stand_at_keys();
-        self.keys.at(mark)
+        self.keys.marked.at(mark)
     }
 
     /// The keys of the EndpointSlices of the Service, in order.
@@ -157,7 +158,7 @@ impl Store {
         ensures { FindsKeys self.now (SlicesOf ns.now service.now) result.now }
     {
         self.objects.stand_at_keys();
-        self.keys.slices_of(ns, service)
+        self.keys.marked.slices_of(ns, service)
     }
 
     /// The keys of the Servers of the namespace, in order.
@@ -165,7 +166,15 @@ impl Store {
         ensures { FindsKeys self.now (ServersIn ns.now) result.now }
     {
         self.objects.stand_at_keys();
-        self.keys.servers_in(ns)
+        self.keys.marked.servers_in(ns)
+    }
+
+    /// The keys of the Servers of the namespace whose first required label has the value, in order. One that requires none
+    /// stands with its namespace in place of the value.
+    pub fn servers_requiring(&self, ns: &Text, value: &Text) -> &[ObjKey]
+        ensures { FindsServers self.now (ns.now, value.now) result.now }
+    {
+        self.keys.servers.at(ns, value)
     }
 
     /// The keys of the ServerAuthorizations of the namespace, in order.
@@ -173,7 +182,7 @@ impl Store {
         ensures { FindsKeys self.now (ServerAuthzIn ns.now) result.now }
     {
         self.objects.stand_at_keys();
-        self.keys.server_authz_in(ns)
+        self.keys.marked.server_authz_in(ns)
     }
 
     /// The keys of the AuthorizationPolicies of the namespace with this target, in order.
@@ -181,7 +190,7 @@ impl Store {
         ensures { FindsKeys self.now (PolicyOn ns.now kind name.now) result.now }
     {
         self.objects.stand_at_keys();
-        self.keys.policies_on(ns, kind, name)
+        self.keys.marked.policies_on(ns, kind, name)
     }
 
     /// The keys of the routes of the namespace with this parent, in order.
@@ -189,7 +198,7 @@ impl Store {
         ensures { FindsKeys self.now (RouteOn ns.now kind name.now) result.now }
     {
         self.objects.stand_at_keys();
-        self.keys.routes_on(ns, kind, name)
+        self.keys.marked.routes_on(ns, kind, name)
     }
 
     /// The first key of the Services at the address.
@@ -210,14 +219,14 @@ impl Store {
         ensures { FindsKeys self.now (IpService ip) result.now }
     {
         self.objects.stand_at_keys();
-        self.keys.services_at(ip)
+        self.keys.marked.services_at(ip)
     }
 
     fn pods_at(&self, ip: Ip) -> &[ObjKey]
         ensures { FindsKeys self.now (IpPod ip) result.now }
     {
         self.objects.stand_at_keys();
-        self.keys.pods_at(ip)
+        self.keys.marked.pods_at(ip)
     }
 
     /// Puts the object at its key. `Full` comes where the key is new and as many objects are held as may be.
@@ -291,7 +300,7 @@ impl Store {
 fn put(
     alloc: Global,
     objects: &mut Objects,
-    keys: &mut MarkKeys,
+    keys: &mut StoreKeys,
     limit: u32,
     object: Object,
 ) -> Result<Change, StoreFault>
@@ -301,7 +310,7 @@ fn put(
     ensures full { IfErr result (IsFull objects.old objects.new
         (lacks_room objects.old limit (key_of object))) }
     ensures within { map.len objects.new ≤ limit }
-    ensures keys { OnOk result (AreKeysOf objects.old keys.old → AreKeysOf objects.new keys.new) }
+    ensures keys { OnOk result (AreKept objects.old keys.old → AreKept objects.new keys.new) }
     ensures keys_stay { IfErr result (StayUnlessSpent keys.old keys.new) }
 {
     objects.stand_at_keys();
@@ -316,12 +325,12 @@ fn put(
 fn take(
     alloc: Global,
     objects: &mut Objects,
-    keys: &mut MarkKeys,
+    keys: &mut StoreKeys,
     key: &ObjKey,
 ) -> Result<Change, Memory>
     ensures ok { IfOk result (Takes objects.old objects.new key.now) }
     ensures removed { objects.new ≡ map.remove objects.old key.now }
-    ensures keys { OnOk result (AreKeysOf objects.old keys.old → AreKeysOf objects.new keys.new) }
+    ensures keys { OnOk result (AreKept objects.old keys.old → AreKept objects.new keys.new) }
 {
     objects.stand_at_keys();
     let change = Change::taken(alloc, objects.remove(key))?;

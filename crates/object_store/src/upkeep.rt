@@ -1,16 +1,16 @@
 ghost use Rattle.std.specs.Prelude.{◌≡◌, ◌&&◌, ◌||◌, not, true, OnOk};
-ghost use Rattle.std.specs.FinMap.{get};
-ghost use Rattle.std.specs.List.{All, list_any};
+ghost use Rattle.std.specs.List.{All};
 ghost use Rattle.mesh_base.specs.declared.key.ObjKey.{ObjKey};
 ghost use Rattle.view_types.specs.Objects.{key_of};
 ghost use Rattle.view_types.specs.declared.mark.Mark.{Mark};
-ghost use Rattle.object_store.specs.KeyLists.{Follows, is_kept, is_new, is_old};
+ghost use Rattle.object_store.specs.KeyLists.{ArePut, AreTaken, Follows, comes_at, has_other, is_kept, is_new, is_old, was_at};
 ghost use Rattle.object_store.specs.Relisted.{is_of};
+ghost use Rattle.object_store.specs.ServerKeys.{Place, ServersFollow, is_kept_for, requires_value};
 
 use crate::aside::{put_back, set_aside};
 use crate::change::Change;
-use crate::mark_keys::MarkKeys;
 use crate::objects::Objects;
+use crate::store_keys::StoreKeys;
 use mark_rules::object_marks::add_others;
 use mesh_base::key::{Kind, ObjKey};
 use mesh_base::list::List;
@@ -22,10 +22,13 @@ use view_types::object::Object;
 pub fn follow(
     alloc: Global,
     objects: &Objects,
-    keys: &mut MarkKeys,
+    keys: &mut StoreKeys,
     change: &Change,
 ) -> Result<(), Memory>
-    ensures { OnOk result (Follows objects.now keys.old keys.new change.now) }
+    ensures marked { OnOk result
+        (Follows objects.now keys.old.marked keys.new.marked change.now) }
+    ensures servers { OnOk result
+        (ServersFollow objects.now keys.old.servers keys.new.servers change.now) }
 {
     take_objects(alloc, keys, change.old.as_slice())?;
     put_objects(alloc, objects, keys, change.new.as_slice())
@@ -35,22 +38,27 @@ pub fn follow(
 pub fn follow_kind(
     alloc: Global,
     objects: &Objects,
-    keys: &mut MarkKeys,
+    keys: &mut StoreKeys,
     kind: Kind,
     change: &Change,
 ) -> Result<(), Memory>
     requires { All (λ o. is_of kind (key_of o) ≡ true) change.now.old }
-    ensures { OnOk result (Follows objects.now keys.old keys.new change.now) }
+    ensures marked { OnOk result
+        (Follows objects.now keys.old.marked keys.new.marked change.now) }
+    ensures servers { OnOk result
+        (ServersFollow objects.now keys.old.servers keys.new.servers change.now) }
 {
-    let asides = set_aside(alloc, keys, kind, change.marks.as_slice())?;
+    let asides = set_aside(alloc, &mut keys.marked, kind, change.marks.as_slice())?;
     follow(alloc, objects, keys, change)?;
-    put_back(alloc, keys, asides)
+    put_back(alloc, &mut keys.marked, asides)
 }
 
 /// The last first, since a key is taken fastest from the end of a list.
-fn take_objects(alloc: Global, keys: &mut MarkKeys, old: &[Object]) -> Result<(), Memory>
-    ensures { OnOk result ((m : Mark) (k : ObjKey)
-        → is_kept keys.new m k ≡ (not (list_any (is_old m k) old.now) && is_kept keys.old m k)) }
+fn take_objects(alloc: Global, keys: &mut StoreKeys, old: &[Object]) -> Result<(), Memory>
+    ensures marked { OnOk result
+        (AreTaken has_other old.now (is_kept keys.old.marked) (is_kept keys.new.marked)) }
+    ensures servers { OnOk result (AreTaken requires_value old.now
+        (is_kept_for keys.old.servers) (is_kept_for keys.new.servers)) }
 {
     for at in (0..old.len()).rev() {
         take_object(alloc, keys, &old[at])?;
@@ -61,12 +69,13 @@ fn take_objects(alloc: Global, keys: &mut MarkKeys, old: &[Object]) -> Result<()
 fn put_objects(
     alloc: Global,
     objects: &Objects,
-    keys: &mut MarkKeys,
+    keys: &mut StoreKeys,
     new: &[ObjKey],
 ) -> Result<(), Memory>
-    ensures { OnOk result ((m : Mark) (k : ObjKey)
-        → is_kept keys.new m k
-        ≡ (list_any (is_new objects.now m k) new.now || is_kept keys.old m k)) }
+    ensures marked { OnOk result (ArePut has_other objects.now new.now
+        (is_kept keys.old.marked) (is_kept keys.new.marked)) }
+    ensures servers { OnOk result (ArePut requires_value objects.now new.now
+        (is_kept_for keys.old.servers) (is_kept_for keys.new.servers)) }
 {
     for key in new {
         put_object(alloc, objects, keys, key)?;
@@ -74,31 +83,41 @@ fn put_objects(
     Ok(())
 }
 
-fn take_object(alloc: Global, keys: &mut MarkKeys, object: &Object) -> Result<(), Memory>
-    ensures { OnOk result ((m : Mark) (k : ObjKey)
-        → is_kept keys.new m k ≡ (not (is_old m k object.now) && is_kept keys.old m k)) }
+fn take_object(alloc: Global, keys: &mut StoreKeys, object: &Object) -> Result<(), Memory>
+    ensures marked { OnOk result ((m : Mark) (k : ObjKey) → is_kept keys.new.marked m k
+        ≡ (not (is_old m k object.now) && is_kept keys.old.marked m k)) }
+    ensures servers { OnOk result ((place : Place) (k : ObjKey)
+        → is_kept_for keys.new.servers place k
+        ≡ (not (was_at requires_value place k object.now)
+        && is_kept_for keys.old.servers place k)) }
 {
     let mut marks = List::new(alloc);
     add_others(&mut marks, object)?;
     let key = object.key(alloc)?;
-    keys.take(marks.as_slice(), &key);
+    keys.marked.take(marks.as_slice(), &key);
+    keys.servers.take(object, &key);
     Ok(())
 }
 
 fn put_object(
     alloc: Global,
     objects: &Objects,
-    keys: &mut MarkKeys,
+    keys: &mut StoreKeys,
     key: &ObjKey,
 ) -> Result<(), Memory>
-    ensures { OnOk result ((m : Mark) (k : ObjKey)
-        → is_kept keys.new m k ≡ (is_new objects.now m k key.now || is_kept keys.old m k)) }
+    ensures marked { OnOk result ((m : Mark) (k : ObjKey) → is_kept keys.new.marked m k
+        ≡ (is_new objects.now m k key.now || is_kept keys.old.marked m k)) }
+    ensures servers { OnOk result ((place : Place) (k : ObjKey)
+        → is_kept_for keys.new.servers place k
+        ≡ (comes_at requires_value objects.now place k key.now
+        || is_kept_for keys.old.servers place k)) }
 {
     match objects.get(key) {
         Some(object) => {
             let mut marks = List::new(alloc);
             add_others(&mut marks, object)?;
-            keys.put(alloc, marks.as_slice(), key)
+            keys.marked.put(alloc, marks.as_slice(), key)?;
+            keys.servers.put(alloc, object, key)
         }
         None => Ok(()),
     }

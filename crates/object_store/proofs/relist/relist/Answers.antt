@@ -5,7 +5,7 @@ use Rattle.std.proofs.lemmas.List.Sorted.{All-permutation}
 use Rattle.view_types.specs.Objects.{key_of, kind_of}
 use Rattle.mark_rules.specs.Marks.{marks_of_all}
 use Rattle.object_store.specs.Relisted.{is_of, of_kind}
-use Rattle.object_store.proofs.Kept.{relists_kept}
+use Rattle.object_store.proofs.Kept.{all_relisted}
 use Rattle.object_store.proofs.Leading.{marks_joined, relist_leads_by}
 use Rattle.object_store.proofs.PutAll.{relisted-moved}
 use Rattle.object_store.proofs.Room.{room_of_none}
@@ -49,4 +49,4 @@ returns-clause-room c =
     rw same at within
 
 pub returns-clause-keys : goal.returns-clause-keys
-returns-clause-keys c = λ kept. relists_kept c.args.objects.now c.replace.new.self c.args.keys.now c.follow_kind.new.keys c.in_ok-change.change c.in_ok-follow_kind.ensures kept c.args.kind c.args.items (returns-clause-ok c) c.requires.list c.stand_at_keys.ensures
+returns-clause-keys c = λ kept. all_relisted c.args.objects.now c.replace.new.self c.args.keys.now c.follow_kind.new.keys c.in_ok-change.change c.in_ok-follow_kind.ensures.marked c.in_ok-follow_kind.ensures.servers kept c.args.kind c.args.items (returns-clause-ok c) c.requires.list c.stand_at_keys.ensures

@@ -3,7 +3,7 @@ use Rattle.std.specs.FinMap.{get, insert}
 use Rattle.std.specs.Option.{option_to_list}
 use Rattle.view_types.specs.Objects.{key_of}
 use Rattle.mark_rules.specs.Marks.{marks_of_all}
-use Rattle.object_store.proofs.Kept.{puts_kept}
+use Rattle.object_store.proofs.Kept.{all_put}
 use Rattle.object_store.proofs.Leading.{put_leads_by, put_marks}
 use Rattle.object_store.proofs.Room.{room_after}
 use Rattle.object_store.proofs.store.put.Goals as goal
@@ -34,4 +34,4 @@ returns-clause-ok c =
     }
 
 pub returns-clause-keys : goal.returns-clause-keys
-returns-clause-keys c = λ kept. puts_kept c.args.objects.now c.set.new.self c.args.keys.now c.follow.new.keys c.in_ok-change.change c.in_ok-follow.ensures kept c.args.object (returns-clause-ok c) c.stand_at_keys.ensures
+returns-clause-keys c = λ kept. all_put c.args.objects.now c.set.new.self c.args.keys.now c.follow.new.keys c.in_ok-change.change c.in_ok-follow.ensures.marked c.in_ok-follow.ensures.servers kept c.args.object (returns-clause-ok c) c.stand_at_keys.ensures

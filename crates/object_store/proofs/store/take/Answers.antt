@@ -1,4 +1,4 @@
-use Rattle.object_store.proofs.Kept.{takes_kept}
+use Rattle.object_store.proofs.Kept.{all_taken}
 use Rattle.object_store.proofs.Leading.{takes_by}
 use Rattle.object_store.proofs.store.take.Goals as goal
 
@@ -8,4 +8,4 @@ returns-clause-ok c =
     c.in_ok-change.ensures.old c.in_ok-change.ensures.new c.in_ok-change.ensures.marks
 
 pub returns-clause-keys : goal.returns-clause-keys
-returns-clause-keys c = λ kept. takes_kept c.args.objects.now c.remove.new.self c.args.keys.now c.follow.new.keys c.in_ok-change.change c.in_ok-follow.ensures kept c.args.key.now (returns-clause-ok c) c.stand_at_keys.ensures
+returns-clause-keys c = λ kept. all_taken c.args.objects.now c.remove.new.self c.args.keys.now c.follow.new.keys c.in_ok-change.change c.in_ok-follow.ensures.marked c.in_ok-follow.ensures.servers kept c.args.key.now (returns-clause-ok c) c.stand_at_keys.ensures

@@ -4,4 +4,4 @@ use Rattle.object_store.proofs.store.Store.routes_on.Goals as goal
 use Rattle.view_types.specs.declared.mark.Mark.TheVariants.{RouteOn}
 
 pub returns : goal.returns
-returns c = rw (← c.self.view_is) (λ going. c.routes_on.ensures.value ∙ kept_is c.self.inside.objects c.stand_at_keys.ensures c.self.inside.keys (c.self.invariant.1 going) (RouteOn c.args.ns.now c.args.kind c.args.name.now) refl c.routes_on.ensures.rise)
+returns c = rw (← c.self.view_is) (λ going. c.routes_on.ensures.value ∙ kept_is c.self.inside.objects c.stand_at_keys.ensures c.self.inside.keys.marked (c.self.invariant.1 going).0 (RouteOn c.args.ns.now c.args.kind c.args.name.now) refl c.routes_on.ensures.rise)

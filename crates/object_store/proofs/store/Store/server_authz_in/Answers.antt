@@ -4,4 +4,4 @@ use Rattle.object_store.proofs.store.Store.server_authz_in.Goals as goal
 use Rattle.view_types.specs.declared.mark.Mark.TheVariants.{ServerAuthzIn}
 
 pub returns : goal.returns
-returns c = rw (← c.self.view_is) (λ going. c.server_authz_in.ensures.value ∙ kept_is c.self.inside.objects c.stand_at_keys.ensures c.self.inside.keys (c.self.invariant.1 going) (ServerAuthzIn c.args.ns.now) refl c.server_authz_in.ensures.rise)
+returns c = rw (← c.self.view_is) (λ going. c.server_authz_in.ensures.value ∙ kept_is c.self.inside.objects c.stand_at_keys.ensures c.self.inside.keys.marked (c.self.invariant.1 going).0 (ServerAuthzIn c.args.ns.now) refl c.server_authz_in.ensures.rise)

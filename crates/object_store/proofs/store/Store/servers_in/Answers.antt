@@ -4,4 +4,4 @@ use Rattle.object_store.proofs.store.Store.servers_in.Goals as goal
 use Rattle.view_types.specs.declared.mark.Mark.TheVariants.{ServersIn}
 
 pub returns : goal.returns
-returns c = rw (← c.self.view_is) (λ going. c.servers_in.ensures.value ∙ kept_is c.self.inside.objects c.stand_at_keys.ensures c.self.inside.keys (c.self.invariant.1 going) (ServersIn c.args.ns.now) refl c.servers_in.ensures.rise)
+returns c = rw (← c.self.view_is) (λ going. c.servers_in.ensures.value ∙ kept_is c.self.inside.objects c.stand_at_keys.ensures c.self.inside.keys.marked (c.self.invariant.1 going).0 (ServersIn c.args.ns.now) refl c.servers_in.ensures.rise)

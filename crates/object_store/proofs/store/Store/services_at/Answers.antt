@@ -4,4 +4,4 @@ use Rattle.object_store.proofs.store.Store.services_at.Goals as goal
 use Rattle.view_types.specs.declared.mark.Mark.TheVariants.{IpService}
 
 pub returns : goal.returns
-returns c = rw (← c.self.view_is) (λ going. c.services_at.ensures.value ∙ kept_is c.self.inside.objects c.stand_at_keys.ensures c.self.inside.keys (c.self.invariant.1 going) (IpService c.args.ip) refl c.services_at.ensures.rise)
+returns c = rw (← c.self.view_is) (λ going. c.services_at.ensures.value ∙ kept_is c.self.inside.objects c.stand_at_keys.ensures c.self.inside.keys.marked (c.self.invariant.1 going).0 (IpService c.args.ip) refl c.services_at.ensures.rise)
