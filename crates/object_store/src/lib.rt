@@ -8,6 +8,7 @@
 mod aside;
 pub mod change;
 mod kinds;
+mod last_places;
 pub mod laws;
 mod mark_keys;
 mod objects;

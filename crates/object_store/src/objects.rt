@@ -1,4 +1,4 @@
-ghost use Rattle.std.specs.Prelude.{◌≡◌, ◌≤◌, ◌++◌, false, IfSome, IfOk, IfErr, OnOk, OnErr};
+ghost use Rattle.std.specs.Prelude.{◌≡◌, ◌≤◌, ◌++◌, true, false, IfSome, IfOk, IfErr, OnOk, OnErr};
 ghost use Rattle.std.specs.List.{All};
 ghost use Rattle.std.specs.Option.{option_copied};
 ghost use Rattle.std.specs.FinMap as map;
@@ -12,6 +12,7 @@ ghost use Rattle.object_store.specs.Held.{key_with};
 
 use crate::change::StoreFault;
 use crate::kinds::{count_others, part};
+use crate::last_places::LastPlaces;
 use mesh_base::key::{Kind, ObjKey};
 use mesh_base::list::List;
 use mesh_base::memory::Memory;
@@ -26,6 +27,7 @@ use view_types::object::Object;
 #[derive(Drop)]
 pub struct Objects {
     items: Vec<Object>,
+    last: LastPlaces,
 }
 
 impl Model for Objects {
@@ -50,6 +52,7 @@ impl Objects {
     {
         Objects {
             items: Vec::new(alloc),
+            last: LastPlaces::new(),
         }
     }
 
@@ -81,13 +84,18 @@ impl Objects {
         self.find(key.kind, &key.ns, &key.name)
     }
 
-    /// The object at the key of this kind, namespace and name, which need not be put together.
+    /// The object at the key of this kind, namespace and name, which need not be put together. It is looked for where the last one
+    /// of the kind was found, and behind that, before it is searched for.
     pub fn find(&self, kind: Kind, ns: &Text, name: &Text) -> Option<&Object>
         ensures value { option_copied result ≡ map.get self.now (key_with kind ns.now name.now) }
         ensures at_key { IfSome result (λ o. key_of o.now ≡ key_with kind ns.now name.now) }
     {
-        match place(self.items.as_slice(), kind, ns, name) {
-            Ok(at) => Some(&self.items[at]),
+        let last = self.last.of(kind);
+        match place_from(self.items.as_slice(), last.get(), kind, ns, name) {
+            Ok(at) => {
+                last.set(at);
+                Some(&self.items[at])
+            }
             Err(_) => None,
         }
     }
@@ -173,6 +181,41 @@ fn join(
     below.append(&mut own)?;
     below.append(&mut above)?;
     Ok(below)
+}
+
+/// Where the key of this kind, namespace and name stands, or where it would go. It is looked for at a place first, and behind that.
+fn place_from(
+    objects: &[Object],
+    first: usize,
+    kind: Kind,
+    ns: &Text,
+    name: &Text,
+) -> Result<usize, usize>
+    requires { IsKeyed key_cmp key_of (λ o. o) objects.now }
+    ensures hit { IfOk result (IsHit (λ o. key_cmp (key_of o) (key_with kind ns.now name.now))
+        objects.now) }
+    ensures gap { IfErr result (IsGap (λ o. key_cmp (key_of o) (key_with kind ns.now name.now))
+        objects.now) }
+{
+    if stands_at(objects, first, kind, ns, name) {
+        return Ok(first);
+    }
+    let next = first.saturating_add(1);
+    if stands_at(objects, next, kind, ns, name) {
+        return Ok(next);
+    }
+    place(objects, kind, ns, name)
+}
+
+/// Whether the object at a place has the key of this kind, namespace and name.
+fn stands_at(objects: &[Object], at: usize, kind: Kind, ns: &Text, name: &Text) -> bool
+    ensures { result ≡ true → IsHit (λ o. key_cmp (key_of o) (key_with kind ns.now name.now))
+        objects.now at }
+{
+    match objects.get(at) {
+        Some(object) => compare_key(object, kind, ns, name) == Ordering::Equal,
+        None => false,
+    }
 }
 
 /// Where the key of this kind, namespace and name stands, or where it would go.
