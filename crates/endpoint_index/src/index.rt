@@ -9,7 +9,7 @@ ghost use Rattle.mark_rules.specs.Reads.{cost, endpoint_reads};
 ghost use Rattle.mark_rules.specs.Rows.{endpoint_row};
 ghost use Rattle.mark_rules.specs.declared.keys.EndpointKey.{EndpointKey as TheKey};
 ghost use Rattle.endpoint_rows.specs.Before.{TellsBefore};
-ghost use Rattle.row_table.specs.IndexRows.{AreMet};
+ghost use Rattle.row_table.specs.IndexRows.{AreMet, DifferAmong};
 ghost use Rattle.row_table.specs.RowLaws.{current_row};
 ghost use Rattle.row_table.specs.TableRows.{row_at};
 ghost use Rattle.endpoint_index.specs.EndpointKeys.{endpoint_keys_exact};
@@ -77,6 +77,10 @@ impl EndpointIndex {
     ) -> Result<List<EndpointKey>, Memory>
         ensures keys { IfOk result (AreMet ⟦<EndpointKey as Ord>⟧.cmp change.now.marks
             (⟦<EndpointIndex as RowIndex>⟧.marks_at self.old)) }
+        ensures differ { IfOk result (λ keys. DifferAmong ⟦<EndpointKey as Ord>⟧.cmp keys
+            (⟦<EndpointIndex as RowIndex>⟧.differing self.new)
+            (⟦<EndpointIndex as RowIndex>⟧.row_at self.old)
+            (⟦<EndpointIndex as RowIndex>⟧.row_at self.new)) }
         ensures users { OnOk result ((key : TheKey)
             → ⟦<EndpointIndex as RowIndex>⟧.users self.new key
             ≡ ⟦<EndpointIndex as RowIndex>⟧.users self.old key) }
@@ -144,6 +148,8 @@ impl RowIndex for EndpointIndex {
 
     ghost marks_at = { λ s. ⟦<RowTable<EndpointRule> as RowIndex>⟧.marks_at s.rows };
 
+    ghost differing = { λ s. ⟦<RowTable<EndpointRule> as RowIndex>⟧.differing s.rows };
+
     ghost is_spent = { λ s. s.spent };
 
     ghost stands = { λ s. ⟦<RowTable<EndpointRule> as RowIndex>⟧.stands s.rows };
@@ -174,6 +180,10 @@ impl RowIndex for EndpointIndex {
         steps: &mut Steps<L>,
     ) -> Result<List<EndpointKey>, Memory> {
         self.follow_change(store, change, steps)
+    }
+
+    fn differing(&self) -> &[EndpointKey] {
+        self.rows.differing()
     }
 
     fn row(&self, key: &EndpointKey) -> Option<&EndpointView> {

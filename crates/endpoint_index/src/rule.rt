@@ -13,7 +13,7 @@ use mesh_base::memory::Memory;
 use mesh_base::steps::Steps;
 use object_store::store::Store;
 use policy_rows::snapshot::Snapshot;
-use row_table::row_rule::{MarksAfter, RowRule, StoreChange};
+use row_table::row_rule::{Followed, RowRule, StoreChange};
 use std::alloc::Global;
 use view_types::config::Config;
 use view_types::endpoint::EndpointView;
@@ -73,13 +73,17 @@ impl RowRule for EndpointRule {
         kept: &mut KeptEndpoints,
         _notes: &mut (),
         steps: &mut Steps<L>,
-    ) -> Result<MarksAfter, Memory> {
+    ) -> Result<Followed, Memory> {
         let from = Snapshot {
             alloc: after.alloc,
             config: &self.config,
             store: after.store,
         };
-        follow(&from, key, after.change.marks.as_slice(), kept, steps)
+        let marks = follow(&from, key, after.change.marks.as_slice(), kept, steps)?;
+        Ok(Followed {
+            differs: true,
+            marks,
+        })
     }
 
     fn row(kept: &KeptEndpoints) -> &EndpointView {

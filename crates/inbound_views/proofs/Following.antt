@@ -22,7 +22,7 @@ use Rattle.inbound_views.specs.declared.moving.Earlier.TheVariants.{Stay, Leave}
 use Rattle.inbound_views.specs.declared.moving.KeysOf.{KeysOf}
 use Rattle.inbound_views.specs.declared.moving.KeysOf.TheVariants.{Routes, Rows}
 use Rattle.inbound_views.specs.declared.views.InboundViews.{InboundViews}
-use Rattle.inbound_views.proofs.Rows.{asks, authz_still, servers_still}
+use Rattle.inbound_views.proofs.Rows.{asks, authz_still}
 
 -- an id reads a mark of a change where its query does
 pub reads_is : (stand : InboundViews → Config → ObjectMap → Type 0) (config : Config) (held : ObjectMap) (changed : List Mark) (views : InboundViews) → AreJoined stand config held views → (id : ℕ)
@@ -97,13 +97,13 @@ without_same config held views others ports routes authz keys ids without are = 
   only = λ id has. let noted = are.only id has in (noted.0, λ holds. noted.1 (has_same config held others views (sym ports) (sym routes) (sym authz) keys id holds));
 }
 
--- those of the ids that ask for a row of a Server with a mark of the change, and of those with such routes
-module _ (config : Config) (changed : List Mark) (before after : ObjectMap) (leads : Leads changed before after) (views : InboundViews) (asked rerouted moved others : List ℕ)
-    (is_asked : (id : ℕ) → has_row id asked ≡ is_met (server_rows config) before changed (key_at views.servers.by_id id)) (is_rerouted : (id : ℕ) → has_row id rerouted ≡ any_met route_rows before changed (routes_of views id))
-    (by_routes : AreThoseWithout (HasKeys config after Routes views) asked moved) (by_rows : AreThoseWithout (HasKeys config after Rows views) rerouted others) where
-  routes_stay : (id : ℕ) (b : Bool) → has_row id asked ≡ b → has_row id moved ≡ false → HasRoutes config before views id → HasRoutes config after views id
+-- those of the ids that may be served otherwise, and of those with routes that read a mark of the change
+module _ (config : Config) (changed : List Mark) (before after : ObjectMap) (leads : Leads changed before after) (views : InboundViews) (differing rerouted moved others : List ℕ)
+    (same : (id : ℕ) → has_row id differing ≡ false → route_keys config after (query_at views id) ≡ route_keys config before (query_at views id)) (is_rerouted : (id : ℕ) → has_row id rerouted ≡ any_met route_rows before changed (routes_of views id))
+    (by_routes : AreThoseWithout (HasKeys config after Routes views) differing moved) (by_rows : AreThoseWithout (HasKeys config after Rows views) rerouted others) where
+  routes_stay : (id : ℕ) (b : Bool) → has_row id differing ≡ b → has_row id moved ≡ false → HasRoutes config before views id → HasRoutes config after views id
   routes_stay id true at out has = by_routes.all id at out
-  routes_stay id false at out has = has ∙ sym (servers_still config changed before after leads (key_at views.servers.by_id id) (sym (is_asked id) ∙ at))
+  routes_stay id false at out has = has ∙ sym (same id at)
 
   authz_stay : (id : ℕ) (b : Bool) → has_row id rerouted ≡ b → has_row id others ≡ false → HasKeys config before Rows views id → HasRoutes config after views id → HasAuthz config after views id
   authz_stay id true at out has now = (by_rows.all id at out).1
@@ -112,7 +112,7 @@ module _ (config : Config) (changed : List Mark) (before after : ObjectMap) (lea
 
   rows_stay : (id : ℕ) → has_row id moved ≡ false → has_row id others ≡ false → HasKeys config before Rows views id → HasKeys config after Rows views id
   rows_stay id out also has =
-      let now = routes_stay id (has_row id asked) refl out has.0 in
+      let now = routes_stay id (has_row id differing) refl out has.0 in
       (now, authz_stay id (has_row id rerouted) refl also has now)
 
   only_these : (id : ℕ) (b : Bool) → has_row id moved ≡ b → (b || has_row id others) ≡ true → ¬ HasKeys config after Rows views id

@@ -2,7 +2,7 @@
 use Rattle.std.proofs.Common.{◌≡◌, ◌||◌, ◌++◌, ℕ, Bool, true, false, List, [], ◌∷◌, map, Option, Some, None, refl, sym, ap, ◌∙◌}
 use Rattle.std.proofs.lemmas.List.{append-nil}
 use Rattle.std.specs.List.{filter_map, flat_map, list_any}
-use Rattle.std.specs.Prelude.{option_map}
+use Rattle.std.specs.Prelude.{option_and_then, option_map}
 use Rattle.mesh_base.specs.declared.key.ObjKey.{ObjKey}
 use Rattle.view_types.specs.Objects.{ObjectMap}
 use Rattle.view_types.specs.declared.config.Config.{Config}
@@ -18,10 +18,10 @@ use Rattle.mark_rules.specs.declared.keys.RowKey.{RowKey}
 use Rattle.mark_rules.specs.declared.keys.RowKey.TheVariants as row
 use Rattle.mark_rules.specs.declared.keys.ServerKey.{ServerKey}
 use Rattle.mark_rules.proofs.MarkTests.{neither_first, neither_second}
-use Rattle.mark_rules.proofs.Servers.{routes_stay, servers_stay}
+use Rattle.mark_rules.proofs.Servers.{routes_stay}
 use Rattle.mark_rules.proofs.Views.{queries_ask_by_rows}
 use Rattle.row_views.specs.Queries.{reads_one}
-use Rattle.row_views.specs.Standing.{is_met}
+use Rattle.row_views.specs.Standing.{HasSameRow, is_met}
 use Rattle.row_sets.specs.Standing.{any_met}
 use Rattle.inbound_views.specs.PortRows.{authz_key, authz_keys, authz_of_server, authz_rows, listed, own_authz, query_for, route_key, route_keys, route_rows, server_rows}
 
@@ -96,13 +96,13 @@ module _ (config : Config) (held : ObjectMap) where
 
 -- ---- rows after a change
 
-module _ (config : Config) (changed : List Mark) (before after : ObjectMap) (leads : Leads changed before after) where
-  -- those of a port that reads no mark of it
-  pub servers_still : (asked : Option ServerKey) → is_met (server_rows config) before changed asked ≡ false → route_keys config after (option_map query_for asked) ≡ route_keys config before (option_map query_for asked)
-  servers_still None misses = refl
-  servers_still (Some key) misses =
-      routes_are config after key ∙ ap (λ (part : Option ServerPart). listed key.ns (name_in part)) (servers_stay config key changed before after leads misses).0 ∙ sym (routes_are config before key)
+-- those of a port that is served as before
+pub servers_same : (config : Config) (before after : ObjectMap) (asked : Option ServerKey) → HasSameRow (server_rows config) before after asked → route_keys config after (option_map query_for asked) ≡ route_keys config before (option_map query_for asked)
+servers_same config before after None same = refl
+servers_same config before after (Some key) same =
+    routes_are config after key ∙ ap (λ (part : Option (Option ServerPart)). listed key.ns (option_and_then name_in part)) same ∙ sym (routes_are config before key)
 
+module _ (config : Config) (changed : List Mark) (before after : ObjectMap) (leads : Leads changed before after) where
   -- those of Servers whose routes read no mark of it
   routes_still : (keys : List RouteKey) → any_met route_rows before changed keys ≡ false → flat_map (authz_of_server (server_routes after)) keys ≡ flat_map (authz_of_server (server_routes before)) keys
   routes_still [] misses = refl

@@ -157,9 +157,10 @@ impl InboundViews {
         ensures authz { OnOk result (self.new.authz.by_id ≡ self.old.authz.by_id) }
     {
         let asked = self.servers.follow(store, change, steps)?;
+        let differing = self.servers.differing()?;
         let rerouted = self.routes.follow(store, change, steps)?;
         let authorized = self.authz.follow(store, change, steps)?;
-        let moved = self.moved_among(asked.as_slice(), KeysOf::Routes)?;
+        let moved = self.moved_among(differing.as_slice(), KeysOf::Routes)?;
         let others = self.moved_among(rerouted.as_slice(), KeysOf::Rows)?;
         let moved = append(self.alloc, moved, others.as_slice())?;
         let moved = in_order(self.alloc, moved)?;

@@ -1,4 +1,5 @@
 mod ByCmp
+mod Differing
 pub mod Followed
 pub mod Keys
 pub mod MarkLists

@@ -1,5 +1,5 @@
 -- The rows of an index by their keys, and when they stand for the objects held.
-use Rattle.std.specs.Prelude.{◌≡◌, ◌<◌, ◌+◌, ◌-◌, if◌then◌else◌, ℕ, Bool, false, List, [], Option, Some, None}
+use Rattle.std.specs.Prelude.{◌≡◌, ◌<◌, ◌+◌, ◌-◌, if◌then◌else◌, ℕ, Bool, true, false, List, [], Option, Some, None}
 use Rattle.std.specs.List.{IsDistinct, list_any}
 use Rattle.std.specs.Ordering.{eq_by_cmp}
 use Rattle.std.specs.declared.cmp.Ordering.{Ordering}
@@ -56,3 +56,8 @@ module _ {Key : Type 0} (cmp : Key → Key → Ordering) where
   pub record AreMet (changed : List Mark) (marks_at : Key → List Mark) (keys : List Key) : Type 0 where
     pub each : (k : Key) → has_key keys k ≡ meets (marks_at k) changed
     pub once : IsDistinct (eq_by_cmp cmp) keys
+
+  -- some of these keys differ, and each other key has the row that it had
+  pub record DifferAmong {Row : Type 0} (keys differing : List Key) (old new : Key → Option Row) : Type 0 where
+    pub among : (k : Key) → has_key differing k ≡ true → has_key keys k ≡ true
+    pub others : (k : Key) → has_key differing k ≡ false → new k ≡ old k

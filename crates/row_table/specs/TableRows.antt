@@ -52,6 +52,10 @@ module _ {Kept : Type 0} where
   abbrev pub kept_in : Option (KeptRow Kept) → Option Kept
   kept_in row = option_map (λ r. r.kept) row
 
+  -- the row in what is kept, if it is
+  abbrev pub shown_in : {Row : Type 0} → (Kept → Row) → Option (KeptRow Kept) → Option Row
+  shown_in row_in row = option_map (λ r. row_in r.kept) row
+
   -- the marks of a row that is kept, and none of one that isn't
   abbrev pub marks_of : (Kept → List Mark) → Option (KeptRow Kept) → List Mark
   marks_of marks_in None = []

@@ -6,7 +6,7 @@ ghost use Rattle.mark_rules.specs.Reads.{cost};
 ghost use Rattle.row_table.specs.IndexRows.{Filter, IsRow};
 ghost use Rattle.row_table.specs.RowLaws.{found_stays};
 
-use crate::row_rule::{MarksAfter, RowRule, StoreChange};
+use crate::row_rule::{Followed, MarksAfter, RowRule, StoreChange};
 use mesh_base::copied::Copied;
 use mesh_base::list::List;
 use mesh_base::memory::Memory;
@@ -99,9 +99,12 @@ impl<F: RowFinder> RowRule for FindAnew<F> {
         kept: &mut PlainRow<F::Row>,
         _notes: &mut (),
         steps: &mut Steps<L>,
-    ) -> Result<MarksAfter, Memory> {
+    ) -> Result<Followed, Memory> {
         *kept = self.finder.find(after.alloc, after.store, key, steps)?;
-        Ok(MarksAfter::Other)
+        Ok(Followed {
+            differs: true,
+            marks: MarksAfter::Other,
+        })
     }
 
     fn row(kept: &PlainRow<F::Row>) -> &F::Row {

@@ -7,7 +7,7 @@ ghost use Rattle.view_types.specs.Objects.{ObjectMap};
 ghost use Rattle.view_types.specs.declared.mark.Mark.{Mark};
 ghost use Rattle.mark_rules.specs.Changes.{Leads};
 ghost use Rattle.mark_rules.specs.Reads.{cost};
-ghost use Rattle.row_table.specs.IndexRows.{AreMet, Filter, IsCurrent, OneLess, OneMore};
+ghost use Rattle.row_table.specs.IndexRows.{AreMet, DifferAmong, Filter, IsCurrent, OneLess, OneMore};
 ghost use Rattle.row_table.specs.PeekedRow.{peeked_row};
 
 use crate::peeked::Peeked;
@@ -36,6 +36,9 @@ pub trait RowIndex {
 
     /// The marks that are kept for it.
     ghost marks_at: { Self → Self.Key → List Mark };
+
+    /// The keys whose rows may be others than before the last change.
+    ghost differing: { Self → List Self.Key };
 
     ghost is_spent: { Self → Bool };
 
@@ -75,6 +78,8 @@ pub trait RowIndex {
         steps: &mut Steps<L>,
     ) -> Result<List<Self::Key>, Memory>
         ensures keys { IfOk result (AreMet Self.Key.Ord.cmp change.now.marks (marks_at self.old)) }
+        ensures differ { IfOk result (λ keys. DifferAmong Self.Key.Ord.cmp keys
+            (differing self.new) (row_at self.old) (row_at self.new)) }
         ensures users { OnOk result ((key : Self.Key) → users self.new key ≡ users self.old key) }
         ensures stands { OnOk result ((held : ObjectMap) → stands self.old held
             → Leads change.now.marks held store.now.objects → stands self.new store.now.objects) }
@@ -84,6 +89,10 @@ pub trait RowIndex {
         ensures going { OnOk result (is_spent self.new ≡ false) }
         ensures spent { IsErr result → is_spent self.new ≡ true }
         ensures was_spent { is_spent self.old ≡ true → IsErr result };
+
+    /// The keys whose rows may be others than before the last change. All others that have users have the rows that they had.
+    fn differing(&self) -> &[Self::Key]
+        ensures { result.now ≡ differing self.now };
 
     /// The row of a key that has users.
     fn row(&self, key: &Self::Key) -> Option<&Self::Row>

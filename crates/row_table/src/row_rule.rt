@@ -38,6 +38,14 @@ pub enum MarksAfter {
     Other,
 }
 
+/// What is told of a row that was brought up to a change.
+#[derive(Drop)]
+pub struct Followed {
+    /// Whether the row may be another than before.
+    pub differs: bool,
+    pub marks: MarksAfter,
+}
+
 /// How the rows of one sort are found and kept.
 pub trait RowRule: Drop {
     type Key: Ord + Copied;
@@ -93,7 +101,7 @@ pub trait RowRule: Drop {
         kept: &mut Self::Kept,
         notes: &mut Self::Notes,
         steps: &mut Steps<L>,
-    ) -> Result<MarksAfter, Memory>
+    ) -> Result<Followed, Memory>
         requires going { after.now.store.now.spent ≡ false }
         requires notes { notes_hold self.now after.now.store.now.objects after.now.change.now
             notes.old }
@@ -103,8 +111,10 @@ pub trait RowRule: Drop {
         ensures tells { OnOk result ((held : ObjectMap) → keeps self.now held key.now kept.old
             → Leads after.now.change.now.marks held after.now.store.now.objects
             → tells kept.old kept.new) }
-        ensures marks { IfOk result (λ marks.
-            MarksFollow marks (marks_in kept.old) (marks_in kept.new)) }
+        ensures row { IfOk result (λ followed. followed.differs ≡ false
+            → row_in kept.new ≡ row_in kept.old) }
+        ensures marks { IfOk result (λ followed.
+            MarksFollow followed.marks (marks_in kept.old) (marks_in kept.new)) }
         ensures notes { OnOk result
             (notes_hold self.now after.now.store.now.objects after.now.change.now notes.new) }
         ensures steps { steps.new ≤ steps.old + cost after.now.store.now.objects

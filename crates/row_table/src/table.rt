@@ -1,11 +1,11 @@
 // One table for all indexes.
-ghost use Rattle.std.specs.Prelude.{◌≡◌, ◌≤◌, ◌+◌, false, true, None, IsErr, IfOk, OnOk, option_map};
+ghost use Rattle.std.specs.Prelude.{◌≡◌, ◌≤◌, ◌+◌, false, true, None, IsErr, IfOk, OnOk};
 ghost use Rattle.std.specs.List.{sum_by};
 ghost use Rattle.std.specs.Option.{option_copied};
 ghost use Rattle.mark_rules.specs.Reads.{cost};
 ghost use Rattle.view_types.specs.Objects.{ObjectMap};
-ghost use Rattle.row_table.specs.IndexRows.{AreMet, has_key};
-ghost use Rattle.row_table.specs.TableRows.{AllStand, AreTied, Follow, kept_in, marks_of, row_at, users_in};
+ghost use Rattle.row_table.specs.IndexRows.{AreMet, DifferAmong, has_key};
+ghost use Rattle.row_table.specs.TableRows.{AllStand, AreTied, Follow, kept_in, marks_of, row_at, shown_in, users_in};
 ghost use Rattle.row_table.specs.RowLaws.{current_row};
 
 use crate::peeked::Peeked;
@@ -72,6 +72,10 @@ impl<F: RowRule> RowTable<F> {
         ensures rows { IfOk result (λ keys. Follow F.Key.Ord.cmp (F.keeps self.old.rule) F.tells
             change.now.marks store.now.objects (has_key F.Key.Ord.cmp keys) self.old.table.rows
             self.new.table.rows) }
+        ensures differ { IfOk result (λ keys. DifferAmong F.Key.Ord.cmp keys
+            self.new.table.differing
+            (λ key. shown_in F.row_in (row_at F.Key.Ord.cmp self.old.table.rows key))
+            (λ key. shown_in F.row_in (row_at F.Key.Ord.cmp self.new.table.rows key))) }
         ensures steps { IfOk result (λ keys. steps.new ≤ steps.old + sum_by (λ key.
             cost store.now.objects ((F.filter self.old.rule).reads store.now.objects key)) keys) }
         ensures rule { self.new.rule ≡ self.old.rule }
@@ -109,10 +113,11 @@ impl<F: RowRule> RowIndex for RowTable<F> {
 
     ghost users = { λ s key. users_in (row_at F.Key.Ord.cmp s.table.rows key) };
 
-    ghost row_at = { λ s key. option_map (λ r. F.row_in r.kept)
-        (row_at F.Key.Ord.cmp s.table.rows key) };
+    ghost row_at = { λ s key. shown_in F.row_in (row_at F.Key.Ord.cmp s.table.rows key) };
 
     ghost marks_at = { λ s key. marks_of F.marks_in (row_at F.Key.Ord.cmp s.table.rows key) };
+
+    ghost differing = { λ s. s.table.differing };
 
     ghost is_spent = { λ s. s.spent };
 
@@ -142,6 +147,10 @@ impl<F: RowRule> RowIndex for RowTable<F> {
         steps: &mut Steps<L>,
     ) -> Result<List<F::Key>, Memory> {
         self.follow_change(store, change, steps)
+    }
+
+    fn differing(&self) -> &[F::Key] {
+        self.table.differing.as_slice()
     }
 
     fn row(&self, key: &F::Key) -> Option<&F::Row> {

@@ -1,14 +1,14 @@
 // The rows of a table, each with a number by which the graph knows it.
-ghost use Rattle.std.specs.Prelude.{◌≡◌, ◌<◌, ◌≤◌, ◌+◌, ◌-◌, ◌++◌, false, Some, None, IfOk, OnOk, if◌then◌else◌, is_some, nat_lt, option_map};
+ghost use Rattle.std.specs.Prelude.{◌≡◌, ◌<◌, ◌≤◌, ◌+◌, ◌-◌, ◌++◌, ◌∷◌, ◌&&◌, Option, [], false, Some, None, IfOk, OnOk, if◌then◌else◌, is_some, nat_lt, option_map};
 ghost use Rattle.std.specs.BTreeMap as tree;
 ghost use Rattle.std.specs.List.{sum_by};
 ghost use Rattle.std.specs.Option.{option_to_list};
 ghost use Rattle.std.specs.Ordering.{eq_by_cmp, nat_cmp};
 ghost use Rattle.mark_rules.specs.Reads.{cost};
-ghost use Rattle.row_table.specs.IndexRows.{AreMet, OneMore, has_key};
-ghost use Rattle.row_table.specs.TableRows.{AllStand, AreTied, Follow, PutsAt, Rewatched, TakesOne, TakesUser, marks_of, number_in, one_less, one_more, row_at, users_in};
+ghost use Rattle.row_table.specs.IndexRows.{AreMet, DifferAmong, OneMore, has_key};
+ghost use Rattle.row_table.specs.TableRows.{AllStand, AreTied, Follow, PutsAt, Rewatched, TakesOne, TakesUser, marks_of, number_in, one_less, one_more, row_at, shown_in, users_in};
 
-use crate::row_rule::{MarksAfter, RowRule, StoreChange};
+use crate::row_rule::{Followed, MarksAfter, RowRule, StoreChange};
 use crate::watching::{due, move_marks, new_graph, unwatch, watch};
 use mark_graph::graph::Graph;
 use mesh_base::copied::Copied;
@@ -35,6 +35,8 @@ pub struct TableRows<F: RowRule> {
     pub rows: BTreeMap<F::Key, KeptRow<F::Kept>>,
     pub keys: BTreeMap<u64, F::Key>,
     pub graph: Graph<Mark>,
+    /// The keys whose rows may be others than before the last change.
+    pub differing: List<F::Key>,
     /// The number of the next row.
     pub next: u64,
     pub alloc: Global,
@@ -64,6 +66,7 @@ impl<F: RowRule> TableRows<F> {
             rows: BTreeMap::new(alloc),
             keys: BTreeMap::new(alloc),
             graph: new_graph(alloc),
+            differing: List::new(alloc),
             next: 0,
             alloc,
         }
@@ -182,6 +185,9 @@ impl<F: RowRule> TableRows<F> {
         ensures rows { IfOk result (λ keys. Follow F.Key.Ord.cmp (F.keeps by.now.rule.now) F.tells
             by.now.after.change.now.marks by.now.after.store.now.objects
             (has_key F.Key.Ord.cmp keys) self.old.rows self.new.rows) }
+        ensures differ { IfOk result (λ keys. DifferAmong F.Key.Ord.cmp keys self.new.differing
+            (λ key. shown_in F.row_in (row_at F.Key.Ord.cmp self.old.rows key))
+            (λ key. shown_in F.row_in (row_at F.Key.Ord.cmp self.new.rows key))) }
         ensures tied { OnOk result (AreTied F.Key.Ord.cmp F.marks_in self.new.rows self.new.keys
             self.new.graph.rows self.new.next) }
         ensures steps { IfOk result (λ keys. steps.new ≤ steps.old + sum_by
@@ -193,6 +199,7 @@ impl<F: RowRule> TableRows<F> {
             keys: List::new(self.alloc),
             notes: by.rule.no_notes(self.alloc),
         };
+        self.differing = List::new(self.alloc);
         for number in numbers.as_slice() {
             self.follow_number(by, *number, &mut pass, steps)?;
         }
@@ -200,7 +207,7 @@ impl<F: RowRule> TableRows<F> {
         Ok(keys)
     }
 
-    // Brings the row of a number up to a change, and adds its key to the pass.
+    // Brings the row of a number up to a change, and adds its key to the pass, and to those that differ if the row may.
     fn follow_number<L>(
         &mut self,
         by: &RuleChange<F>,
@@ -219,6 +226,11 @@ impl<F: RowRule> TableRows<F> {
             by.now.after.change.now.marks by.now.after.store.now.objects
             (has_key F.Key.Ord.cmp (option_to_list (tree.get nat_cmp self.old.keys number)))
             self.old.rows self.new.rows) }
+        ensures differ { OnOk result ((first : F.Key → Option F.Row) → DifferAmong F.Key.Ord.cmp
+            pass.old.keys self.old.differing first
+            (λ key. shown_in F.row_in (row_at F.Key.Ord.cmp self.old.rows key))
+            → DifferAmong F.Key.Ord.cmp pass.new.keys self.new.differing first
+            (λ key. shown_in F.row_in (row_at F.Key.Ord.cmp self.new.rows key))) }
         ensures notes { OnOk result (F.notes_hold by.now.rule.now by.now.after.store.now.objects
             by.now.after.change.now pass.new.notes) }
         ensures tied { OnOk result (AreTied F.Key.Ord.cmp F.marks_in self.new.rows self.new.keys
@@ -231,21 +243,22 @@ impl<F: RowRule> TableRows<F> {
     {
         match key_of(self.alloc, &self.keys, number)? {
             Some(key) => {
-                self.follow_key(by, &key, &mut pass.notes, steps)?;
+                let differs = self.follow_key(by, &key, &mut pass.notes, steps)?;
+                note_differing(self.alloc, &mut self.differing, &key, differs)?;
                 pass.keys.add(key)
             }
             None => Ok(()),
         }
     }
 
-    // Brings the row of a key up to a change.
+    // Brings the row of a key up to a change. Tells whether it may be another than before.
     fn follow_key<L>(
         &mut self,
         by: &RuleChange<F>,
         key: &F::Key,
         notes: &mut F::Notes,
         steps: &mut Steps<L>,
-    ) -> Result<(), Memory>
+    ) -> Result<bool, Memory>
         requires going { by.now.after.store.now.spent ≡ false }
         requires notes { F.notes_hold by.now.rule.now by.now.after.store.now.objects
             by.now.after.change.now notes.old }
@@ -254,20 +267,26 @@ impl<F: RowRule> TableRows<F> {
         ensures rows { OnOk result (Follow F.Key.Ord.cmp (F.keeps by.now.rule.now) F.tells
             by.now.after.change.now.marks by.now.after.store.now.objects
             (λ k. eq_by_cmp F.Key.Ord.cmp k key.now) self.old.rows self.new.rows) }
+        ensures differ { IfOk result (λ differs. (k : F.Key)
+            → (differs && eq_by_cmp F.Key.Ord.cmp k key.now) ≡ false
+            → shown_in F.row_in (row_at F.Key.Ord.cmp self.new.rows k)
+            ≡ shown_in F.row_in (row_at F.Key.Ord.cmp self.old.rows k)) }
         ensures notes { OnOk result (F.notes_hold by.now.rule.now by.now.after.store.now.objects
             by.now.after.change.now notes.new) }
         ensures tied { OnOk result (AreTied F.Key.Ord.cmp F.marks_in self.new.rows self.new.keys
             self.new.graph.rows self.new.next) }
         ensures same { self.new.keys ≡ self.old.keys }
+        ensures before { self.new.differing ≡ self.old.differing }
         ensures steps { steps.new ≤ steps.old + cost by.now.after.store.now.objects
             ((F.filter by.now.rule.now).reads by.now.after.store.now.objects key.now) }
     {
         match self.rows.get_mut(key) {
             Some(row) => {
-                let marks = by.rule.follow(&by.after, key, &mut row.kept, notes, steps)?;
-                rewatch::<F>(self.alloc, &mut self.graph, marks, row)
+                let followed = by.rule.follow(&by.after, key, &mut row.kept, notes, steps)?;
+                rewatch::<F>(self.alloc, &mut self.graph, followed.marks, row)?;
+                Ok(followed.differs)
             }
-            None => Ok(()),
+            None => Ok(false),
         }
     }
 }
@@ -287,6 +306,22 @@ fn rewatch<F: RowRule>(
         MarksAfter::Moved(moves) => move_marks(graph, row.number, moves),
         MarksAfter::Other => watch(graph, row.number, F::marks(alloc, &row.kept)?),
     }
+}
+
+// Puts the key at the end if its row may differ.
+fn note_differing<K: Copied>(
+    alloc: Global,
+    differing: &mut List<K>,
+    key: &K,
+    differs: bool,
+) -> Result<(), Memory>
+    ensures { OnOk result
+        (differing.new ≡ differing.old ++ (if differs then key.now ∷ [] else [])) }
+{
+    if !differs {
+        return Ok(());
+    }
+    differing.add(key.copy(alloc)?)
 }
 
 fn number_after(number: u64) -> Result<u64, Memory>

@@ -14,11 +14,11 @@ use Rattle.std.specs.declared.cmp.Ordering.{Ordering}
 use Rattle.view_types.specs.Objects.{ObjectMap}
 use Rattle.view_types.specs.declared.mark.Mark.{Mark}
 use Rattle.mark_graph.specs.RowMarks.{AddsRow, AllHaveRows, RemovesRow, has_row, row_at, some_row}
-use Rattle.row_table.specs.IndexRows.{AreMet, Filter, IsCurrent, OneLess}
+use Rattle.row_table.specs.IndexRows.{AreMet, Filter, IsCurrent, OneLess, has_key}
 use Rattle.row_table.proofs.Keys.{flipped}
 use Rattle.row_table.proofs.MarkLists.{meets_same, same_any}
-use Rattle.row_views.specs.Ids.{OneMoreUnless, SetsAt, has_ids, is_key, key_at}
-use Rattle.row_views.specs.Standing.{AreKept, Standing, is_met}
+use Rattle.row_views.specs.Ids.{OneMoreUnless, SetsAt, has_ids, is_key, is_one_of, key_at}
+use Rattle.row_views.specs.Standing.{AreKept, HasSameRow, Standing, is_met}
 use Rattle.row_views.proofs.Ids.{id_there, less_users, more_users, put_alike, put_there, put_tied, same_users, take_alike, take_tied}
 
 pub if_then : {A E : Type 0} {P R : A → Type 0} (r : Result A E) → IfOk r P → ((a : A) → P a → R a) → IfOk r R
@@ -105,16 +105,27 @@ module _ {Index Key : Type 0} (cmp : Key → Key → Ordering) (total : IsTotalO
     pub row_is : (id : ℕ) (key : Key) → key_at by_id id ≡ Some key → row_in index key ≡ Some (filter.row_of held key)
     row_is id key is = ((current st.rows key).used (used id key is)).0
 
+    -- the ids of keys
+    pub ids_at : (keys : List Key) (ids : List ℕ) → ((n : ℕ) → has_row n ids ≡ list_any (λ key. row_at cmp by_key key n) keys) → (n : ℕ) → has_row n ids ≡ is_one_of cmp keys (key_at by_id n)
+    ids_at keys ids are n = are n ∙ same_any (λ key. row_at cmp by_key key n) (λ key. is_key cmp key (key_at by_id n)) (λ key. st.tied.ids key n) keys ∙ by (key_at by_id n)
+      where
+        by : (o : Option Key) → list_any (λ key. is_key cmp key o) keys ≡ is_one_of cmp keys o
+        by None = no_mark keys
+        by (Some k) = same_any (λ key. eq_by_cmp cmp key k) (eq_by_cmp cmp k) (λ key. flipped cmp total exact key k) keys
+
     pub ids_touched : (changed : List Mark) (keys : List Key) → AreMet cmp changed (marks_in index) keys → (ids : List ℕ) → ((n : ℕ) → has_row n ids ≡ list_any (λ key. row_at cmp by_key key n) keys)
         → (n : ℕ) → has_row n ids ≡ is_met filter held changed (key_at by_id n)
-    ids_touched changed keys met ids are n = are n ∙ same_any (λ key. row_at cmp by_key key n) (λ key. is_key cmp key (key_at by_id n)) (λ key. st.tied.ids key n) keys ∙ by (key_at by_id n) refl
+    ids_touched changed keys met ids are n = ids_at keys ids are n ∙ by (key_at by_id n) refl
       where
-        by : (o : Option Key) → key_at by_id n ≡ o → list_any (λ key. is_key cmp key o) keys ≡ is_met filter held changed o
-        by None is = no_mark keys
-        by (Some k) is =
-            same_any (λ key. eq_by_cmp cmp key k) (eq_by_cmp cmp k) (λ key. flipped cmp total exact key k) keys
-            ∙ met.each k
-            ∙ meets_same (marks_in index k) (filter.reads held k) changed ((current st.rows k).used (used n k is)).1
+        by : (o : Option Key) → key_at by_id n ≡ o → is_one_of cmp keys o ≡ is_met filter held changed o
+        by None is = refl
+        by (Some k) is = met.each k ∙ meets_same (marks_in index k) (filter.reads held k) changed ((current st.rows k).used (used n k is)).1
+
+-- the key of an id has the row that it had, unless it differs
+pub same_row : {Key Row : Type 0} (cmp : Key → Key → Ordering) (filter : Filter Key Row) (held after : ObjectMap) (differing : List Key) (old new : Key → Option Row) (key : Option Key) → ((k : Key) → has_key cmp differing k ≡ false → new k ≡ old k)
+    → ((k : Key) → key ≡ Some k → old k ≡ Some (filter.row_of held k)) → ((k : Key) → key ≡ Some k → new k ≡ Some (filter.row_of after k)) → is_one_of cmp differing key ≡ false → HasSameRow filter held after key
+same_row cmp filter held after differing old new None others was is out = refl
+same_row cmp filter held after differing old new (Some k) others was is out = sym (is k refl) ∙ others k out ∙ was k refl
 
 -- rows of an index that is this one
 pub moved_kept : {Index Key Row : Type 0} {cmp : Key → Key → Ordering} {users : Index → Key → ℕ} {stand : Index → ObjectMap → Type 0} {filter_of : Index → Filter Key Row} {filter : Filter Key Row} {held : ObjectMap}

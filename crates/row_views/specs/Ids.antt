@@ -1,12 +1,12 @@
 -- Ids, each with what is at it, and the ids of each key.
-use Rattle.std.specs.Prelude.{◌≡◌, ℕ, nat_eq, Bool, true, false, Option, Some, None, if◌then◌else◌}
+use Rattle.std.specs.Prelude.{◌≡◌, ℕ, nat_eq, Bool, true, false, List, Option, Some, None, if◌then◌else◌}
 use Rattle.std.specs.BTreeMap as tree
 use Rattle.std.specs.BTreeMap.{BTreeMap}
 use Rattle.std.specs.BTreeSet.{BTreeSet}
 use Rattle.std.specs.Ordering.{eq_by_cmp, nat_cmp}
 use Rattle.std.specs.declared.cmp.Ordering.{Ordering}
 use Rattle.mark_graph.specs.RowMarks.{AllHaveRows, has_rows, row_at}
-use Rattle.row_table.specs.IndexRows.{OneMore}
+use Rattle.row_table.specs.IndexRows.{OneMore, has_key}
 
 -- this is at the id, and at each other id what was
 abbrev pub SetsAt : {X : Type 0} → ℕ → X → (ℕ → X) → (ℕ → X) → Type 0
@@ -25,6 +25,11 @@ module _ {Key : Type 0} (cmp : Key → Key → Ordering) where
   abbrev pub is_key : Key → Option Key → Bool
   is_key key None = false
   is_key key (Some k) = eq_by_cmp cmp key k
+
+  -- it is one of these keys
+  abbrev pub is_one_of : List Key → Option Key → Bool
+  is_one_of keys None = false
+  is_one_of keys (Some key) = has_key cmp keys key
 
   -- the key has ids
   abbrev pub has_ids : BTreeMap Key (BTreeSet ℕ) → Key → Bool

@@ -1,5 +1,5 @@
 // The rows of the keys that ids are open with.
-ghost use Rattle.std.specs.Prelude.{◌≡◌, ◌≤◌, ◌+◌, ℕ, None, Some, IfOk, OnErr, OnOk, if◌then◌else◌, nat_lt, option_map};
+ghost use Rattle.std.specs.Prelude.{◌≡◌, ◌≤◌, ◌+◌, ℕ, false, None, Some, IfOk, OnErr, OnOk, if◌then◌else◌, nat_lt, option_map};
 ghost use Rattle.std.specs.List.Sorted.{IsStrictlySortedBy};
 ghost use Rattle.std.specs.Option.{option_copied};
 ghost use Rattle.std.specs.Ordering.{nat_cmp};
@@ -8,8 +8,8 @@ ghost use Rattle.mark_graph.specs.RowMarks.{has_row};
 ghost use Rattle.mark_rules.specs.Changes.{Leads};
 ghost use Rattle.mark_rules.specs.Reads.{cost};
 ghost use Rattle.row_table.specs.PeekedRow.{peeked_row};
-ghost use Rattle.row_views.specs.Ids.{Keeps, OneMoreUnless, SetsAt, has_ids, key_at};
-ghost use Rattle.row_views.specs.Standing.{FollowCost, Standing, is_met};
+ghost use Rattle.row_views.specs.Ids.{Keeps, OneMoreUnless, SetsAt, has_ids, is_one_of, key_at};
+ghost use Rattle.row_views.specs.Standing.{FollowCost, HasSameRow, Standing, is_met};
 
 use mark_graph::by_mark::{put_one, rows_at, take_one};
 use mark_graph::sorted_set::SortedSet;
@@ -136,6 +136,12 @@ where
             → has_row id ids ≡ is_met (I.filter self.old.index) held change.now.marks
             (key_at self.old.by_id id)) }
         ensures in_order { IfOk result (λ ids. IsStrictlySortedBy nat_cmp ids) }
+        ensures differ { OnOk result ((held : ObjectMap) → Standing I.Key.Ord.cmp I.users I.stands
+            held self.old.index self.old.by_key self.old.by_id
+            → Leads change.now.marks held store.now.objects → (id : ℕ)
+            → is_one_of I.Key.Ord.cmp (I.differing self.new.index) (key_at self.old.by_id id)
+            ≡ false → HasSameRow (I.filter self.old.index) held store.now.objects
+            (key_at self.old.by_id id)) }
         ensures stands { OnOk result ((held : ObjectMap) → Standing I.Key.Ord.cmp I.users I.stands
             held self.old.index self.old.by_key self.old.by_id
             → Leads change.now.marks held store.now.objects → Standing I.Key.Ord.cmp I.users
@@ -150,6 +156,16 @@ where
     {
         let keys = self.index.on_change(store, change, steps)?;
         rows_at(self.alloc, &self.by_key, keys.as_slice())
+    }
+
+    /// The ids of those keys whose rows may be others than before the last change. All others have the rows that they had.
+    pub fn differing(&self) -> Result<List<u64>, Memory>
+        ensures { IfOk result (λ ids. (held : ObjectMap) → Standing I.Key.Ord.cmp I.users I.stands
+            held self.now.index self.now.by_key self.now.by_id → (id : ℕ)
+            → has_row id ids ≡ is_one_of I.Key.Ord.cmp (I.differing self.now.index)
+            (key_at self.now.by_id id)) }
+    {
+        rows_at(self.alloc, &self.by_key, self.index.differing())
     }
 
     /// The key that an id is open with.

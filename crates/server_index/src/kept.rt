@@ -59,13 +59,14 @@ pub(crate) fn find<L>(port: &Port, steps: &mut Steps<L>) -> Result<KeptServer, M
 
 /// Brings what is kept of a port up to a change with these marks. Only the Servers of the change are
 /// looked at, unless it has the mark of the Pod, or is of more Servers than the namespace has after it.
+/// Tells whether the row may be another than before.
 pub(crate) fn follow<L>(
     port: &Port,
     changed: &[Mark],
     kept: &mut KeptServer,
     notes: &mut ServerNotes,
     steps: &mut Steps<L>,
-) -> Result<(), Memory>
+) -> Result<bool, Memory>
     requires going { port.now.from.now.store.now.spent ≡ false }
     requires notes { AreRight port.now.from.now.store.now.objects notes.old }
     ensures stands { OnOk result ((held : ObjectMap)
@@ -73,6 +74,7 @@ pub(crate) fn follow<L>(
         → Leads changed.now held port.now.from.now.store.now.objects
         → Stands port.now.from.now.config.now port.now.from.now.store.now.objects
         port.now.key.now kept.new) }
+    ensures differ { IfOk result (λ differs. differs ≡ false → kept.new.row ≡ kept.old.row) }
     ensures marks { OnOk result (kept.new.marks ≡ kept.old.marks) }
     ensures notes { OnOk result (AreRight port.now.from.now.store.now.objects notes.new) }
     ensures steps { steps.new ≤ steps.old + cost port.now.from.now.store.now.objects
@@ -81,7 +83,7 @@ pub(crate) fn follow<L>(
     let servers = port.from.store.servers_in(&port.key.ns);
     if !is_in_place(changed, servers, port.key) {
         find_again(port, kept, steps)?;
-        return Ok(());
+        return Ok(true);
     }
     follow_in_place(port, changed, kept, notes, steps)
 }
@@ -161,14 +163,14 @@ fn fill<L>(port: &PodPort, kept: &mut KeptServer, steps: &mut Steps<L>) -> Resul
     Ok(())
 }
 
-/// Brings what is kept up to a change that leaves the Pod as it was.
+/// Brings what is kept up to a change that leaves the Pod as it was. Tells whether the row may be another than before.
 fn follow_in_place<L>(
     port: &Port,
     changed: &[Mark],
     kept: &mut KeptServer,
     notes: &mut ServerNotes,
     steps: &mut Steps<L>,
-) -> Result<(), Memory>
+) -> Result<bool, Memory>
     requires going { port.now.from.now.store.now.spent ≡ false }
     requires notes { AreRight port.now.from.now.store.now.objects notes.old }
     requires pod { has_mark changed.now (Obj (pod_key port.now.key.now.ns port.now.key.now.pod))
@@ -180,6 +182,7 @@ fn follow_in_place<L>(
         → Leads changed.now held port.now.from.now.store.now.objects
         → Stands port.now.from.now.config.now port.now.from.now.store.now.objects
         port.now.key.now kept.new) }
+    ensures differ { IfOk result (λ differs. differs ≡ false → kept.new.row ≡ kept.old.row) }
     ensures marks { OnOk result (kept.new.marks ≡ kept.old.marks) }
     ensures notes { OnOk result (AreRight port.now.from.now.store.now.objects notes.new) }
     ensures steps { steps.new ≤ steps.old + cost port.now.from.now.store.now.objects
@@ -187,22 +190,19 @@ fn follow_in_place<L>(
 {
     let Port { from, key } = *port;
     match pod_named(from.store, &key.ns, &key.pod, steps) {
-        Some(pod) => {
-            renew(&PodPort { from, key, pod }, changed, kept, notes, steps)?;
-            Ok(())
-        }
-        None => Ok(()),
+        Some(pod) => Ok(renew(&PodPort { from, key, pod }, changed, kept, notes, steps)?),
+        None => Ok(false),
     }
 }
 
-/// Brings the Servers up to a change with these marks, and the row where a Server differs.
+/// Brings the Servers up to a change with these marks, and the row where a Server differs. Tells whether one does.
 fn renew<L>(
     port: &PodPort,
     changed: &[Mark],
     kept: &mut KeptServer,
     notes: &mut ServerNotes,
     steps: &mut Steps<L>,
-) -> Result<(), Memory>
+) -> Result<bool, Memory>
     requires { AreRight port.now.from.now.store.now.objects notes.old }
     ensures servers { OnOk result (BringsUp port.now.from.now.store.now.objects port.now.key.now
         port.now.pod.now (λ k. has_mark changed.now (Obj k)) kept.old.servers kept.new.servers) }
@@ -210,6 +210,7 @@ fn renew<L>(
         port.now.pod.now port.now.key.now.port (slice_get kept.old.servers.by_name.entries 0))
         → kept.new.row ≡ Some (part_from port.now.from.now.config.now port.now.pod.now
         port.now.key.now.port (slice_get kept.new.servers.by_name.entries 0))) }
+    ensures differ { IfOk result (λ differs. differs ≡ false → kept.new.row ≡ kept.old.row) }
     ensures marks { OnOk result (kept.new.marks ≡ kept.old.marks) }
     ensures notes { OnOk result (AreRight port.now.from.now.store.now.objects notes.new) }
     ensures steps { steps.new ≤ steps.old
@@ -217,10 +218,10 @@ fn renew<L>(
 {
     let differs = follow_servers(port, changed, &mut kept.servers, notes, steps)?;
     if !differs {
-        return Ok(());
+        return Ok(false);
     }
     kept.row = Some(part_from(port, &kept.servers)?);
-    Ok(())
+    Ok(true)
 }
 
 /// What the Server of least name tells, else what holds without one.

@@ -17,7 +17,7 @@ use mesh_base::memory::Memory;
 use mesh_base::steps::Steps;
 use object_store::store::Store;
 use policy_rows::snapshot::Snapshot;
-use row_table::row_rule::{MarksAfter, RowRule, StoreChange};
+use row_table::row_rule::{Followed, MarksAfter, RowRule, StoreChange};
 use std::alloc::Global;
 use view_types::config::Config;
 use view_types::mark::Mark;
@@ -78,15 +78,18 @@ impl RowRule for ServerRule {
         kept: &mut KeptServer,
         notes: &mut ServerNotes,
         steps: &mut Steps<L>,
-    ) -> Result<MarksAfter, Memory> {
+    ) -> Result<Followed, Memory> {
         let from = Snapshot {
             alloc: after.alloc,
             config: &self.config,
             store: after.store,
         };
         let port = Port { from: &from, key };
-        follow(&port, after.change.marks.as_slice(), kept, notes, steps)?;
-        Ok(MarksAfter::Same)
+        let differs = follow(&port, after.change.marks.as_slice(), kept, notes, steps)?;
+        Ok(Followed {
+            differs,
+            marks: MarksAfter::Same,
+        })
     }
 
     fn row(kept: &KeptServer) -> &Option<ServerPart> {

@@ -12,7 +12,8 @@ use Rattle.view_types.specs.declared.mark.Mark.{Mark}
 use Rattle.mark_graph.specs.RowMarks.{has_row}
 use Rattle.mark_rules.specs.Reads.{cost}
 use Rattle.row_table.specs.IndexRows.{AreMet, has_key}
-use Rattle.row_table.specs.TableRows.{AreTied, Follow, is_among, marks_of, number_in, row_at}
+use Rattle.row_table.specs.TableRows.{AreTied, Follow, is_among, marks_of, number_in, row_at, shown_in}
+use Rattle.row_table.proofs.Differing.{differ_none}
 use Rattle.row_table.proofs.Followed.{added_apart, all_met, among_start, among_step, follow_more, fresh_at, once_more}
 use Rattle.row_table.proofs.Keys.{distinct_none}
 use Rattle.row_table.proofs.table_rows.TableRows.follow.Goals as goal
@@ -24,15 +25,16 @@ loop-number-init g c =
     let exact = g.met.F.RowRule.exact in
     let self = c.args.self.now in
     let by = c.args.by.now in
-    rw c.new.ensures (record {
+    rw c.new.ensures (rw c.new-2.ensures (record {
       keys = refl;
       tied = subst (λ (watched : BTreeMap ℕ (BTreeSet Mark)). AreTied cmp g.F.RowRule.marks_in self.rows self.keys watched self.next) (sym c.in_ok-numbers.ensures.same) c.requires.tied;
       notes = c.no_notes.ensures by.after.store.now.objects by.after.change.now;
       rows = λ k. refl;
       among = among_start cmp total exact g.F.RowRule.marks_in self.rows self.keys self.graph.rows self.next c.requires.tied;
+      differ = differ_none cmp (λ k. shown_in g.F.RowRule.row_in (row_at cmp self.rows k));
       once = distinct_none cmp total exact;
       steps = omega arith;
-    })
+    }))
 
 pub loop-number-preserved : goal.loop-number-preserved
 loop-number-preserved g c =
@@ -71,6 +73,7 @@ loop-number-preserved g c =
       among = λ k. ap (λ keys. has_key cmp keys k) is
           ∙ among_step cmp total exact marks_in self.rows self.keys self.graph.rows self.next c.requires.tied n (take i items) found so_far.among k
           ∙ ap (λ numbers. is_among numbers (number_in (row_at cmp self.rows k))) (sym taken);
+      differ = c.in_ok-follow_number.ensures.differ (λ k. shown_in g.F.RowRule.row_in (row_at cmp self.rows k)) so_far.differ;
       once = subst (IsDistinct (eq_by_cmp cmp)) (sym is) (once_more cmp total exact marks_in self.rows self.keys self.graph.rows self.next c.requires.tied n (take i items) found so_far.among fresh so_far.once);
       steps = omega (arith, sums, before, more);
     }

@@ -1,9 +1,9 @@
-use Rattle.std.proofs.Common.{ap, ◌∙◌}
+use Rattle.std.proofs.Common.{Some, ap, ◌∙◌}
 use Rattle.std.specs.List.{list_any}
 use Rattle.mark_graph.specs.RowMarks.{row_at}
-use Rattle.row_views.specs.Ids.{has_ids}
+use Rattle.row_views.specs.Ids.{has_ids, key_at}
 use Rattle.row_views.proofs.Costs.{met_cost}
-use Rattle.row_views.proofs.Standing.{followed_stand, ids_touched, if_then, on_any}
+use Rattle.row_views.proofs.Standing.{followed_stand, ids_touched, if_then, on_any, row_is, same_row}
 use Rattle.row_views.proofs.views.RowViews.follow.Goals as goal
 
 pub returns-clause-touched : goal.returns-clause-touched
@@ -29,3 +29,19 @@ returns-clause-steps g c =
     on_any c.rows_at.result (λ held st.
     met_cost g.I.Key.Ord.cmp g.met.I.Key.Ord.total g.met.I.RowIndex.exact g.I.RowIndex.users (g.I.RowIndex.filter self.index) g.I.RowIndex.row_at g.I.RowIndex.marks_at held c.args.store.now.objects c.args.change.now.marks self.index
     (g.met.I.RowIndex.current self.index held st.rows) (has_ids g.I.Key.Ord.cmp self.by_key) st.one_user c.in_ok-keys.keys c.in_ok-keys.ensures.keys c.args.steps.now c.on_change.new.steps c.in_ok-keys.ensures.steps)
+
+pub returns-clause-differ : goal.returns-clause-differ
+returns-clause-differ g c =
+    let self = c.args.self.now in
+    let next = c.on_change.new.self in
+    let after = c.args.store.now.objects in
+    let cmp = g.I.Key.Ord.cmp in
+    let total = g.met.I.Key.Ord.total in
+    let exact = g.met.I.RowIndex.exact in
+    on_any c.rows_at.result (λ held st leads id.
+    let now = followed_stand cmp total exact g.I.RowIndex.users g.I.RowIndex.stands held after self.index next self.by_key self.by_id c.in_ok-keys.ensures.users (c.in_ok-keys.ensures.stands held st.rows leads) st in
+    same_row cmp (g.I.RowIndex.filter self.index) held after (g.I.RowIndex.differing next) (g.I.RowIndex.row_at self.index) (g.I.RowIndex.row_at next) (key_at self.by_id id) c.in_ok-keys.ensures.differ.others
+    (row_is cmp total exact g.I.RowIndex.users g.I.RowIndex.stands (g.I.RowIndex.filter self.index) g.I.RowIndex.row_at g.I.RowIndex.marks_at held self.index self.by_key self.by_id (g.met.I.RowIndex.current self.index held) st id)
+    (λ key is.
+    row_is cmp total exact g.I.RowIndex.users g.I.RowIndex.stands (g.I.RowIndex.filter next) g.I.RowIndex.row_at g.I.RowIndex.marks_at after next self.by_key self.by_id (g.met.I.RowIndex.current next after) now id key is
+    ∙ ap (λ filter. Some (filter.row_of after key)) c.on_change.ensures.filter))
