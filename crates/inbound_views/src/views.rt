@@ -9,7 +9,7 @@ ghost use Rattle.mark_graph.specs.RowMarks.{has_row};
 use crate::keys::port_key;
 use crate::moving::{Earlier, KeysOf, append};
 use authz_index::index::{AuthzIndex, new_index as new_authz_index};
-use mark_graph::by_mark::{list_of, set_of};
+use mark_graph::sorted_set::SortedSet;
 use mark_rules::keys::{RouteKey, ServerKey};
 use mesh_base::key::ObjKey;
 use mesh_base::list::List;
@@ -163,10 +163,10 @@ impl InboundViews {
         let moved = self.moved_among(differing.as_slice(), KeysOf::Routes)?;
         let others = self.moved_among(rerouted.as_slice(), KeysOf::Rows)?;
         let moved = append(self.alloc, moved, others.as_slice())?;
-        let moved = in_order(self.alloc, moved)?;
+        let moved = in_order(moved);
         let all = append(self.alloc, asked, rerouted.as_slice())?;
         let all = append(self.alloc, all, authorized.as_slice())?;
-        let all = in_order(self.alloc, all)?;
+        let all = in_order(all);
         Ok(Touched { moved, all })
     }
 }
@@ -257,9 +257,9 @@ impl QueryViews for InboundViews {
 }
 
 // The ids, ascending, each once.
-fn in_order(alloc: Global, ids: List<u64>) -> Result<List<u64>, Memory>
-    ensures ids { IfOk result (λ all. (id : ℕ) → has_row id all ≡ has_row id ids) }
-    ensures in_order { IfOk result (λ all. IsStrictlySortedBy nat_cmp all) }
+fn in_order(ids: List<u64>) -> List<u64>
+    ensures ids { (id : ℕ) → has_row id result ≡ has_row id ids }
+    ensures in_order { IsStrictlySortedBy nat_cmp result }
 {
-    list_of(alloc, set_of(alloc, ids)?)
+    SortedSet::of_list(ids).into_list()
 }
