@@ -65,6 +65,66 @@ enter i => - h:m http2 deny /a /b/2 i:default unknown all-unauthenticated /c/2
 remove m => hi h:default unknown all-unauthenticated /a /b/2 i:default unknown all-unauthenticated /c/2
 set web => hi h:default unknown all-unauthenticated/2 i:default unknown all-unauthenticated/2";
 
+// The Pod web-1 in three forms: with two labels, with two labels of one value, and with a label whose value is the name of the
+// namespace. No Server selects by the name of another, and each is of the port 8080: a selects no Pod, g each, and o is of another
+// namespace.
+const LABELLED: &str =
+    r#"web {"apiVersion":"v1","kind":"Pod","metadata":{"name":"web-1","namespace":"app","labels":{"app":"web","tier":"front"}},"spec":{"containers":[{"ports":[{"containerPort":8080}]}]}}
+twice {"apiVersion":"v1","kind":"Pod","metadata":{"name":"web-1","namespace":"app","labels":{"app":"web","name":"web"}},"spec":{"containers":[{"ports":[{"containerPort":8080}]}]}}
+named {"apiVersion":"v1","kind":"Pod","metadata":{"name":"web-1","namespace":"app","labels":{"app":"app"}},"spec":{"containers":[{"ports":[{"containerPort":8080}]}]}}
+a {"apiVersion":"policy.linkerd.io/v1beta3","kind":"Server","metadata":{"name":"a","namespace":"app"},"spec":{"port":8080}}
+b {"apiVersion":"policy.linkerd.io/v1beta3","kind":"Server","metadata":{"name":"b","namespace":"app"},"spec":{"podSelector":{"matchLabels":{"app":"app"}},"port":8080}}
+c {"apiVersion":"policy.linkerd.io/v1beta3","kind":"Server","metadata":{"name":"c","namespace":"app"},"spec":{"podSelector":{"matchLabels":{"zone":"front"}},"port":8080}}
+d {"apiVersion":"policy.linkerd.io/v1beta3","kind":"Server","metadata":{"name":"d","namespace":"app"},"spec":{"podSelector":{"matchLabels":{"app":"db"}},"port":8080}}
+e {"apiVersion":"policy.linkerd.io/v1beta3","kind":"Server","metadata":{"name":"e","namespace":"app"},"spec":{"podSelector":{"matchLabels":{"tier":"front"}},"port":8080}}
+f {"apiVersion":"policy.linkerd.io/v1beta3","kind":"Server","metadata":{"name":"f","namespace":"app"},"spec":{"podSelector":{"matchLabels":{"tier":"front","app":"web"}},"port":8080}}
+g {"apiVersion":"policy.linkerd.io/v1beta3","kind":"Server","metadata":{"name":"g","namespace":"app"},"spec":{"podSelector":{},"port":8080}}
+i {"apiVersion":"policy.linkerd.io/v1beta3","kind":"Server","metadata":{"name":"i","namespace":"app"},"spec":{"podSelector":{"matchExpressions":[{"key":"app","operator":"In","values":["web"]}]},"port":8080}}
+o {"apiVersion":"policy.linkerd.io/v1beta3","kind":"Server","metadata":{"name":"a","namespace":"other"},"spec":{"podSelector":{"matchLabels":{"app":"web"}},"port":8080}}"#;
+
+// The Pod is looked at, the Servers that require none of its labels (a, b, g and i: the value of b is the name of the namespace), and
+// for each label those whose first required label has its value, or all of the namespace where these are fewer. With all eight
+// those are a, b, g, i, then f for web, then c and e for front. Of the Pod with two labels of one value, f is looked at twice;
+// without c and d only four Servers are left, which are fewer.
+const LABELLED_ROWS: &str = "\
+set o => -
+set web => -
+peek h => h:default unknown all-unauthenticated~1
+set a => -
+set b => -
+set c => -
+set d => -
+peek h => h:default unknown all-unauthenticated~4
+set e => -
+peek h => h:e unknown deny~5
+set f => -
+set g => -
+set i => -
+peek h => h:e unknown deny~8
+remove e => -
+peek h => h:f unknown deny~7
+remove f => -
+peek h => h:g unknown deny~6
+remove g => -
+peek h => h:i unknown deny~5
+set f => -
+set twice => -
+peek h => h:i unknown deny~6
+remove c => -
+remove d => -
+peek h => h:i unknown deny~5
+set named => -
+peek h => h:b unknown deny~5
+set c => -
+set d => -
+set e => -
+peek h => h:b unknown deny~7
+enter h => - h:b unknown deny/2
+remove b => h h:default unknown all-unauthenticated/2
+set web => h h:e unknown deny/2
+set g => h h:e unknown deny/2
+remove e => h h:f unknown deny/2";
+
 #[derive(Drop)]
 struct Servers;
 
@@ -136,4 +196,12 @@ fn rows_follow_their_objects(rt: HostRuntime) -> Result<(), Fail> {
     let config = Config::usual(alloc)?;
     let index = new_index(alloc, &config)?;
     Trial::new(alloc, OBJECTS, config, index).check(&rt, &Servers, ROWS)
+}
+
+#[test]
+fn servers_are_found_by_labels(rt: HostRuntime) -> Result<(), Fail> {
+    let alloc = rt.alloc();
+    let config = Config::usual(alloc)?;
+    let index = new_index(alloc, &config)?;
+    Trial::new(alloc, LABELLED, config, index).check(&rt, &Servers, LABELLED_ROWS)
 }

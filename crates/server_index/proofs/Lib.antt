@@ -3,3 +3,4 @@ mod Held
 mod Names
 mod Noted
 mod Outside
+mod Selecting

@@ -5,7 +5,8 @@
 //! for whether a Server selects a port, and on view_scratch for what holds without a Server. `ServerIndex` is the table of
 //! row_table over `ServerRule`, so its contract is that of `RowIndex`, with `server_part` and `server_reads` of mark_rules as its
 //! filter. A row keeps the Servers that match its port (`specs/Matches`, `specs/Standing`), so that a changed Server is put into
-//! it or taken out without a look at the others, and is looked up once for all rows.
+//! it or taken out without a look at the others, and is looked up once for all rows. A new row looks at those Servers alone whose
+//! first required label has the value of one of its Pod's (`specs/Requiring`), where these are few.
 #![tactic(auto)]
 
 pub mod index;
@@ -13,5 +14,6 @@ pub mod kept;
 pub mod matching;
 pub mod notes;
 mod port;
+mod required;
 pub mod rule;
 mod servers;

@@ -1,34 +1,36 @@
-// The Servers that match a port, found among all of the namespace, or brought up to a change.
-ghost use Rattle.std.specs.Prelude.{◌≡◌, ◌≤◌, ◌+◌, ◌||◌, ◌↔◌, false, if◌then◌else◌, IfOk, IfSome, OnOk, IsTrue, Some, count_by, is_some, length};
-ghost use Rattle.std.specs.FinMap.{get};
+// The Servers that match a port, found among those of the namespace, or brought up to a change.
+ghost use Rattle.std.specs.Prelude.{◌≡◌, ◌≤◌, ◌+◌, ◌||◌, ◌↔◌, false, if◌then◌else◌, IfOk, OnOk, IsTrue, count_by, is_some, length, map};
+ghost use Rattle.std.specs.FinMap.{entries, get};
+ghost use Rattle.std.specs.List.{list_any, sum_by};
 ghost use Rattle.std.specs.Option.{option_copied};
 ghost use Rattle.key_lists.specs.Keys.{has_key, is_key};
 ghost use Rattle.view_types.specs.Objects.{ObjectMap};
 ghost use Rattle.view_types.specs.declared.mark.Mark.TheVariants.{Obj, ServersIn};
 ghost use Rattle.view_rules.specs.PolicyLaws.{server_key};
 ghost use Rattle.view_rules.specs.Servers.{server_found};
+ghost use Rattle.mark_rules.specs.MarkLookups.{keys_at};
 ghost use Rattle.mark_rules.specs.Marks.{has_mark, same_mark};
 ghost use Rattle.mark_rules.specs.Reads.{count_at};
 ghost use Rattle.server_index.specs.Matches.{AreRight, AreUp, BringsUp, names_server, noted_at, terms_of};
+ghost use Rattle.server_index.specs.Requiring.{HaveServers};
 
 use crate::matching::Matching;
 use crate::notes::{ServerNotes, server_at};
 use crate::port::PodPort;
+use crate::required::required_lists;
 use mark_rules::laws::keys_by_mark;
 use mesh_base::key::{Kind, ObjKey};
 use mesh_base::memory::Memory;
 use mesh_base::same::Same;
 use mesh_base::steps::Steps;
 use mesh_base::text::Text;
-use object_store::store::Store;
 use policy_rows::server::{is_for_port, server_found};
-use std::cmp::Ordering;
 use view_types::mark::Mark;
-use view_types::object::Object;
 use view_types::policy::{Policy, Protocol};
 use view_types::server::ServerSpec;
 
-/// The Servers of the namespace that match the port.
+/// The Servers of the namespace that match the port. Those are looked at that may select the Pod by their first required label, or
+/// all where these are few.
 pub(crate) fn servers_for<L>(port: &PodPort, steps: &mut Steps<L>) -> Result<Matching, Memory>
     requires { port.now.from.now.store.now.spent ≡ false }
     ensures servers { IfOk result (AreUp port.now.from.now.store.now.objects port.now.key.now
@@ -36,12 +38,62 @@ pub(crate) fn servers_for<L>(port: &PodPort, steps: &mut Steps<L>) -> Result<Mat
     ensures steps { steps.new ≤ steps.old + count_at port.now.from.now.store.now.objects
         (ServersIn port.now.key.now.ns) }
 {
+    let PodPort { from, key, pod } = *port;
+    let keys = from.store.servers_in(&key.ns);
+    let labels = pod.meta.labels.entries();
+    match required_lists(from.alloc, from.store, &key.ns, labels, keys.len())? {
+        Some(lists) => match_lists(port, lists.as_slice(), steps),
+        None => match_all(port, keys, steps),
+    }
+}
+
+/// The Servers that match, where those that may select the Pod stand in these lists.
+fn match_lists<L>(
+    port: &PodPort,
+    lists: &[&[ObjKey]],
+    steps: &mut Steps<L>,
+) -> Result<Matching, Memory>
+    requires { HaveServers port.now.from.now.store.now.objects port.now.key.now.ns
+        (entries port.now.pod.now.meta.labels) (map (λ l. l.now) lists.now) }
+    ensures servers { IfOk result (AreUp port.now.from.now.store.now.objects port.now.key.now
+        port.now.pod.now) }
+    ensures steps { steps.new ≤ steps.old + sum_by length (map (λ l. l.now) lists.now) }
+{
+    let mut servers = Matching::new(port.from.alloc);
+    add_lists(port, lists, &mut servers, steps)?;
+    Ok(servers)
+}
+
+/// The Servers that match, where these are the keys of all Servers of the namespace.
+fn match_all<L>(port: &PodPort, keys: &[ObjKey], steps: &mut Steps<L>) -> Result<Matching, Memory>
+    requires { keys.now ≡ keys_at port.now.from.now.store.now.objects
+        (ServersIn port.now.key.now.ns) }
+    ensures servers { IfOk result (AreUp port.now.from.now.store.now.objects port.now.key.now
+        port.now.pod.now) }
+    ensures steps { steps.new ≤ steps.old + length keys.now }
+{
     keys_by_mark();
     port.from.store.stand_at_keys();
     let mut servers = Matching::new(port.from.alloc);
-    let keys = port.from.store.servers_in(&port.key.ns);
     add_servers(port, keys, &mut servers, steps)?;
     Ok(servers)
+}
+
+/// Puts the Servers at the keys of these lists in where they match.
+fn add_lists<L>(
+    port: &PodPort,
+    lists: &[&[ObjKey]],
+    servers: &mut Matching,
+    steps: &mut Steps<L>,
+) -> Result<(), Memory>
+    ensures servers { OnOk result (BringsUp port.now.from.now.store.now.objects port.now.key.now
+        port.now.pod.now (λ k. list_any (λ l. has_key k l.now) lists.now) servers.old servers.new) }
+    ensures steps { steps.new ≤ steps.old + sum_by (λ l. length l.now) lists.now }
+{
+    for keys in lists {
+        add_servers(port, *keys, servers, steps)?;
+    }
+    Ok(())
 }
 
 /// Puts the Servers at these keys in where they match.
@@ -55,33 +107,16 @@ fn add_servers<L>(
         port.now.pod.now (λ k. has_key k keys.now) servers.old servers.new) }
     ensures steps { steps.new ≤ steps.old + length keys.now }
 {
-    let mut place = first_place(port.from.store, keys);
     for key in keys {
-        add_server(port, key, place, servers, steps)?;
-        place = place.saturating_add(1);
+        add_server(port, key, servers, steps)?;
     }
     Ok(())
 }
 
-/// Where the object at the first of these keys stands among those held, or would stand. Objects at keys that follow one another stand
-/// side by side.
-fn first_place(store: &Store, keys: &[ObjKey]) -> usize {
-    let Some(first) = keys.first() else {
-        return 0;
-    };
-    match store
-        .all()
-        .binary_search_by(|object| object.compare_key(first))
-    {
-        Ok(place) | Err(place) => place,
-    }
-}
-
-/// Puts the Server at a key in where it matches. It is looked for at this place first.
+/// Puts the Server at a key in where it matches.
 fn add_server<L>(
     port: &PodPort,
     key: &ObjKey,
-    place: usize,
     servers: &mut Matching,
     steps: &mut Steps<L>,
 ) -> Result<bool, Memory>
@@ -92,38 +127,8 @@ fn add_server<L>(
     if !is_server_in(key, &port.key.ns) {
         return Ok(false);
     }
-    let server = server_near(port.from.store, key, place, steps);
+    let server = server_at(port.from.store, key, steps);
     put_server(port, key, server, servers)
-}
-
-/// The Server at the key, looked for at this place first.
-fn server_near<'a, L>(
-    store: &'a Store,
-    key: &ObjKey,
-    place: usize,
-    steps: &mut Steps<L>,
-) -> Option<&'a ServerSpec>
-    ensures value { option_copied result ≡ server_found (get store.now.objects key.now) }
-    ensures steps { steps.new ≤ steps.old + 1 }
-{
-    match object_at(store, key, place) {
-        Some(object) => {
-            steps.tick();
-            server_found(Some(object))
-        }
-        None => server_at(store, key, steps),
-    }
-}
-
-/// The object at this place among those held, if it is at the key.
-fn object_at<'a>(store: &'a Store, key: &ObjKey, place: usize) -> Option<&'a Object>
-    ensures { IfSome result (λ o. get store.now.objects key.now ≡ Some o.now) }
-{
-    let object = store.all().get(place)?;
-    match object.compare_key(key) {
-        Ordering::Equal => Some(object),
-        _ => None,
-    }
 }
 
 /// Brings the Servers that match up to a change with these marks. Tells whether any differs.

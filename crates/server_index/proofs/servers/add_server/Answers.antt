@@ -13,4 +13,4 @@ returns-then-not-is_server_in-clause-servers g c =
 pub returns-clause-servers : goal.returns-clause-servers
 returns-clause-servers g c =
     let port = c.args.port.now in
-    on_ok_weaker c.put_server.result (λ puts. puts port.from.now.store.now.objects c.server_near-server.ensures.value) c.put_server.ensures.servers
+    on_ok_weaker c.put_server.result (λ puts. puts port.from.now.store.now.objects c.server_at-server.ensures.value) c.put_server.ensures.servers
