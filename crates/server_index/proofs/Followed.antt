@@ -57,10 +57,10 @@ module _ (config : Config) (key : ServerKey) (old : KeptServer) {changed : List 
       (row (well.row ∙ ap (row_from config key.port old.servers) there))
 
   -- without a Pod nothing is shown
-  pub unfollowed : its_pod after key ≡ None → Stands config after key old
-  unfollowed found =
+  pub unfollowed : (new : KeptServer) → its_pod after key ≡ None → new.row ≡ old.row → new.marks ≡ old.marks → Stands config after key new
+  unfollowed new found row marks =
       let there : its_pod before key ≡ None = pod_stays leads key misses ∙ found in
-      unfilled config after key old leads.keys_kept well.marks found (well.row ∙ ap (row_from config key.port old.servers) there)
+      unfilled config after key new leads.keys_kept (marks ∙ well.marks) found (row ∙ well.row ∙ ap (row_from config key.port old.servers) there)
 
 -- ---- steps
 

@@ -1,14 +1,22 @@
--- An object that stands among those held is found at its own key.
-use Rattle.std.proofs.Common.{◌≡◌, ◌<◌, ℕ, List, length, slice_index_or, Some, refl, sym, ap, subst, ◌∙◌, arith}
+-- An object that stands among those held is found at its own key, and counts there.
+use Rattle.std.proofs.Common.{◌≡◌, ◌<◌, ◌≤◌, ℕ, List, length, slice_index_or, Option, Some, sym, ap, subst, ◌∙◌, arith}
 use Rattle.std.specs.FinMap.{get, values}
+use Rattle.std.specs.Option.{is_some}
 use Rattle.mesh_base.proofs.KeyOrder.{keys_total}
 use Rattle.mesh_base.specs.declared.key.ObjKey.{ObjKey}
 use Rattle.view_types.specs.Objects.{AtKeys, ObjectMap, key_of}
+use Rattle.view_types.specs.declared.mark.Mark.TheVariants.{Obj}
 use Rattle.view_types.specs.declared.object.Object.{Object}
 use Rattle.view_rules.proofs.Among.{Among, among_from}
 use Rattle.view_rules.proofs.Entries.{held_somewhere}
+use Rattle.mark_rules.proofs.Counts.{key_counts, one_if}
+use Rattle.mark_rules.specs.Reads.{count_at}
 
 pub found_at : (held : ObjectMap) → AtKeys held → (all : List Object) → all ≡ values held → (place : ℕ) (key : ObjKey) (o : Object) → place < length all → o ≡ slice_index_or all place o → key_of o ≡ key → get held key ≡ Some o
 found_at held own all is place key o within at same =
     let somewhere = held_somewhere keys_total held o (subst (λ (os : List Object). Among o os) is (among_from all o (place, omega (arith, within), sym at))) in
     ap (get held) (sym same ∙ own somewhere.0 o somewhere.1) ∙ somewhere.1
+
+-- and it counts among the objects with the mark of the key
+pub counts_one : (held : ObjectMap) → AtKeys held → (key : ObjKey) (o : Object) → get held key ≡ Some o → 1 ≤ count_at held (Obj key)
+counts_one held own key o is = subst (λ (found : Option Object). one_if (is_some found) ≤ count_at held (Obj key)) is (key_counts held own key)

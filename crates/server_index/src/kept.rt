@@ -11,6 +11,7 @@ ghost use Rattle.server_index.specs.Standing.{Stands};
 
 use crate::matching::Matching;
 use crate::notes::ServerNotes;
+use crate::pods::pod_near;
 use crate::port::{PodPort, Port};
 use crate::servers::{count_servers, follow_servers, servers_for};
 use mark_rules::keys::ServerKey;
@@ -23,7 +24,6 @@ use mesh_base::text::Text;
 use policy_rows::probes::probe_paths;
 use row_reads::rows::server_reads;
 use view_scratch::inbound::{default_policy, default_protocol};
-use view_scratch::pod::pod_named;
 use view_types::mark::Mark;
 use view_types::policy::{Policy, Protocol};
 
@@ -31,12 +31,14 @@ use view_types::policy::{Policy, Protocol};
 /// paths of the Pod's probes.
 pub type ServerPart = (Protocol, Policy, Option<Text>, List<Text>);
 
-/// What a port is served by, if its Pod is held. Beside it stand the Servers that match the port, and the marks that are read.
+/// What a port is served by, if its Pod is held. Beside it stand the Servers that match the port, the marks that are read, and where the
+/// Pod stood among the objects held when it was looked up last.
 #[derive(Drop)]
 pub struct KeptServer {
     pub(crate) row: Option<ServerPart>,
     pub(crate) servers: Matching,
     pub(crate) marks: List<Mark>,
+    pod_place: usize,
 }
 
 /// Finds what a port is served by.
@@ -52,6 +54,7 @@ pub(crate) fn find<L>(port: &Port, steps: &mut Steps<L>) -> Result<KeptServer, M
         row: None,
         servers: Matching::new(alloc),
         marks: server_reads(alloc, port.key)?,
+        pod_place: 0,
     };
     find_again(port, &mut kept, steps)?;
     Ok(kept)
@@ -135,7 +138,7 @@ fn find_again<L>(port: &Port, kept: &mut KeptServer, steps: &mut Steps<L>) -> Re
 {
     let Port { from, key } = *port;
     from.store.stand_at_keys();
-    match pod_named(from.store, &key.ns, &key.pod, steps) {
+    match pod_near(from.store, key, &mut kept.pod_place, steps) {
         Some(pod) => {
             fill(&PodPort { from, key, pod }, kept, steps)?;
             Ok(())
@@ -189,7 +192,7 @@ fn follow_in_place<L>(
         (server_reads port.now.key.now) }
 {
     let Port { from, key } = *port;
-    match pod_named(from.store, &key.ns, &key.pod, steps) {
+    match pod_near(from.store, key, &mut kept.pod_place, steps) {
         Some(pod) => Ok(renew(&PodPort { from, key, pod }, changed, kept, notes, steps)?),
         None => Ok(false),
     }

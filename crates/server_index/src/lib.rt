@@ -13,6 +13,7 @@ pub mod index;
 pub mod kept;
 pub mod matching;
 pub mod notes;
+mod pods;
 mod port;
 mod required;
 pub mod rule;

@@ -1,0 +1,23 @@
+use Rattle.std.proofs.Common.{sym, ◌∙◌}
+use Rattle.mesh_base.proofs.KeyOrder.{keys_exact}
+use Rattle.view_types.specs.Objects.{key_of}
+use Rattle.view_rules.specs.PodRows.{pod_key}
+use Rattle.server_index.proofs.Held.{counts_one, found_at}
+use Rattle.server_index.proofs.pods.object_at.Goals as goal
+
+pub returns-in-Equal-clause-value : goal.returns-in-Equal-clause-value
+returns-in-Equal-clause-value c =
+    let held = c.args.store.now.objects in
+    let key = pod_key c.args.key.now.ns c.args.key.now.pod in
+    let look = c.in_ok-object.ensures.lookup in
+    found_at held c.all.ensures.at_keys c.all.result.now c.all.ensures.value c.args.place key c.in_ok-object.object.now look.3.0 look.1
+    (keys_exact (key_of c.in_ok-object.object.now) key (sym c.compare_key.ensures ∙ c.in-Equal.is))
+
+pub returns-in-Equal-clause-counts : goal.returns-in-Equal-clause-counts
+returns-in-Equal-clause-counts c =
+    let held = c.args.store.now.objects in
+    let key = pod_key c.args.key.now.ns c.args.key.now.pod in
+    let look = c.in_ok-object.ensures.lookup in
+    counts_one held c.all.ensures.at_keys key c.in_ok-object.object.now
+    (found_at held c.all.ensures.at_keys c.all.result.now c.all.ensures.value c.args.place key c.in_ok-object.object.now look.3.0 look.1
+    (keys_exact (key_of c.in_ok-object.object.now) key (sym c.compare_key.ensures ∙ c.in-Equal.is)))
