@@ -1,7 +1,7 @@
 // Texts and their copies.
 use mesh_base::copied::Copied;
 use mesh_base::memory::Memory;
-use mesh_base::text::{OwnText, Text};
+use mesh_base::text::{OwnedText, Text};
 use std::alloc::Global;
 
 // As what has texts in it copies them.
@@ -30,6 +30,6 @@ fn texts_are_the_strings_that_they_are_made_of(rt: HostRuntime) -> Result<(), Me
     let string = String::from_str(rt.alloc(), "app/web")?;
     assert_eq!(rt; Text::from_string(string)?.as_str(), "app/web");
     let string = String::from_str(rt.alloc(), "app/web")?;
-    assert_eq!(rt; OwnText::from_string(string).as_str(), "app/web");
+    assert_eq!(rt; OwnedText::from_string(string).as_str(), "app/web");
     Ok(())
 }

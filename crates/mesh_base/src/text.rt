@@ -10,15 +10,15 @@ use std::cmp::Ordering;
 use std::marker::Model;
 use std::rc::RcStr;
 
-/// A text, which contracts see as its bytes. Its copies share them, so that a copy takes no memory.
+/// An immutable string, which contracts see as its bytes. Copies share the bytes, so that a copy allocates nothing.
 #[derive(Debug, Drop)]
 pub struct Text {
     text: RcStr,
 }
 
-/// A text that nobody shares, which is made of a `String` without memory.
+/// A string that is not shared: it is made from a `String` without an allocation.
 #[derive(Debug, Drop)]
-pub struct OwnText {
+pub struct OwnedText {
     text: String,
 }
 
@@ -31,7 +31,7 @@ impl Model for Text {
     ghost view = { λ t. rc_str_bytes t.text };
 }
 
-impl Model for OwnText {
+impl Model for OwnedText {
     ghost use Rattle.std.specs.Prelude.{List, ℕ};
     ghost use Rattle.std.specs.String.{string_bytes};
 
@@ -48,7 +48,7 @@ impl Text {
         Ok(Text { text })
     }
 
-    /// The text of a `String`, whose bytes are not copied.
+    /// The bytes are not copied, but the count of those that share them is allocated.
     pub fn from_string(text: String) -> Result<Text, Memory>
         ensures { IfOk result (λ made. made ≡ string_bytes text) }
     {
@@ -62,7 +62,7 @@ impl Text {
         self.text.as_str()
     }
 
-    /// Memory comes only where the text has 2^64 - 1 copies.
+    /// Fails only where 2^64 - 1 copies share the bytes.
     pub fn copy(&self) -> Result<Text, Memory>
         ensures { IfOk result (λ copy. copy ≡ self.now) }
     {
@@ -78,11 +78,11 @@ impl Text {
     }
 }
 
-impl OwnText {
-    pub fn from_string(text: String) -> OwnText
+impl OwnedText {
+    pub fn from_string(text: String) -> OwnedText
         ensures { result ≡ string_bytes text }
     {
-        OwnText { text }
+        OwnedText { text }
     }
 
     pub fn as_str(&self) -> &str
@@ -103,6 +103,7 @@ impl PartialEq for Text {
 
     ghost laws = { partial_equiv_from_equiv nat_list_eq_equiv };
 
+    // `RcStr::ptr_eq` has no clause, so that the bytes are compared even where both share them.
     fn eq(&self, other: &Text) -> bool {
         self.text.as_str() == other.text.as_str()
     }

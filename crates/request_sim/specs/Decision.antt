@@ -1,4 +1,4 @@
--- The decision on the inbound view of a port: the rows in place of the objects.
+-- The decision on a request from the inbound view of its port, with the rows of the view in place of the objects.
 use Rattle.std.specs.Prelude.{◌&&◌, Bool, true, false, if◌then◌else◌, List, [], ◌∷◌, Option, Some, None, find, map}
 use Rattle.std.specs.List.{slice_get}
 use Rattle.std.specs.Ordering.{is_gt}
@@ -27,22 +27,22 @@ row_decider row = Authz row.kind row.name
 abbrev pub first_admitting : Request → List AuthzRow → Option AuthzRow
 first_admitting request rows = find (row_admits request.client request.tls) rows
 
--- of two rows the first by kind and name, and of equal ones the first
+-- the first of two rows by kind and name; of rows with the same kind and name, the first argument
 abbrev pub lesser : Option AuthzRow → Option AuthzRow → Option AuthzRow
 lesser None other = other
 lesser (Some row) None = Some row
 lesser (Some row) (Some other) = Some (if is_gt (authz_cmp (authz_key row) (authz_key other)) then other else row)
 
--- where no row admits the client, something else decides
+-- the verdict by a row that admits the client, or another verdict if there is no such row
 abbrev pub by_row : Verdict → Option AuthzRow → Verdict
 by_row otherwise None = otherwise
 by_row otherwise (Some row) = Allowed (row_decider row)
 
--- by the rows of the Server alone, then by the probes
+-- by the rows of the Server alone, then by the probes and the policy
 abbrev pub by_server : Config → Request → ServerRow → Verdict
 by_server config request server = by_row (by_paths config request server.protocol server.policy server.probes) (first_admitting request server.authz)
 
--- by those of the route, too
+-- by the rows of the Server and of the matched route, then by the policy
 abbrev pub by_route : Config → Request → ServerRow → Option RouteRow → Verdict
 by_route config request server None = NotFound
 by_route config request server (Some route) =

@@ -1,4 +1,4 @@
-// Which rows admit a client.
+// The rows that admit a client.
 ghost use Rattle.std.specs.Prelude.{◌≡◌};
 ghost use Rattle.std.specs.List.{list_any};
 ghost use Rattle.std.specs.Option.{option_copied};
@@ -14,7 +14,7 @@ use request_rules::laws::block_holds_decides;
 use view_types::request::{ClientTls, Request};
 use view_types::server_view::{Authn, AuthzRow};
 
-/// The first row that admits the client.
+/// Returns the first row that admits the client.
 pub(crate) fn first_admitting<'a>(rows: &'a [AuthzRow], request: &Request) -> Option<&'a AuthzRow>
     ensures { option_copied result ≡ first_admitting request.now rows.now }
 {

@@ -26,8 +26,8 @@ use view_types::request::{HttpRequest, Request};
 use view_types::server_view::{AuthzRow, RouteRow, ServerRow, ServerView};
 use view_types::verdict::{Decider, Verdict};
 
-/// What comes of the request, by the inbound view of its port. `Pattern` comes where a regular expression of an attached route is
-/// asked for and refused; no other answer counts a refusal.
+/// Returns the verdict on the request, from the inbound view of its port. Returns `Pattern` if a regular expression of an attached
+/// HTTPRoute is used and refused; no other result counts a refusal.
 pub fn decide<P: Patterns>(
     alloc: Global,
     view: &ServerView,
@@ -35,7 +35,7 @@ pub fn decide<P: Patterns>(
     config: &Config,
     patterns: &mut P,
 ) -> Result<Verdict, SimFault>
-    // Over any objects that have this view, it is the written policy's verdict.
+    // Over any objects that have this view, the result is the verdict of the written policy.
     ensures simulated { (held : ObjectMap) → AtKeys held
         → inbound config.now held request.now.ns request.now.pod request.now.port ≡ view.now
         → Simulated config.now held (facts_of P.Patterns patterns.old) request.now result }
@@ -47,7 +47,7 @@ pub fn decide<P: Patterns>(
     decide_by_rows(alloc, view, request, config, patterns)
 }
 
-// An address is a number within its type.
+// States that an address is a number within its type.
 fn fits_its_type(ip: Ip)
     ensures { FitsIp ip }
 {
@@ -57,7 +57,7 @@ fn fits_its_type(ip: Ip)
     }
 }
 
-// The decision on the rows, whatever objects they are of.
+// Returns the decision on the rows, whatever objects they come from.
 fn decide_by_rows<P: Patterns>(
     alloc: Global,
     view: &ServerView,
@@ -127,7 +127,7 @@ fn by_routes<P: Patterns>(
     }
 }
 
-// Whether routes are asked for what comes of an HTTP request.
+// Whether the routes of the Server decide on HTTP requests.
 fn routes_count(server: &ServerRow) -> bool
     ensures { result ≡ (has_rows server.now.routes && asks_routes server.now.protocol) }
 {
@@ -143,7 +143,7 @@ fn has_rows(routes: &[RouteRow]) -> bool
     }
 }
 
-// By the rows of the Server alone, then by the probes.
+// By the rows of the Server alone, then by the probes and the policy.
 fn by_server(config: &Config, request: &Request, server: &ServerRow) -> Result<Verdict, Memory>
     ensures { IfOk result (λ verdict. verdict ≡ by_server config.now request.now server.now) }
 {
@@ -153,7 +153,7 @@ fn by_server(config: &Config, request: &Request, server: &ServerRow) -> Result<V
     by_row(otherwise, row)
 }
 
-// By those of the route, too.
+// By the rows of the Server and of the matched route, then by the policy.
 fn by_route(
     config: &Config,
     request: &Request,
@@ -172,7 +172,7 @@ fn by_route(
     }
 }
 
-// By this row, or by something else where there is none.
+// The verdict by this row, or the other verdict if there is no row.
 fn by_row(otherwise: Verdict, row: Option<&AuthzRow>) -> Result<Verdict, Memory>
     ensures { IfOk result (λ verdict. verdict ≡ by_row otherwise (option_copied row.entry)) }
 {

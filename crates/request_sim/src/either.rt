@@ -10,7 +10,7 @@ use row_places::keyed::KeyedRow;
 use view_types::request::Request;
 use view_types::server_view::AuthzRow;
 
-/// The first row of the two lists that admits the client, by kind and name.
+/// Returns the first row of the two lists, by kind and name, that admits the client.
 pub(crate) fn first_of_either<'a>(
     rows: &'a [AuthzRow],
     more: &'a [AuthzRow],

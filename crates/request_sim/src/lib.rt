@@ -1,7 +1,8 @@
-//! Decides what comes of a simulated request, on the inbound view of its port.
+//! The verdict on a simulated request, decided from the inbound view of its port.
 //!
-//! Stands on route_match for the best match and on request_rules, whose `verdict` over the objects `decide` answers for any objects
-//! that have the view, and on row_places for the order of authorizations. `specs/Decision` is the same over the rows of the view.
+//! Depends on route_match for the best match, on request_rules for the definition `verdict` over the objects, and on row_places for the
+//! order of authorizations. `decide` returns the `verdict` over any objects that have the view; `specs/Decision` is the same decision
+//! over the rows of the view.
 #![tactic(auto)]
 
 mod admits;

@@ -1,4 +1,4 @@
-// The route that is meant by a request.
+// The route that matches a request.
 ghost use Rattle.std.specs.Prelude.{◌≡◌, ◌≤◌, ◌+◌, ◌++◌, Some, IfErr, IfOk, codes, length, map};
 ghost use Rattle.std.specs.Option.{option_copied};
 ghost use Rattle.std.specs.String.{string_bytes, string_capacity, string_len};
@@ -10,7 +10,7 @@ ghost use Rattle.request_sim.specs.declared.fault.SimFault.TheVariants.{Pattern}
 
 use crate::fault::SimFault;
 use mesh_base::memory::Memory;
-use mesh_base::text::{OwnText, Text};
+use mesh_base::text::{OwnedText, Text};
 use mesh_outside::Patterns;
 use route_match::best::{Candidate, best_match};
 use route_match::fault::MatchFault;
@@ -18,7 +18,7 @@ use std::alloc::Global;
 use view_types::request::HttpRequest;
 use view_types::server_view::RouteRow;
 
-/// The route of the best match, if there is one. The routes are those of a Server in the namespace.
+/// Returns the route with the best match, if there is one. The routes must be those of a Server in the namespace.
 pub(crate) fn matched_route<'a, P: Patterns>(
     alloc: Global,
     ns: &Text,
@@ -55,7 +55,7 @@ fn route_found(routes: &[RouteRow], found: Option<Candidate>) -> Option<&RouteRo
     }
 }
 
-// `namespace/`, with room for the name of each of the routes behind it: a refusal is named without more memory.
+// Allocates `namespace/` with room to append the name of any of the routes, so that a fault can be reported without more memory.
 fn room_for_text(alloc: Global, ns: &Text, routes: &[RouteRow]) -> Result<String, Memory>
     ensures front { IfOk result (λ room. string_bytes room ≡ ns.now ++ codes "/") }
     ensures room { IfOk result (λ room. HasRoomFor routes.now (string_len room) (string_capacity room)) }
@@ -68,7 +68,7 @@ fn room_for_text(alloc: Global, ns: &Text, routes: &[RouteRow]) -> Result<String
     Ok(room)
 }
 
-// The fault that names a match of the route.
+// Returns the fault that names a match of the route.
 fn pattern_fault(room: String, row: &RouteRow, rule: usize, item: usize) -> SimFault
     requires { string_len room + length row.now.name ≤ string_capacity room }
     ensures { result ≡ Pattern (string_bytes room ++ row.now.name) rule item }
@@ -80,7 +80,7 @@ fn pattern_fault(room: String, row: &RouteRow, rule: usize, item: usize) -> SimF
     }
 }
 
-fn text_of(front: String, name: &Text) -> OwnText
+fn text_of(front: String, name: &Text) -> OwnedText
     requires { string_len front + length name.now ≤ string_capacity front }
     ensures { result ≡ string_bytes front ++ name.now }
 {
@@ -88,5 +88,5 @@ fn text_of(front: String, name: &Text) -> OwnText
     let Ok(()) = text.push_str(name.as_str()) else {
         unreachable!();
     };
-    OwnText::from_string(text)
+    OwnedText::from_string(text)
 }

@@ -1,4 +1,4 @@
-// What the policy in force says where neither an authorization admits a client nor a probe is met.
+// The verdict by the policy in force, if no authorization admits the client and the request is no probe.
 ghost use Rattle.std.specs.Prelude.{◌≡◌};
 ghost use Rattle.std.specs.List.{list_any};
 ghost use Rattle.request_rules.specs.Networks.{net_holds};
@@ -11,7 +11,7 @@ use view_types::policy::{Policy, Protocol};
 use view_types::request::{ClientTls, Request};
 use view_types::verdict::{Decider, Verdict};
 
-/// What the policy decides.
+/// Returns the verdict by the policy.
 pub(crate) fn by_policy(config: &Config, request: &Request, policy: Policy) -> Verdict
     ensures { result ≡ by_policy config.now request.now policy }
 {
@@ -40,7 +40,7 @@ fn has_identity(tls: &ClientTls) -> bool
     matches!(tls, ClientTls::Identity(_))
 }
 
-/// Whether one of the configured networks holds the address.
+/// Whether the address is in one of the configured cluster networks.
 pub(crate) fn is_in_cluster(config: &Config, ip: Ip) -> bool
     ensures { result ≡ is_in_cluster config.now ip }
 {
@@ -59,7 +59,7 @@ fn net_holds(net: &Net, ip: Ip) -> bool
     net.holds(ip)
 }
 
-/// Whether routes are asked for with this protocol.
+/// Whether routes are used with this protocol.
 pub(crate) fn asks_routes(protocol: Protocol) -> bool
     ensures { result ≡ asks_routes protocol }
 {

@@ -1,4 +1,4 @@
-// Probes of a Pod, which are admitted where no authorization decides.
+// Probes of a Pod, which are admitted if no authorization decides.
 ghost use Rattle.std.specs.Prelude.{◌≡◌, Some, position};
 ghost use Rattle.std.specs.Str.{bytes_eq};
 ghost use Rattle.request_rules.specs.Verdicts.{by_paths, may_be_probe, probe_place};
@@ -10,7 +10,7 @@ use view_types::policy::{Policy, Protocol};
 use view_types::request::{HttpRequest, Request};
 use view_types::verdict::{Decider, Verdict};
 
-/// What a probe of one of these paths decides, else the policy.
+/// Returns the verdict by these probe paths, and otherwise by the policy.
 pub(crate) fn by_paths(
     config: &Config,
     request: &Request,
@@ -28,7 +28,7 @@ pub(crate) fn by_paths(
     }
 }
 
-// The place of the request's path among these paths, where it may be a probe's.
+// Returns the index of the request's path among these paths, if the request may be a probe.
 fn probe_place(
     config: &Config,
     request: &Request,
@@ -61,7 +61,7 @@ fn place_asked(
     }
 }
 
-// A GET from the configured networks, to a port with a protocol by which requests are told apart.
+// Whether the request is a GET from a cluster network, to a port whose protocol is not opaque or TLS.
 fn may_be_probe(config: &Config, request: &Request, protocol: Protocol, http: &HttpRequest) -> bool
     ensures { result ≡ may_be_probe config.now request.now protocol http.now }
 {
