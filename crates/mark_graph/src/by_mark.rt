@@ -200,15 +200,3 @@ fn gather_one<M: Ord + Copied>(
     }
     Ok(())
 }
-
-/// The rows of a set, ascending.
-pub fn list_of(alloc: Global, set: BTreeSet<u64>) -> Result<List<u64>, Memory>
-    ensures rows { IfOk result (λ rows. rows ≡ set.keys) }
-    ensures in_order { IfOk result (λ rows. IsStrictlySortedBy nat_cmp rows) }
-{
-    let mut rows = Vec::with_capacity(alloc, set.len())?;
-    for row in set {
-        rows.push(row)?;
-    }
-    Ok(List::from_vec(rows))
-}
