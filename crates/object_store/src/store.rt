@@ -169,8 +169,8 @@ impl Store {
         self.keys.marked.servers_in(ns)
     }
 
-    /// The keys of the Servers of the namespace whose first required label has the value, in order. One that requires none
-    /// stands with its namespace in place of the value.
+    /// The keys of the Servers of the namespace whose first required label has the value. One that requires none stands with its
+    /// namespace in place of the value.
     pub fn servers_requiring(&self, ns: &Text, value: &Text) -> &[ObjKey]
         ensures { FindsServers self.now (ns.now, value.now) result.now }
     {
