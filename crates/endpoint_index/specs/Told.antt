@@ -22,5 +22,5 @@ notes_in (Some kept) = kept.slices.rows.notes
 -- the notes of a key that the last change touched, and none of any other
 abbrev pub notes_at : EndpointIndex → EndpointKey → List Stood
 notes_at s key =
-    if contains key_order.TheImpl.cmp-value.it s.touched key then notes_in (kept_in (row_at key_order.TheImpl.cmp-value.it s.rows.table.rows key))
+    if contains key_order.TheImpl.cmp-value.it s.touched key then notes_in (kept_in (row_at key_order.TheImpl.cmp-value.it s.rows.table.used s.rows.table.rows key))
     else []

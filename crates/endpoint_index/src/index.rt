@@ -1,16 +1,18 @@
 // The index of endpoints.
-ghost use Rattle.std.specs.Prelude.{◌≡◌, ◌≤◌, ◌+◌, true, false, IsErr, IfOk, OnOk};
+ghost use Rattle.std.specs.Prelude.{◌≡◌, ◌≤◌, ◌+◌, ℕ, true, false, Some, IsErr, IfOk, OnOk};
+ghost use Rattle.std.specs.BTreeMap as tree;
 ghost use Rattle.std.specs.List.{sum_by};
 ghost use Rattle.std.specs.Option.{option_copied};
 ghost use Rattle.view_diff.specs.Earlier.{IsByAddress};
 ghost use Rattle.view_types.specs.Objects.{ObjectMap};
+ghost use Rattle.mark_graph.specs.RowMarks.{has_row};
 ghost use Rattle.mark_rules.specs.Changes.{Leads};
 ghost use Rattle.mark_rules.specs.Reads.{cost, endpoint_reads};
 ghost use Rattle.mark_rules.specs.Rows.{endpoint_row};
 ghost use Rattle.mark_rules.specs.declared.keys.EndpointKey.{EndpointKey as TheKey};
 ghost use Rattle.endpoint_rows.specs.Before.{TellsBefore};
-ghost use Rattle.row_table.specs.IndexRows.{AreMet, DifferAmong};
-ghost use Rattle.row_table.specs.RowLaws.{current_row};
+ghost use Rattle.row_table.specs.IndexRows.{AreMet, DifferAmong, has_key};
+ghost use Rattle.row_table.specs.RowLaws.{current_row, numbered_rows};
 ghost use Rattle.row_table.specs.TableRows.{row_at};
 ghost use Rattle.endpoint_index.specs.EndpointKeys.{endpoint_keys_exact};
 ghost use Rattle.endpoint_index.specs.Standing.{Stands, marks_in};
@@ -94,6 +96,13 @@ impl EndpointIndex {
             → TellsBefore (rows_shown (⟦<EndpointIndex as RowIndex>⟧.row_at self.old key))
             (rows_shown (⟦<EndpointIndex as RowIndex>⟧.row_at self.new key))
             (notes_at self.new key)) }
+        ensures numbers { OnOk result ((key : TheKey)
+            → ⟦<EndpointIndex as RowIndex>⟧.number_at self.new key
+            ≡ ⟦<EndpointIndex as RowIndex>⟧.number_at self.old key) }
+        ensures met { IfOk result (λ keys. (key : TheKey) (n : ℕ)
+            → ⟦<EndpointIndex as RowIndex>⟧.number_at self.old key ≡ Some n
+            → has_row n (⟦<EndpointIndex as RowIndex>⟧.met self.new)
+            ≡ has_key ⟦<EndpointKey as Ord>⟧.cmp keys key) }
         ensures steps { IfOk result (λ keys. steps.new ≤ steps.old + sum_by (λ key.
             cost store.now.objects (endpoint_reads store.now.objects key)) keys) }
         ensures filter { ⟦<EndpointIndex as RowIndex>⟧.filter self.new
@@ -148,7 +157,11 @@ impl RowIndex for EndpointIndex {
 
     ghost marks_at = { λ s. ⟦<RowTable<EndpointRule> as RowIndex>⟧.marks_at s.rows };
 
+    ghost number_at = { λ s. ⟦<RowTable<EndpointRule> as RowIndex>⟧.number_at s.rows };
+
     ghost differing = { λ s. ⟦<RowTable<EndpointRule> as RowIndex>⟧.differing s.rows };
+
+    ghost met = { λ s. ⟦<RowTable<EndpointRule> as RowIndex>⟧.met s.rows };
 
     ghost is_spent = { λ s. s.spent };
 
@@ -186,6 +199,14 @@ impl RowIndex for EndpointIndex {
         self.rows.differing()
     }
 
+    fn number(&self, key: &EndpointKey) -> Option<u64> {
+        self.rows.number(key)
+    }
+
+    fn met(&self) -> &[u64] {
+        self.rows.met()
+    }
+
     fn row(&self, key: &EndpointKey) -> Option<&EndpointView> {
         self.rows.row(key)
     }
@@ -209,9 +230,12 @@ impl RowIndex for EndpointIndex {
     ghost current = { λ s held stands key. current_row (record {
       row_of = endpoint_row s.rows.rule.config;
       reads = endpoint_reads;
-    }) view_in marks_in ⟦<EndpointKey as Ord>⟧.cmp (Stands s.rows.rule.config)
-        (stands_show s.rows.rule.config) held key
-        (row_at ⟦<EndpointKey as Ord>⟧.cmp s.rows.table.rows key) (stands key) };
+    }) view_in marks_in (Stands s.rows.rule.config) (stands_show s.rows.rule.config) held key
+        (tree.get ⟦<EndpointKey as Ord>⟧.cmp s.rows.table.used key)
+        (row_at ⟦<EndpointKey as Ord>⟧.cmp s.rows.table.used s.rows.table.rows key) (stands key) };
+
+    ghost numbered = { λ s held stands. numbered_rows ⟦<EndpointKey as Ord>⟧.cmp
+        (Stands s.rows.rule.config) held s.rows.table.used s.rows.table.rows stands };
 
     ghost exact = { endpoint_keys_exact };
 }

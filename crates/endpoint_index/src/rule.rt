@@ -1,5 +1,4 @@
 // How the endpoints of ports are found and kept.
-ghost use Rattle.std.specs.Prelude.{◌≡◌};
 ghost use Rattle.mark_rules.specs.Reads.{endpoint_reads};
 ghost use Rattle.mark_rules.specs.Rows.{endpoint_row};
 ghost use Rattle.endpoint_index.specs.EndpointKeys.{endpoint_keys_exact};

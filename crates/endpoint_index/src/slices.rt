@@ -1,7 +1,7 @@
 // The rows and the Pods of the slices of a Service, brought up slice by slice.
 ghost use Rattle.std.specs.Prelude.{◌≡◌, ◌≤◌, ◌+◌, ◌++◌, [], true, false, Some, None, IfOk, IfSome, OnOk, if◌then◌else◌, is_some};
 ghost use Rattle.std.specs.FinMap.{get};
-ghost use Rattle.std.specs.List.{flat_map, sum_by};
+ghost use Rattle.std.specs.List.{sum_by};
 ghost use Rattle.std.specs.Option.{option_copied};
 ghost use Rattle.key_lists.specs.Keys.{has_key, is_key};
 ghost use Rattle.mesh_base.specs.declared.key.ObjKey.{ObjKey as TheKey};

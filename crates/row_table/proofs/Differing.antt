@@ -1,16 +1,15 @@
 -- The keys whose rows may differ after a change.
 use Rattle.std.proofs.Common.{◌≡◌, ◌||◌, ◌&&◌, Bool, true, false, cond, List, [], ◌∷◌, ◌++◌, Option, Some, refl, sym, ap, ◌∙◌}
-use Rattle.std.specs.BTreeMap.{BTreeMap}
 use Rattle.std.specs.Cmp.{IsTotalOrder}
 use Rattle.std.specs.FinMap.{IsAntisymmetric}
 use Rattle.std.specs.Ordering.{eq_by_cmp}
 use Rattle.std.specs.declared.cmp.Ordering.{Ordering}
 use Rattle.std.proofs.lemmas.Bool.{false≢true, or_parts}
 use Rattle.row_table.specs.IndexRows.{DifferAmong, has_key}
-use Rattle.row_table.specs.TableRows.{PutsAt, row_at, shown_in}
+use Rattle.row_table.specs.TableRows.{PutsAt, shown_in}
 use Rattle.row_table.specs.declared.table_rows.KeptRow.{KeptRow}
 use Rattle.row_table.proofs.Keys.{has_more}
-use Rattle.row_table.proofs.Tied.{put_same}
+use Rattle.row_table.proofs.Puts.{put_same}
 
 either : (a b c d : Bool) → (a ≡ true → b ≡ true) → (c ≡ true → d ≡ true) → (a || c) ≡ true → (b || d) ≡ true
 either true b c d first second is = ap (λ x. x || d) (first refl)
@@ -43,9 +42,9 @@ module _ {Key Row : Type 0} (cmp : Key → Key → Ordering) where
   }
 
 -- each row is as before, but one that may differ
-pub shown_put : {Key Row Kept : Type 0} (cmp : Key → Key → Ordering) (total : IsTotalOrder cmp) (exact : IsAntisymmetric cmp) (row_in : Kept → Row) (key : Key) (before after : KeptRow Kept) (old new : BTreeMap Key (KeptRow Kept))
-    → PutsAt cmp key (Some after) old new → row_at cmp old key ≡ Some before → (differs : Bool) → (differs ≡ false → row_in after.kept ≡ row_in before.kept)
-    → (k : Key) → (differs && eq_by_cmp cmp k key) ≡ false → shown_in row_in (row_at cmp new k) ≡ shown_in row_in (row_at cmp old k)
-shown_put cmp total exact row_in key before after old new put there true same k is = ap (shown_in row_in) (put k ∙ ap (λ b. cond b (Some after) (row_at cmp old k)) is)
+pub shown_put : {Key Row Kept : Type 0} (cmp : Key → Key → Ordering) (total : IsTotalOrder cmp) (exact : IsAntisymmetric cmp) (row_in : Kept → Row) (key : Key) (before after : KeptRow Key Kept) (old new : Key → Option (KeptRow Key Kept))
+    → PutsAt cmp key (Some after) old new → old key ≡ Some before → (differs : Bool) → (differs ≡ false → row_in after.kept ≡ row_in before.kept)
+    → (k : Key) → (differs && eq_by_cmp cmp k key) ≡ false → shown_in row_in (new k) ≡ shown_in row_in (old k)
+shown_put cmp total exact row_in key before after old new put there true same k is = ap (shown_in row_in) (put k ∙ ap (λ b. cond b (Some after) (old k)) is)
 shown_put cmp total exact row_in key before after old new put there false same k is =
     put_same cmp total exact key (Some after) old new put (shown_in row_in) (ap Some (same refl) ∙ sym (ap (shown_in row_in) there)) k

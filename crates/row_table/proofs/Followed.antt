@@ -20,72 +20,76 @@ use Rattle.mark_graph.specs.RowMarks.{has_row, watches}
 use Rattle.mark_rules.specs.Changes.{Leads}
 use Rattle.mark_rules.specs.Marks.{has_mark, mark_cmp, meets}
 use Rattle.row_table.specs.IndexRows.{AreMet, Filter, KeptShows, KeptStays, has_key}
-use Rattle.row_table.specs.TableRows.{AllStand, AreTied, Follow, RowAfter, StandsAt, is_among, marks_behind, marks_of, number_in, row_at, users_in}
+use Rattle.row_table.specs.TableRows.{AllStand, AreTied, Follow, KeptFollows, PutsAt, RowAfter, StandsAt, is_among, key_in, marks_of, number_at, row_at, row_of}
 use Rattle.row_table.specs.declared.table_rows.KeptRow.{KeptRow}
+use Rattle.row_table.specs.declared.table_rows.UsedKey.{UsedKey}
 use Rattle.row_table.proofs.Keys.{distinct_more, has_more, is_itself, tells}
 use Rattle.row_table.proofs.MarkLists.{meets_back, meets_same, same_any}
-use Rattle.row_table.proofs.Tied.{none_is_not_some, some_is}
+use Rattle.row_table.proofs.Puts.{none_is_not_some, put_here, put_other, some_is}
 
 module _ {Key Kept : Type 0} (cmp : Key → Key → Ordering) (total : IsTotalOrder cmp) (exact : IsAntisymmetric cmp) where
   module _ (keeps : ObjectMap → Key → Kept → Type 0) (tells_of : Kept → Kept → Type 0) (changed : List Mark) (after : ObjectMap) where
-    abbrev After : Bool → Key → Option (KeptRow Kept) → Option (KeptRow Kept) → Type 0
-    After = RowAfter cmp keeps tells_of changed after
+    abbrev After : Bool → Key → Option (KeptRow Key Kept) → Option (KeptRow Key Kept) → Type 0
+    After = RowAfter keeps tells_of changed after
+
+    -- one row follows
+    pub follow_put : (key : Key) (row row_after : KeptRow Key Kept) (start end : Key → Option (KeptRow Key Kept)) → start key ≡ Some row → PutsAt cmp key (Some row_after) start end → row_after.key ≡ row.key
+        → KeptFollows keeps tells_of changed after key row.kept row_after.kept → Follow keeps tells_of changed after (has_key cmp (key ∷ [])) start end
+    follow_put key row row_after start end there put same_key kept k = elim (tells cmp total exact k key) as (λ _. After (has_key cmp (key ∷ []) k) k (start k) (end k)) [
+      | inl same ↦ subst (λ (k : Key). After (has_key cmp (key ∷ []) k) k (start k) (end k)) (sym same.1)
+          (subst (λ (b : Bool). After b key (start key) (end key)) (sym (ap (λ b. b || false) (is_itself cmp total exact key)))
+          (subst (λ (o : Option (KeptRow Key Kept)). After true key o (end key)) (sym there)
+          (subst (λ (o : Option (KeptRow Key Kept)). After true key (Some row) o) (sym (put_here cmp total exact key (Some row_after) start end put)) (record { same_key = same_key; kept = kept }))))
+      | inr apart ↦ subst (λ (b : Bool). After b k (start k) (end k)) (sym (ap (λ b. b || false) apart.0)) (put_other cmp total exact key (Some row_after) start end put k apart.1)
+    ]
 
     -- first some follow, then others
-    pub follow_more : (keys added : List Key) (start middle end : BTreeMap Key (KeptRow Kept)) → Follow cmp keeps tells_of changed after (has_key cmp keys) start middle
-        → Follow cmp keeps tells_of changed after (has_key cmp added) middle end → ((k : Key) → has_key cmp added k ≡ true → has_key cmp keys k ≡ false)
-        → Follow cmp keeps tells_of changed after (has_key cmp (keys ++ added)) start end
+    pub follow_more : (keys added : List Key) (start middle end : Key → Option (KeptRow Key Kept)) → Follow keeps tells_of changed after (has_key cmp keys) start middle
+        → Follow keeps tells_of changed after (has_key cmp added) middle end → ((k : Key) → has_key cmp added k ≡ true → has_key cmp keys k ≡ false)
+        → Follow keeps tells_of changed after (has_key cmp (keys ++ added)) start end
     follow_more keys added start middle end first second apart k =
-        subst (λ (b : Bool). After b k (row_at cmp start k) (row_at cmp end k)) (sym (has_more cmp keys added k))
+        subst (λ (b : Bool). After b k (start k) (end k)) (sym (has_more cmp keys added k))
         (by (has_key cmp keys k) (has_key cmp added k) (apart k) (first k) (second k))
       where
-        by : (some more : Bool) → (more ≡ true → some ≡ false) → After some k (row_at cmp start k) (row_at cmp middle k) → After more k (row_at cmp middle k) (row_at cmp end k)
-            → After (some || more) k (row_at cmp start k) (row_at cmp end k)
+        by : (some more : Bool) → (more ≡ true → some ≡ false) → After some k (start k) (middle k) → After more k (middle k) (end k) → After (some || more) k (start k) (end k)
         by true true apart f s = absurd (false≢true (sym (apart refl)))
-        by true false apart f s = subst (λ (row : Option (KeptRow Kept)). After true k (row_at cmp start k) row) (sym s) f
-        by false true apart f s = subst (λ (row : Option (KeptRow Kept)). After true k row (row_at cmp end k)) f s
+        by true false apart f s = subst (λ (row : Option (KeptRow Key Kept)). After true k (start k) row) (sym s) f
+        by false true apart f s = subst (λ (row : Option (KeptRow Key Kept)). After true k row (end k)) f s
         by false false apart f s = s ∙ f
-
-    -- users stay
-    pub users_stay : (some : Bool) (k : Key) (old new : Option (KeptRow Kept)) → After some k old new → users_in new ≡ users_in old
-    users_stay false k old new stays = ap users_in stays
-    users_stay true k None None follows = refl
-    users_stay true k None (Some n) follows = absurd follows
-    users_stay true k (Some o) None follows = absurd follows
-    users_stay true k (Some o) (Some n) follows = follows.users
 
     -- all stand for the objects after the change
     module _ {Row : Type 0} (filter : Filter Key Row) (row_in : Kept → Row) (marks_in : Kept → List Mark) (shows : KeptShows filter keeps row_in marks_in) (stays : KeptStays filter keeps) (held : ObjectMap) (leads : Leads changed held after) where
-      one_stands : (some : Bool) (k : Key) (old new : Option (KeptRow Kept)) → some ≡ meets (marks_of marks_in old) changed → After some k old new → StandsAt cmp keeps held k old → StandsAt cmp keeps after k new
-      one_stands true k None None met follows stands = tt
-      one_stands true k None (Some n) met follows stands = absurd follows
-      one_stands true k (Some o) None met follows stands = absurd follows
-      one_stands true k (Some o) (Some n) met follows stands =
-          (subst (λ (users : ℕ). 0 < users) (sym follows.users) stands.0, (follows.kept held stands.1 leads).0)
-      one_stands false k None new met same stands = subst (λ (row : Option (KeptRow Kept)). StandsAt cmp keeps after k row) (sym same) tt
-      one_stands false k (Some o) new met same stands = subst (λ (row : Option (KeptRow Kept)). StandsAt cmp keeps after k row) (sym same)
-          (stands.0, stays k o.kept changed held after leads (sym (meets_same (marks_in o.kept) (filter.reads held k) changed (shows held k o.kept stands.1).are_read) ∙ sym met) stands.1)
+      one_stands : (some : Bool) (k : Key) (u : Option UsedKey) (old new : Option (KeptRow Key Kept)) → some ≡ meets (marks_of marks_in old) changed → After some k old new → StandsAt keeps held k u old → StandsAt keeps after k u new
+      one_stands true k None None None met follows stands = refl
+      one_stands true k None (Some o) (Some n) met follows stands = none_is_not_some (Some o) o stands refl
+      one_stands true k (Some u) None None met follows stands = absurd stands
+      one_stands true k (Some u) (Some o) (Some n) met follows stands = (stands.0, follows.same_key ∙ stands.1, (follows.kept held stands.2 leads).0)
+      one_stands true k u None (Some n) met follows stands = absurd follows
+      one_stands true k u (Some o) None met follows stands = absurd follows
+      one_stands false k None old new met same stands = same ∙ stands
+      one_stands false k (Some u) None new met same stands = absurd stands
+      one_stands false k (Some u) (Some o) new met same stands = subst (λ (row : Option (KeptRow Key Kept)). StandsAt keeps after k (Some u) row) (sym same)
+          (stands.0, stands.1, stays k o.kept changed held after leads (sym (meets_same (marks_in o.kept) (filter.reads held k) changed (shows held k o.kept stands.2).are_read) ∙ sym met) stands.2)
 
-      pub all_stand : (keys : List Key) (old new : BTreeMap Key (KeptRow Kept)) → AreMet cmp changed (λ k. marks_of marks_in (row_at cmp old k)) keys → Follow cmp keeps tells_of changed after (has_key cmp keys) old new
-          → AllStand cmp keeps held old → AllStand cmp keeps after new
-      all_stand keys old new met follow stand k = one_stands (has_key cmp keys k) k (row_at cmp old k) (row_at cmp new k) (met.each k) (follow k) (stand k)
+      pub all_stand : (keys : List Key) (used used_after : BTreeMap Key UsedKey) (old new : BTreeMap ℕ (KeptRow Key Kept)) → used_after ≡ used → AreMet cmp changed (λ k. marks_of marks_in (row_at cmp used old k)) keys
+          → Follow keeps tells_of changed after (has_key cmp keys) (row_at cmp used old) (row_at cmp used_after new) → AllStand keeps cmp held used old → AllStand keeps cmp after used_after new
+      all_stand keys used used_after old new same met follow stand k =
+          subst (λ (u : Option UsedKey). StandsAt keeps after k u (row_at cmp used_after new k)) (sym (ap (λ (m : BTreeMap Key UsedKey). tree.get cmp m k) same))
+          (one_stands (has_key cmp keys k) k (tree.get cmp used k) (row_at cmp used old k) (row_at cmp used_after new k) (met.each k) (follow k) (stand k))
 
   -- ---- the keys of the numbers that are due
 
-  module _ (marks_in : Kept → List Mark) (rows : BTreeMap Key (KeptRow Kept)) (keys : BTreeMap ℕ Key) (watched : BTreeMap ℕ (BTreeSet Mark)) (next : ℕ) (tied : AreTied cmp marks_in rows keys watched next) where
-    abbrev number_at : Key → Option ℕ
-    number_at k = number_in (row_at cmp rows k)
-
+  module _ (marks_in : Kept → List Mark) (used : BTreeMap Key UsedKey) (rows : BTreeMap ℕ (KeptRow Key Kept)) (watched : BTreeMap ℕ (BTreeSet Mark)) (next : ℕ) (tied : AreTied cmp marks_in used rows watched next) where
     -- the keys are those of rows with these numbers
     abbrev pub Among : List ℕ → List Key → Type 0
-    Among numbers found = (k : Key) → has_key cmp found k ≡ is_among numbers (number_in (row_at cmp rows k))
+    Among numbers found = (k : Key) → has_key cmp found k ≡ is_among numbers (number_at cmp used k)
 
     among_none : (o : Option ℕ) → false ≡ is_among [] o
     among_none None = refl
     among_none (Some n) = refl
 
     pub among_start : Among [] []
-    among_start k = among_none (number_at k)
+    among_start k = among_none (number_at cmp used k)
 
     abbrev is_number : ℕ → Option ℕ → Bool
     is_number n None = false
@@ -109,46 +113,46 @@ module _ {Key Kept : Type 0} (cmp : Key → Key → Ordering) (total : IsTotalOr
 
     -- the key of a number, if it has one
     added : ℕ → List Key
-    added n = option_to_list (tree.get nat_cmp keys n)
+    added n = option_to_list (key_in (tree.get nat_cmp rows n))
 
     -- it is the key of the row with the number
-    added_is : (n : ℕ) (k : Key) → has_key cmp (option_to_list (tree.get nat_cmp keys n)) k ≡ is_number n (number_at k)
-    added_is n k = by (tree.get nat_cmp keys n) refl (number_at k) refl
+    added_is : (n : ℕ) (k : Key) → has_key cmp (option_to_list (key_in (tree.get nat_cmp rows n))) k ≡ is_number n (number_at cmp used k)
+    added_is n k = by (key_in (tree.get nat_cmp rows n)) refl (number_at cmp used k) refl
       where
-        number_is : (m : ℕ) → nat_eq m n ≡ true → number_at k ≡ Some m → tree.get nat_cmp keys n ≡ Some k
-        number_is m e is = ap (tree.get nat_cmp keys) (sym (eqb-true m n e)) ∙ tied.numbers k m is
+        number_is : (m : ℕ) → nat_eq m n ≡ true → number_at cmp used k ≡ Some m → key_in (tree.get nat_cmp rows n) ≡ Some k
+        number_is m e is = ap (λ i. key_in (tree.get nat_cmp rows i)) (sym (eqb-true m n e)) ∙ tied.rows_of k m is
 
-        by : (found : Option Key) → tree.get nat_cmp keys n ≡ found → (o : Option ℕ) → number_at k ≡ o → has_key cmp (option_to_list found) k ≡ is_number n o
+        by : (found : Option Key) → key_in (tree.get nat_cmp rows n) ≡ found → (o : Option ℕ) → number_at cmp used k ≡ o → has_key cmp (option_to_list found) k ≡ is_number n o
         by None at None is = refl
         by None at (Some m) is = case (nat_eq m n) refl
           where
             case : (b : Bool) → nat_eq m n ≡ b → false ≡ b
-            case true e = none_is_not_some (tree.get nat_cmp keys n) k at (number_is m e is)
+            case true e = none_is_not_some (key_in (tree.get nat_cmp rows n)) k at (number_is m e is)
             case false e = refl
         by (Some key) at None is = elim (tells cmp total exact k key) as (λ _. has_key cmp (key ∷ []) k ≡ false) [
-          | inl same ↦ none_is_not_some (number_at k) n is (ap number_at same.1 ∙ tied.keys_of n key at)
+          | inl same ↦ none_is_not_some (number_at cmp used k) n is (ap (number_at cmp used) same.1 ∙ tied.numbers n key at)
           | inr apart ↦ ap (λ b. b || false) apart.0
         ]
         by (Some key) at (Some m) is = elim (tells cmp total exact k key) as (λ _. has_key cmp (key ∷ []) k ≡ nat_eq m n) [
-          | inl same ↦ ap (λ b. b || false) same.0 ∙ sym (eq-eqb m n (some_is m n (sym is ∙ ap number_at same.1 ∙ tied.keys_of n key at)))
+          | inl same ↦ ap (λ b. b || false) same.0 ∙ sym (eq-eqb m n (some_is m n (sym is ∙ ap (number_at cmp used) same.1 ∙ tied.numbers n key at)))
           | inr apart ↦ ap (λ b. b || false) apart.0 ∙ sym (ne_eqb m n (λ e. apart.1 (sym (some_is key k (sym at ∙ number_is m (eq-eqb m n e) is)))))
         ]
 
-    pub among_step : (n : ℕ) (numbers : List ℕ) (found : List Key) → Among numbers found → Among (numbers ++ n ∷ []) (found ++ option_to_list (tree.get nat_cmp keys n))
+    pub among_step : (n : ℕ) (numbers : List ℕ) (found : List Key) → Among numbers found → Among (numbers ++ n ∷ []) (found ++ option_to_list (key_in (tree.get nat_cmp rows n)))
     among_step n numbers found so_far k =
-        has_more cmp found (option_to_list (tree.get nat_cmp keys n)) k ∙ (λ i. so_far k i || added_is n k i) ∙ sym (among_more n numbers (number_at k))
+        has_more cmp found (option_to_list (key_in (tree.get nat_cmp rows n))) k ∙ (λ i. so_far k i || added_is n k i) ∙ sym (among_more n numbers (number_at cmp used k))
 
     -- a key that is added wasn't there, where the number is new
-    pub added_apart : (n : ℕ) (numbers : List ℕ) (found : List Key) → Among numbers found → has_row n numbers ≡ false → (k : Key) → has_key cmp (option_to_list (tree.get nat_cmp keys n)) k ≡ true → has_key cmp found k ≡ false
-    added_apart n numbers found so_far fresh k has = so_far k ∙ by (number_at k) (sym (added_is n k) ∙ has)
+    pub added_apart : (n : ℕ) (numbers : List ℕ) (found : List Key) → Among numbers found → has_row n numbers ≡ false → (k : Key) → has_key cmp (option_to_list (key_in (tree.get nat_cmp rows n))) k ≡ true → has_key cmp found k ≡ false
+    added_apart n numbers found so_far fresh k has = so_far k ∙ by (number_at cmp used k) (sym (added_is n k) ∙ has)
       where
         by : (o : Option ℕ) → is_number n o ≡ true → is_among numbers o ≡ false
         by None e = refl
         by (Some m) e = ap (λ m. has_row m numbers) (eqb-true m n e) ∙ fresh
 
     pub once_more : (n : ℕ) (numbers : List ℕ) (found : List Key) → Among numbers found → has_row n numbers ≡ false → IsDistinct (eq_by_cmp cmp) found
-        → IsDistinct (eq_by_cmp cmp) (found ++ option_to_list (tree.get nat_cmp keys n))
-    once_more n numbers found so_far fresh once = by (tree.get nat_cmp keys n) (added_apart n numbers found so_far fresh)
+        → IsDistinct (eq_by_cmp cmp) (found ++ option_to_list (key_in (tree.get nat_cmp rows n)))
+    once_more n numbers found so_far fresh once = by (key_in (tree.get nat_cmp rows n)) (added_apart n numbers found so_far fresh)
       where
         by : (key : Option Key) → ((k : Key) → has_key cmp (option_to_list key) k ≡ true → has_key cmp found k ≡ false) → IsDistinct (eq_by_cmp cmp) (found ++ option_to_list key)
         by None apart = subst (IsDistinct (eq_by_cmp cmp)) (sym (append-nil found)) once
@@ -156,20 +160,17 @@ module _ {Key Kept : Type 0} (cmp : Key → Key → Ordering) (total : IsTotalOr
 
     -- the keys of all numbers that are due are those whose rows read a mark of the change
     pub all_met : (changed : List Mark) (due : List ℕ) (found : List Key) → ((n : ℕ) → has_row n due ≡ list_any (λ mark. watches mark_cmp watched n mark) changed)
-        → Among due found → IsDistinct (eq_by_cmp cmp) found → AreMet cmp changed (λ k. marks_of marks_in (row_at cmp rows k)) found
+        → Among due found → IsDistinct (eq_by_cmp cmp) found → AreMet cmp changed (λ k. marks_of marks_in (row_at cmp used rows k)) found
     all_met changed due found due_is among once = record {
-      each = λ k. among k ∙ by k (row_at cmp rows k) refl;
+      each = λ k. among k ∙ by (number_at cmp used k);
       once = once;
     }
       where
-        by : (k : Key) (row : Option (KeptRow Kept)) → row_at cmp rows k ≡ row → is_among due (number_in row) ≡ meets (marks_of marks_in row) changed
-        by k None is = refl
-        by k (Some r) is =
-            let at : tree.get nat_cmp keys r.number ≡ Some k = tied.numbers k r.number (ap number_in is) in
-            due_is r.number
-            ∙ same_any (λ mark. watches mark_cmp watched r.number mark) (has_mark (marks_in r.kept))
-            (λ mark. tied.watch r.number mark ∙ ap (λ key. has_mark (marks_behind cmp marks_in rows key) mark) at ∙ ap (λ row. has_mark (marks_of marks_in row) mark) is) changed
-            ∙ meets_back (marks_in r.kept) changed
+        by : (o : Option ℕ) → is_among due o ≡ meets (marks_of marks_in (row_of rows o)) changed
+        by None = refl
+        by (Some n) =
+            due_is n ∙ same_any (λ mark. watches mark_cmp watched n mark) (has_mark (marks_of marks_in (tree.get nat_cmp rows n))) (tied.watch n) changed
+            ∙ meets_back (marks_of marks_in (tree.get nat_cmp rows n)) changed
 
 -- ---- numbers that rise
 

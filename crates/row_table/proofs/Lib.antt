@@ -3,5 +3,6 @@ mod Differing
 pub mod Followed
 pub mod Keys
 pub mod MarkLists
+pub mod Puts
 mod Tied
 mod Users

@@ -1,80 +1,156 @@
 -- Users that are counted, and rows that stand while they are.
 use Rattle.std.proofs.Common.{◌≡◌, inl, inr, ℕ, ◌+◌, ◌-◌, Bool, true, false, cond, List, Option, Some, None, Result, Ok, Err, OnOk, ltb, refl, sym, ap, subst, ◌∙◌, arith}
 use Rattle.std.specs.Prelude.{option_map}
+use Rattle.std.specs.BTreeMap as tree
 use Rattle.std.specs.BTreeMap.{BTreeMap}
+use Rattle.std.specs.BTreeSet.{BTreeSet}
 use Rattle.std.specs.Cmp.{IsTotalOrder}
-use Rattle.std.specs.FinMap.{IsAntisymmetric}
-use Rattle.std.specs.Ordering.{eq_by_cmp}
+use Rattle.std.specs.FinMap.{IsAntisymmetric, nat_cmp-IsAntisymmetric}
+use Rattle.std.specs.Ordering.{eq_by_cmp, nat_cmp}
 use Rattle.std.specs.declared.cmp.Ordering.{Ordering}
 use Rattle.std.proofs.lemmas.Bool.{ltb-false, ltb-true}
+use Rattle.std.proofs.lemmas.Cmp.{nat_cmp_total}
 use Rattle.view_types.specs.Objects.{ObjectMap}
 use Rattle.view_types.specs.declared.mark.Mark.{Mark}
-use Rattle.row_table.specs.IndexRows.{OneLess, OneMore}
-use Rattle.row_table.specs.TableRows.{AllStand, PutsAt, StandsAt, marks_of, number_in, one_less, one_more, row_at, users_in}
+use Rattle.row_table.specs.IndexRows.{Filter, KeepNumbers, KeptShows, OneLess, OneMore}
+use Rattle.row_table.specs.RowLaws.{own_row}
+use Rattle.row_table.specs.TableRows.{AllStand, AreTied, PutsAt, StandsAt, key_in, kept_in, number_at, number_in, one_less, one_more, row_at, row_of, users_in}
 use Rattle.row_table.specs.declared.table_rows.KeptRow.{KeptRow}
+use Rattle.row_table.specs.declared.table_rows.UsedKey.{UsedKey}
 use Rattle.row_table.proofs.Keys.{tells}
-use Rattle.row_table.proofs.Tied.{none_is_not_some, put_here, put_other}
+use Rattle.row_table.proofs.Puts.{none_is_not_some, put_here, put_other, puts, some_is}
 
 pub ok_then : {A E P Q : Type 0} (r : Result A E) → OnOk r P → (P → Q) → OnOk r Q
 ok_then (Ok a) p f = f p
 ok_then (Err e) p f = tt
 
-module _ {Kept : Type 0} where
-  pub number_more : (o : Option (KeptRow Kept)) → number_in (option_map one_more o) ≡ number_in o
-  number_more None = refl
-  number_more (Some r) = refl
+pub number_more : (o : Option UsedKey) → number_in (option_map one_more o) ≡ number_in o
+number_more None = refl
+number_more (Some u) = refl
 
-  pub marks_more : (marks_in : Kept → List Mark) (o : Option (KeptRow Kept)) → marks_of marks_in (option_map one_more o) ≡ marks_of marks_in o
-  marks_more marks_in None = refl
-  marks_more marks_in (Some r) = refl
+pub users_one_more : (o : Option UsedKey) (u : UsedKey) → o ≡ Some u → users_in (option_map one_more o) ≡ users_in o + 1
+users_one_more None u e = none_is_not_some None u refl e
+users_one_more (Some v) u e = refl
 
-  pub marks_less : (marks_in : Kept → List Mark) (o : Option (KeptRow Kept)) → number_in (one_less o) ≡ number_in o → marks_of marks_in (one_less o) ≡ marks_of marks_in o
-  marks_less marks_in None same = refl
-  marks_less marks_in (Some r) same = by (ltb 1 r.users) same
-    where
-      by : (b : Bool) → number_in (cond b (Some (record r { users = r.users - 1 })) None) ≡ Some r.number → marks_of marks_in (cond b (Some (record r { users = r.users - 1 })) None) ≡ marks_in r.kept
-      by true same = refl
-      by false same = none_is_not_some None r.number refl same
+pub users_one_less : (o : Option UsedKey) → users_in (one_less o) ≡ users_in o - 1
+users_one_less None = refl
+users_one_less (Some u) = by (ltb 1 u.users) refl
+  where
+    by : (b : Bool) → ltb 1 u.users ≡ b → users_in (cond b (Some (record u { users = u.users - 1 })) None) ≡ u.users - 1
+    by true e = refl
+    by false e = let le = ltb-false 1 u.users e in omega (arith, le)
 
-  pub users_one_less : (o : Option (KeptRow Kept)) → users_in (one_less o) ≡ users_in o - 1
-  users_one_less None = refl
-  users_one_less (Some r) = by (ltb 1 r.users) refl
-    where
-      by : (b : Bool) → ltb 1 r.users ≡ b → users_in (cond b (Some (record r { users = r.users - 1 })) None) ≡ r.users - 1
-      by true e = refl
-      by false e = let le = ltb-false 1 r.users e in omega (arith, le)
-
-module _ {Key Kept : Type 0} (cmp : Key → Key → Ordering) (total : IsTotalOrder cmp) (exact : IsAntisymmetric cmp) (key : Key) (row : Option (KeptRow Kept)) (old new : BTreeMap Key (KeptRow Kept)) (put : PutsAt cmp key row old new) where
-  users_now : (f : ℕ → ℕ) → users_in row ≡ f (users_in (row_at cmp old key)) → (g : Bool → ℕ → ℕ) → ((n : ℕ) → g true n ≡ f n) → ((n : ℕ) → g false n ≡ n) → (k : Key) → users_in (row_at cmp new k) ≡ g (eq_by_cmp cmp k key) (users_in (row_at cmp old k))
-  users_now f is g at_key elsewhere k = elim (tells cmp total exact k key) as (λ _. users_in (row_at cmp new k) ≡ g (eq_by_cmp cmp k key) (users_in (row_at cmp old k))) [
-    | inl same ↦ ap (λ k. users_in (row_at cmp new k)) same.1 ∙ ap users_in (put_here cmp total exact key row old new put) ∙ is
-        ∙ sym (at_key (users_in (row_at cmp old key))) ∙ (λ i. g (sym same.0 i) (users_in (row_at cmp old (sym same.1 i))))
-    | inr apart ↦ ap users_in (put_other cmp total exact key row old new put k apart.1) ∙ sym (elsewhere (users_in (row_at cmp old k))) ∙ ap (λ b. g b (users_in (row_at cmp old k))) (sym apart.0)
+module _ {Key : Type 0} (cmp : Key → Key → Ordering) (total : IsTotalOrder cmp) (exact : IsAntisymmetric cmp) (key : Key) (at : Option UsedKey) (old new : BTreeMap Key UsedKey) (put : PutsAt cmp key at (tree.get cmp old) (tree.get cmp new)) where
+  users_now : (f : ℕ → ℕ) → users_in at ≡ f (users_in (tree.get cmp old key)) → (g : Bool → ℕ → ℕ) → ((n : ℕ) → g true n ≡ f n) → ((n : ℕ) → g false n ≡ n) → (k : Key) → users_in (tree.get cmp new k) ≡ g (eq_by_cmp cmp k key) (users_in (tree.get cmp old k))
+  users_now f is g at_key elsewhere k = elim (tells cmp total exact k key) as (λ _. users_in (tree.get cmp new k) ≡ g (eq_by_cmp cmp k key) (users_in (tree.get cmp old k))) [
+    | inl same ↦ ap (λ k. users_in (tree.get cmp new k)) same.1 ∙ ap users_in (put_here cmp total exact key at (tree.get cmp old) (tree.get cmp new) put) ∙ is
+        ∙ sym (at_key (users_in (tree.get cmp old key))) ∙ (λ i. g (sym same.0 i) (users_in (tree.get cmp old (sym same.1 i))))
+    | inr apart ↦ ap users_in (put_other cmp total exact key at (tree.get cmp old) (tree.get cmp new) put k apart.1) ∙ sym (elsewhere (users_in (tree.get cmp old k))) ∙ ap (λ b. g b (users_in (tree.get cmp old k))) (sym apart.0)
   ]
 
-  pub users_more : users_in row ≡ users_in (row_at cmp old key) + 1 → OneMore cmp key (λ k. users_in (row_at cmp old k)) (λ k. users_in (row_at cmp new k))
+  pub users_more : users_in at ≡ users_in (tree.get cmp old key) + 1 → OneMore cmp key (λ k. users_in (tree.get cmp old k)) (λ k. users_in (tree.get cmp new k))
   users_more is = users_now (λ n. n + 1) is (λ b n. n + cond b 1 0) (λ n. refl) (λ n. omega arith)
 
-  pub users_less : users_in row ≡ users_in (row_at cmp old key) - 1 → OneLess cmp key (λ k. users_in (row_at cmp old k)) (λ k. users_in (row_at cmp new k))
+  pub users_less : users_in at ≡ users_in (tree.get cmp old key) - 1 → OneLess cmp key (λ k. users_in (tree.get cmp old k)) (λ k. users_in (tree.get cmp new k))
   users_less is = users_now (λ n. n - 1) is (λ b n. n - cond b 1 0) (λ n. refl) (λ n. omega arith)
 
-  -- rows stand where the row that is put does
-  pub stand_put : (keeps : ObjectMap → Key → Kept → Type 0) (held : ObjectMap) → (StandsAt cmp keeps held key (row_at cmp old key) → StandsAt cmp keeps held key row) → AllStand cmp keeps held old → AllStand cmp keeps held new
-  stand_put keeps held there all k = elim (tells cmp total exact k key) [
-    | inl same ↦ subst (λ (k : Key). StandsAt cmp keeps held k (row_at cmp new k)) (sym same.1)
-        (subst (λ (o : Option (KeptRow Kept)). StandsAt cmp keeps held key o) (sym (put_here cmp total exact key row old new put)) (there (all key)))
-    | inr apart ↦ subst (λ (o : Option (KeptRow Kept)). StandsAt cmp keeps held k o) (sym (put_other cmp total exact key row old new put k apart.1)) (all k)
+  pub numbers_kept : ((n : ℕ) → number_at cmp old key ≡ Some n → number_in at ≡ Some n) → KeepNumbers (number_at cmp old) (number_at cmp new)
+  numbers_kept same k n e = elim (tells cmp total exact k key) [
+    | inl is ↦ ap (number_at cmp new) is.1 ∙ ap number_in (put_here cmp total exact key at (tree.get cmp old) (tree.get cmp new) put) ∙ same n (ap (number_at cmp old) (sym is.1) ∙ e)
+    | inr apart ↦ ap number_in (put_other cmp total exact key at (tree.get cmp old) (tree.get cmp new) put k apart.1) ∙ e
   ]
 
-module _ {Key Kept : Type 0} (cmp : Key → Key → Ordering) (keeps : ObjectMap → Key → Kept → Type 0) (held : ObjectMap) (key : Key) where
-  pub stands_more : (o : Option (KeptRow Kept)) → StandsAt cmp keeps held key o → StandsAt cmp keeps held key (option_map one_more o)
-  stands_more None stands = tt
-  stands_more (Some r) stands = (omega arith, stands.1)
+  pub number_elsewhere : (k : Key) → eq_by_cmp cmp k key ≡ false → number_at cmp new k ≡ number_at cmp old k
+  number_elsewhere k e = ap number_in (put k ∙ ap (λ b. cond b at (tree.get cmp old k)) e)
 
-  pub stands_less : (o : Option (KeptRow Kept)) → StandsAt cmp keeps held key o → StandsAt cmp keeps held key (one_less o)
-  stands_less None stands = tt
-  stands_less (Some r) stands = by (ltb 1 r.users) refl
+-- ---- rows that stand
+
+module _ {Key Kept : Type 0} (keeps : ObjectMap → Key → Kept → Type 0) (held : ObjectMap) where
+  stands_by : (k : Key) (at before : Option UsedKey) (row row_before : Option (KeptRow Key Kept)) → at ≡ before → row ≡ row_before → StandsAt keeps held k before row_before → StandsAt keeps held k at row
+  stands_by k at before row row_before e f stands =
+      subst (λ (r : Option (KeptRow Key Kept)). StandsAt keeps held k at r) (sym f) (subst (λ (o : Option UsedKey). StandsAt keeps held k o row_before) (sym e) stands)
+
+  stands_more : (k : Key) (o : Option UsedKey) (row : Option (KeptRow Key Kept)) → StandsAt keeps held k o row → StandsAt keeps held k (option_map one_more o) row
+  stands_more k None row stands = stands
+  stands_more k (Some u) None stands = absurd stands
+  stands_more k (Some u) (Some r) stands = (omega arith, stands.1, stands.2)
+
+  stands_less : (k : Key) (o : Option UsedKey) (row : Option (KeptRow Key Kept)) → number_in (one_less o) ≡ number_in o → StandsAt keeps held k o row → StandsAt keeps held k (one_less o) row
+  stands_less k None row same stands = stands
+  stands_less k (Some u) None same stands = absurd stands
+  stands_less k (Some u) (Some r) same stands = by (ltb 1 u.users) refl same
     where
-      by : (b : Bool) → ltb 1 r.users ≡ b → StandsAt cmp keeps held key (cond b (Some (record r { users = r.users - 1 })) None)
-      by true e = let lt = ltb-true 1 r.users e in (omega (arith, lt), stands.1)
-      by false e = tt
+      by : (b : Bool) → ltb 1 u.users ≡ b → number_in (cond b (Some (record u { users = u.users - 1 })) None) ≡ Some u.number → StandsAt keeps held k (cond b (Some (record u { users = u.users - 1 })) None) (Some r)
+      by true e same = let lt = ltb-true 1 u.users e in (omega (arith, lt), stands.1, stands.2)
+      by false e same = none_is_not_some None u.number refl same
+
+  -- what is kept of a row that stands shows it
+  pub stands_shown : {Row : Type 0} (filter : Filter Key Row) (row_in : Kept → Row) (marks_in : Kept → List Mark) → KeptShows filter keeps row_in marks_in → (k : Key) (o : Option UsedKey) (row : Option (KeptRow Key Kept)) → StandsAt keeps held k o row
+      → (kept : Kept) → kept_in row ≡ Some kept → row_in kept ≡ filter.row_of held k
+  stands_shown filter row_in marks_in shows k None row stands kept e = none_is_not_some (kept_in row) kept (ap kept_in stands) e
+  stands_shown filter row_in marks_in shows k (Some u) None stands kept e = absurd stands
+  stands_shown filter row_in marks_in shows k (Some u) (Some r) stands kept e = ap row_in (sym (some_is r.kept kept e)) ∙ (shows held k r.kept stands.2).is_filter
+
+  module _ (cmp : Key → Key → Ordering) (total : IsTotalOrder cmp) (exact : IsAntisymmetric cmp) (key : Key) (used used_after : BTreeMap Key UsedKey) where
+    -- rows stand where that of the key does
+    pub stand_put : (old new : BTreeMap ℕ (KeptRow Key Kept)) (at : Option UsedKey) (row : Option (KeptRow Key Kept)) → PutsAt cmp key at (tree.get cmp used) (tree.get cmp used_after) → PutsAt cmp key row (row_at cmp used old) (row_at cmp used_after new)
+        → (StandsAt keeps held key (tree.get cmp used key) (row_at cmp used old key) → StandsAt keeps held key at row) → AllStand keeps cmp held used old → AllStand keeps cmp held used_after new
+    stand_put old new at row put put_row there all k = elim (tells cmp total exact k key) as (λ _. StandsAt keeps held k (tree.get cmp used_after k) (row_at cmp used_after new k)) [
+      | inl same ↦ subst (λ (k : Key). StandsAt keeps held k (tree.get cmp used_after k) (row_at cmp used_after new k)) (sym same.1)
+          (stands_by key (tree.get cmp used_after key) at (row_at cmp used_after new key) row (put_here cmp total exact key at (tree.get cmp used) (tree.get cmp used_after) put)
+          (put_here cmp total exact key row (row_at cmp used old) (row_at cmp used_after new) put_row) (there (all key)))
+      | inr apart ↦ stands_by k (tree.get cmp used_after k) (tree.get cmp used k) (row_at cmp used_after new k) (row_at cmp used old k) (put_other cmp total exact key at (tree.get cmp used) (tree.get cmp used_after) put k apart.1)
+          (put_other cmp total exact key row (row_at cmp used old) (row_at cmp used_after new) put_row k apart.1) (all k)
+    ]
+
+    -- users are counted, and the numbers stay
+    stand_counted : (rows : BTreeMap ℕ (KeptRow Key Kept)) (at : Option UsedKey) → PutsAt cmp key at (tree.get cmp used) (tree.get cmp used_after) → number_in at ≡ number_at cmp used key
+        → ((row : Option (KeptRow Key Kept)) → StandsAt keeps held key (tree.get cmp used key) row → StandsAt keeps held key at row) → AllStand keeps cmp held used rows → AllStand keeps cmp held used_after rows
+    stand_counted rows at put same there =
+        stand_put rows rows at (row_at cmp used rows key) put
+        (puts cmp total exact key (row_at cmp used rows key) (row_at cmp used rows) (row_at cmp used_after rows) (ap (row_of rows) (ap number_in (put_here cmp total exact key at (tree.get cmp used) (tree.get cmp used_after) put) ∙ same))
+        (λ k ne. ap (λ (o : Option UsedKey). row_of rows (number_in o)) (put_other cmp total exact key at (tree.get cmp used) (tree.get cmp used_after) put k ne)))
+        (there (row_at cmp used rows key))
+
+    pub stand_more : (rows : BTreeMap ℕ (KeptRow Key Kept)) → PutsAt cmp key (option_map one_more (tree.get cmp used key)) (tree.get cmp used) (tree.get cmp used_after) → AllStand keeps cmp held used rows → AllStand keeps cmp held used_after rows
+    stand_more rows put = stand_counted rows (option_map one_more (tree.get cmp used key)) put (number_more (tree.get cmp used key)) (stands_more key (tree.get cmp used key))
+
+    pub stand_less : (rows : BTreeMap ℕ (KeptRow Key Kept)) → PutsAt cmp key (one_less (tree.get cmp used key)) (tree.get cmp used) (tree.get cmp used_after) → number_in (one_less (tree.get cmp used key)) ≡ number_at cmp used key
+        → AllStand keeps cmp held used rows → AllStand keeps cmp held used_after rows
+    stand_less rows put same = stand_counted rows (one_less (tree.get cmp used key)) put same (λ row. stands_less key (tree.get cmp used key) row same)
+
+    pub stand_same : (rows : BTreeMap ℕ (KeptRow Key Kept)) → PutsAt cmp key (tree.get cmp used key) (tree.get cmp used) (tree.get cmp used_after) → AllStand keeps cmp held used rows → AllStand keeps cmp held used_after rows
+    stand_same rows put = stand_counted rows (tree.get cmp used key) put refl (λ row stands. stands)
+
+    -- a key goes, with the row of its number
+    pub stand_gone : (old new : BTreeMap ℕ (KeptRow Key Kept)) (n : ℕ) → number_at cmp used key ≡ Some n → PutsAt cmp key None (tree.get cmp used) (tree.get cmp used_after) → PutsAt nat_cmp n None (tree.get nat_cmp old) (tree.get nat_cmp new)
+        → AllStand keeps cmp held used old → AllStand keeps cmp held used_after new
+    stand_gone old new n number put put_row all =
+        stand_put old new None None put
+        (puts cmp total exact key None (row_at cmp used old) (row_at cmp used_after new) (ap (λ (o : Option UsedKey). row_of new (number_in o)) (put_here cmp total exact key None (tree.get cmp used) (tree.get cmp used_after) put)) other)
+        (λ stands. refl) all
+      where
+        own : (k : Key) (i : ℕ) → number_at cmp used k ≡ Some i → key_in (tree.get nat_cmp old i) ≡ Some k
+        own k = own_row keeps held k (tree.get cmp used k) old (all k)
+
+        other : (k : Key) → (k ≡ key → ⊥) → row_at cmp used_after new k ≡ row_at cmp used old k
+        other k ne = ap (λ (o : Option UsedKey). row_of new (number_in o)) (put_other cmp total exact key None (tree.get cmp used) (tree.get cmp used_after) put k ne) ∙ by (number_at cmp used k) refl
+          where
+            by : (o : Option ℕ) → number_at cmp used k ≡ o → row_of new o ≡ row_of old o
+            by None e = refl
+            by (Some i) e =
+                put_other nat_cmp nat_cmp_total nat_cmp-IsAntisymmetric n None (tree.get nat_cmp old) (tree.get nat_cmp new) put_row i
+                (λ is. ne (some_is k key (sym (own k i e) ∙ ap (λ i. key_in (tree.get nat_cmp old i)) is ∙ own key n number)))
+
+-- a key for which nothing is kept has no users
+pub no_users : {Key Kept : Type 0} (cmp : Key → Key → Ordering) (marks_in : Kept → List Mark) (used : BTreeMap Key UsedKey) (rows : BTreeMap ℕ (KeptRow Key Kept)) (watched : BTreeMap ℕ (BTreeSet Mark)) (next : ℕ) → AreTied cmp marks_in used rows watched next
+    → (key : Key) → kept_in (row_at cmp used rows key) ≡ None → users_in (tree.get cmp used key) ≡ 0
+no_users {Key} {Kept} cmp marks_in used rows watched next tied key none = by (tree.get cmp used key) (tied.rows_of key) none
+  where
+    row : (row : Option (KeptRow Key Kept)) → key_in row ≡ Some key → kept_in row ≡ None → ⊥
+    row None is none = none_is_not_some None key refl is
+    row (Some r) is none = none_is_not_some (Some r.kept) r.kept none refl
+
+    by : (o : Option UsedKey) → ((n : ℕ) → number_in o ≡ Some n → key_in (tree.get nat_cmp rows n) ≡ Some key) → kept_in (row_of rows (number_in o)) ≡ None → users_in o ≡ 0
+    by None is none = refl
+    by (Some u) is none = absurd (row (tree.get nat_cmp rows u.number) (is u.number refl) none)

@@ -1,5 +1,5 @@
 -- The rows of an index by their keys, and when they stand for the objects held.
-use Rattle.std.specs.Prelude.{◌≡◌, ◌<◌, ◌+◌, ◌-◌, if◌then◌else◌, ℕ, Bool, true, false, List, [], Option, Some, None}
+use Rattle.std.specs.Prelude.{◌≡◌, ◌<◌, ◌+◌, ◌-◌, if◌then◌else◌, ℕ, Bool, true, false, List, [], Option, Some, None, is_some, nat_lt}
 use Rattle.std.specs.List.{IsDistinct, list_any}
 use Rattle.std.specs.Ordering.{eq_by_cmp}
 use Rattle.std.specs.declared.cmp.Ordering.{Ordering}
@@ -36,6 +36,17 @@ KeptStays {Key} {Row} {Kept} filter keeps = (key : Key) (kept : Kept) (changed :
 -- What is kept of a row gives the row of its key and the marks that this reads.
 abbrev pub KeptShows : {Key Row Kept : Type 0} → Filter Key Row → (ObjectMap → Key → Kept → Type 0) → (Kept → Row) → (Kept → List Mark) → Type 0
 KeptShows {Key} {Row} {Kept} filter keeps row_in marks_in = (held : ObjectMap) (key : Key) (kept : Kept) → keeps held key kept → IsRow filter held key (row_in kept) (marks_in kept)
+
+-- ---- numbers
+
+-- a key has a number exactly where it has users, and no other key has the same
+pub record AreNumbered {Key : Type 0} (users : Key → ℕ) (number_at : Key → Option ℕ) : Type 0 where
+  pub used : (key : Key) → is_some (number_at key) ≡ nat_lt 0 (users key)
+  pub apart : (key other : Key) (n : ℕ) → number_at key ≡ Some n → number_at other ≡ Some n → key ≡ other
+
+-- each key that has a number keeps it
+abbrev pub KeepNumbers : {Key : Type 0} → (Key → Option ℕ) → (Key → Option ℕ) → Type 0
+KeepNumbers {Key} old new = (key : Key) (n : ℕ) → old key ≡ Some n → new key ≡ Some n
 
 -- ---- users
 

@@ -1,15 +1,45 @@
 -- The laws of a table and of a rule that finds its rows anew.
-use Rattle.std.proofs.Common.{◌<◌, ℕ, List, Option, Some, None, refl, sym, ap, subst, ◌∙◌}
-use Rattle.std.specs.Prelude.{option_map}
+use Rattle.std.specs.Prelude.{is_some, nat_lt}
+use Rattle.std.proofs.Common.{◌≡◌, ◌<◌, ℕ, List, Option, Some, None, refl, sym, ap, subst, ◌∙◌}
+use Rattle.std.specs.BTreeMap as tree
+use Rattle.std.specs.BTreeMap.{BTreeMap}
 use Rattle.std.specs.Cmp.{below_irrefl}
+use Rattle.std.specs.Ordering.{nat_cmp}
 use Rattle.std.specs.declared.cmp.Ordering.{Ordering}
+use Rattle.std.proofs.lemmas.Bool.{lt-ltb}
+use Rattle.std.proofs.lemmas.Option.{none-some, same_Some}
 use Rattle.view_types.specs.Objects.{ObjectMap}
 use Rattle.view_types.specs.declared.mark.Mark.{Mark}
 use Rattle.mark_rules.specs.Laws.{Stays}
 use Rattle.mark_rules.specs.Marks.{has_mark}
-use Rattle.row_table.specs.IndexRows.{Filter, IsCurrent, IsRow, KeptShows, KeptStays}
-use Rattle.row_table.specs.TableRows.{StandsAt, marks_of, users_in}
+use Rattle.row_table.specs.IndexRows.{AreNumbered, Filter, IsCurrent, IsRow, KeptShows, KeptStays}
+use Rattle.row_table.specs.TableRows.{AllStand, StandsAt, key_in, marks_of, number_at, number_in, row_at, row_of, shown_in, users_in}
 use Rattle.row_table.specs.declared.table_rows.KeptRow.{KeptRow}
+use Rattle.row_table.specs.declared.table_rows.UsedKey.{UsedKey}
+
+module _ {Key Kept : Type 0} (keeps : ObjectMap → Key → Kept → Type 0) (held : ObjectMap) (key : Key) where
+  -- a key has a number where it has users
+  numbered : (used : Option UsedKey) (row : Option (KeptRow Key Kept)) → StandsAt keeps held key used row → is_some (number_in used) ≡ nat_lt 0 (users_in used)
+  numbered None row stands = refl
+  numbered (Some u) None stands = absurd stands
+  numbered (Some u) (Some r) stands = sym (lt-ltb 0 u.users stands.0)
+
+  -- the row of its number is its own
+  pub own_row : (used : Option UsedKey) (rows : BTreeMap ℕ (KeptRow Key Kept)) → StandsAt keeps held key used (row_of rows (number_in used)) → (n : ℕ) → number_in used ≡ Some n → key_in (tree.get nat_cmp rows n) ≡ Some key
+  own_row None rows stands n e = absurd (none-some n e)
+  own_row (Some u) rows stands n e = ap (λ n. key_in (tree.get nat_cmp rows n)) (sym (same_Some u.number n e)) ∙ by (tree.get nat_cmp rows u.number) stands
+    where
+      by : (row : Option (KeptRow Key Kept)) → StandsAt keeps held key (Some u) row → key_in row ≡ Some key
+      by None stands = absurd stands
+      by (Some r) stands = ap Some stands.1
+
+-- rows that stand have numbers
+pub numbered_rows : {Key Kept : Type 0} (cmp : Key → Key → Ordering) (keeps : ObjectMap → Key → Kept → Type 0) (held : ObjectMap) (used : BTreeMap Key UsedKey) (rows : BTreeMap ℕ (KeptRow Key Kept)) → AllStand keeps cmp held used rows
+    → AreNumbered (λ key. users_in (tree.get cmp used key)) (number_at cmp used)
+numbered_rows cmp keeps held used rows stands = record {
+  used = λ key. numbered keeps held key (tree.get cmp used key) (row_at cmp used rows key) (stands key);
+  apart = λ key other n e f. same_Some key other (sym (own_row keeps held key (tree.get cmp used key) rows (stands key) n e) ∙ own_row keeps held other (tree.get cmp used other) rows (stands other) n f);
+}
 
 module _ {Key Row Kept : Type 0} (filter : Filter Key Row) (row_in : Kept → Row) (marks_in : Kept → List Mark) where
   -- a row and its marks stay where the filter and its reads do
@@ -22,11 +52,12 @@ module _ {Key Row Kept : Type 0} (filter : Filter Key Row) (row_in : Kept → Ro
       }
 
   -- what is kept of a row that stands is current
-  pub current_row : (cmp : Key → Key → Ordering) (keeps : ObjectMap → Key → Kept → Type 0) → KeptShows filter keeps row_in marks_in → (held : ObjectMap) (key : Key) (row : Option (KeptRow Kept)) → StandsAt cmp keeps held key row
-      → IsCurrent filter held key (users_in row) (option_map (λ r. row_in r.kept) row) (marks_of marks_in row)
-  current_row cmp keeps shows held key None stands = record { unused = λ e. (refl, refl); used = λ lt. absurd (below_irrefl 0 lt) }
-  current_row cmp keeps shows held key (Some r) stands =
-      let shown = shows held key r.kept stands.1 in
+  pub current_row : (keeps : ObjectMap → Key → Kept → Type 0) → KeptShows filter keeps row_in marks_in → (held : ObjectMap) (key : Key) (used : Option UsedKey) (row : Option (KeptRow Key Kept)) → StandsAt keeps held key used row
+      → IsCurrent filter held key (users_in used) (shown_in row_in row) (marks_of marks_in row)
+  current_row keeps shows held key None row stands = record { unused = λ e. (ap (shown_in row_in) stands, ap (marks_of marks_in) stands); used = λ lt. absurd (below_irrefl 0 lt) }
+  current_row keeps shows held key (Some u) None stands = absurd stands
+  current_row keeps shows held key (Some u) (Some r) stands =
+      let shown = shows held key r.kept stands.2 in
       record {
         unused = λ e. absurd (below_irrefl 0 (subst (λ (n : ℕ). 0 < n) e stands.0));
         used = λ lt. (ap Some shown.is_filter, shown.are_read);

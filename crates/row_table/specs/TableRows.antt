@@ -1,4 +1,4 @@
--- What a table keeps: its rows by their keys, the key of each number that the graph knows a row by, and the marks watched there.
+-- What a table keeps: the number and the users of each key, the row of each number, and the marks that the graph watches there.
 use Rattle.std.specs.Prelude.{◌≡◌, ◌<◌, ◌≤◌, ◌+◌, ◌-◌, if◌then◌else◌, nat_lt, ℕ, Bool, true, false, List, [], Option, Some, None, option_map}
 use Rattle.std.specs.BTreeMap as tree
 use Rattle.std.specs.BTreeMap.{BTreeMap}
@@ -14,6 +14,7 @@ use Rattle.mark_rules.specs.Marks.{has_mark, mark_cmp}
 use Rattle.row_table.specs.declared.row_rule.MarksAfter.{MarksAfter}
 use Rattle.row_table.specs.declared.row_rule.MarksAfter.TheVariants.{Same, Moved, Other}
 use Rattle.row_table.specs.declared.table_rows.KeptRow.{KeptRow}
+use Rattle.row_table.specs.declared.table_rows.UsedKey.{UsedKey}
 
 -- the number of a row, if there is one, is among these
 abbrev pub is_among : List ℕ → Option ℕ → Bool
@@ -26,98 +27,105 @@ Rewatched Same marks n old new = new ≡ old
 Rewatched (Moved moves) marks n old new = Rewatches mark_cmp (has_after mark_cmp moves (watches mark_cmp old n)) n old new
 Rewatched Other marks n old new = Rewatches mark_cmp (has_mark marks) n old new
 
-module _ {Kept : Type 0} where
-  -- no row has no users
-  abbrev pub users_in : Option (KeptRow Kept) → ℕ
-  users_in None = 0
-  users_in (Some r) = r.users
+-- no key has no users
+abbrev pub users_in : Option UsedKey → ℕ
+users_in None = 0
+users_in (Some u) = u.users
 
-  abbrev pub number_in : Option (KeptRow Kept) → Option ℕ
-  number_in row = option_map (λ r. r.number) row
+abbrev pub number_in : Option UsedKey → Option ℕ
+number_in used = option_map (λ u. u.number) used
 
-  -- with one user more
-  abbrev pub one_more : KeptRow Kept → KeptRow Kept
-  one_more r = record r { users = r.users + 1 }
+-- with one user more
+abbrev pub one_more : UsedKey → UsedKey
+one_more u = record u { users = u.users + 1 }
 
-  -- with one user less, and gone with the last
-  abbrev pub one_less : Option (KeptRow Kept) → Option (KeptRow Kept)
-  one_less None = None
-  one_less (Some r) = if nat_lt 1 r.users then Some (record r { users = r.users - 1 }) else None
+-- with one user less, and gone with the last
+abbrev pub one_less : Option UsedKey → Option UsedKey
+one_less None = None
+one_less (Some u) = if nat_lt 1 u.users then Some (record u { users = u.users - 1 }) else None
 
-  -- one user is counted less, unless it is the last of the row, which has this number
-  abbrev pub TakesOne : KeptRow Kept → Option ℕ → KeptRow Kept → Type 0
-  TakesOne old None new = (one_less (Some old) ≡ Some new) × (new.number ≡ old.number)
-  TakesOne old (Some n) new = (new ≡ old) × (n ≡ old.number) × (one_less (Some old) ≡ None)
+-- one user is counted less, unless it is the last of the key, which has this number
+abbrev pub TakesOne : UsedKey → Option ℕ → UsedKey → Type 0
+TakesOne old None new = (one_less (Some old) ≡ Some new) × (new.number ≡ old.number)
+TakesOne old (Some n) new = (new ≡ old) × (n ≡ old.number) × (one_less (Some old) ≡ None)
 
-  abbrev pub kept_in : Option (KeptRow Kept) → Option Kept
+module _ {Key Kept : Type 0} where
+  abbrev pub key_in : Option (KeptRow Key Kept) → Option Key
+  key_in row = option_map (λ r. r.key) row
+
+  abbrev pub kept_in : Option (KeptRow Key Kept) → Option Kept
   kept_in row = option_map (λ r. r.kept) row
 
   -- the row in what is kept, if it is
-  abbrev pub shown_in : {Row : Type 0} → (Kept → Row) → Option (KeptRow Kept) → Option Row
+  abbrev pub shown_in : {Row : Type 0} → (Kept → Row) → Option (KeptRow Key Kept) → Option Row
   shown_in row_in row = option_map (λ r. row_in r.kept) row
 
   -- the marks of a row that is kept, and none of one that isn't
-  abbrev pub marks_of : (Kept → List Mark) → Option (KeptRow Kept) → List Mark
+  abbrev pub marks_of : (Kept → List Mark) → Option (KeptRow Key Kept) → List Mark
   marks_of marks_in None = []
   marks_of marks_in (Some r) = marks_in r.kept
 
-module _ {Key Kept : Type 0} (cmp : Key → Key → Ordering) where
-  abbrev pub row_at : BTreeMap Key (KeptRow Kept) → Key → Option (KeptRow Kept)
-  row_at rows key = tree.get cmp rows key
+  -- the row of a number, if there is one
+  abbrev pub row_of : BTreeMap ℕ (KeptRow Key Kept) → Option ℕ → Option (KeptRow Key Kept)
+  row_of rows None = None
+  row_of rows (Some n) = tree.get nat_cmp rows n
 
-  -- ---- the parts of a table
+module _ {Key : Type 0} (cmp : Key → Key → Ordering) where
+  -- the number of a key that has users
+  abbrev pub number_at : BTreeMap Key UsedKey → Key → Option ℕ
+  number_at used key = number_in (tree.get cmp used key)
 
-  -- the marks of the row of a key, if there is one
-  abbrev pub marks_behind : (Kept → List Mark) → BTreeMap Key (KeptRow Kept) → Option Key → List Mark
-  marks_behind marks_in rows None = []
-  marks_behind marks_in rows (Some key) = marks_of marks_in (row_at rows key)
+  -- the row of the key's number
+  abbrev pub row_at : {Kept : Type 0} → BTreeMap Key UsedKey → BTreeMap ℕ (KeptRow Key Kept) → Key → Option (KeptRow Key Kept)
+  row_at used rows key = row_of rows (number_at used key)
 
-  -- Each row has a number of its own, below the next one, and at this number the graph watches the marks of the row.
-  pub record AreTied (marks_in : Kept → List Mark) (rows : BTreeMap Key (KeptRow Kept)) (keys : BTreeMap ℕ Key) (watched : BTreeMap ℕ (BTreeSet Mark)) (next : ℕ) : Type 0 where
-    pub numbers : (key : Key) (n : ℕ) → number_in (row_at rows key) ≡ Some n → tree.get nat_cmp keys n ≡ Some key
-    pub keys_of : (n : ℕ) (key : Key) → tree.get nat_cmp keys n ≡ Some key → number_in (row_at rows key) ≡ Some n
-    pub watch : (n : ℕ) (mark : Mark) → watches mark_cmp watched n mark ≡ has_mark (marks_behind marks_in rows (tree.get nat_cmp keys n)) mark
-    pub below : (n : ℕ) → next ≤ n → tree.get nat_cmp keys n ≡ None
+  -- Each key with users has a number of its own, below the next one, each row stands at the number of its key, and there the graph
+  -- watches the marks of the row.
+  pub record AreTied {Kept : Type 0} (marks_in : Kept → List Mark) (used : BTreeMap Key UsedKey) (rows : BTreeMap ℕ (KeptRow Key Kept)) (watched : BTreeMap ℕ (BTreeSet Mark)) (next : ℕ) : Type 0 where
+    pub rows_of : (key : Key) (n : ℕ) → number_at used key ≡ Some n → key_in (tree.get nat_cmp rows n) ≡ Some key
+    pub numbers : (n : ℕ) (key : Key) → key_in (tree.get nat_cmp rows n) ≡ Some key → number_at used key ≡ Some n
+    pub watch : (n : ℕ) (mark : Mark) → watches mark_cmp watched n mark ≡ has_mark (marks_of marks_in (tree.get nat_cmp rows n)) mark
+    pub below : (n : ℕ) → next ≤ n → tree.get nat_cmp rows n ≡ None
 
-  -- ---- what its calls do to the rows
+  -- ---- what its calls do
 
-  -- this is kept for the key, and for each other key what was
-  abbrev pub PutsAt : Key → Option (KeptRow Kept) → BTreeMap Key (KeptRow Kept) → BTreeMap Key (KeptRow Kept) → Type 0
-  PutsAt key row old new = (k : Key) → row_at new k ≡ (if eq_by_cmp cmp k key then row else row_at old k)
+  -- this stands at the key, and at each other key what stood there
+  abbrev pub PutsAt : {X : Type 0} → Key → X → (Key → X) → (Key → X) → Type 0
+  PutsAt key x old new = (k : Key) → new k ≡ (if eq_by_cmp cmp k key then x else old k)
 
-  -- one user of the key is counted less, unless it is the last of the row with this number
-  abbrev pub TakesUser : Key → BTreeMap Key (KeptRow Kept) → Option ℕ → BTreeMap Key (KeptRow Kept) → Type 0
-  TakesUser key old None new = PutsAt key (one_less (row_at old key)) old new × (number_in (one_less (row_at old key)) ≡ number_in (row_at old key))
-  TakesUser key old (Some n) new = PutsAt key (row_at old key) old new × (number_in (row_at old key) ≡ Some n) × (one_less (row_at old key) ≡ None)
+  -- one user of the key is counted less, unless it is the last of the key with this number
+  abbrev pub TakesUser : Key → BTreeMap Key UsedKey → Option ℕ → BTreeMap Key UsedKey → Type 0
+  TakesUser key old None new = PutsAt key (one_less (tree.get cmp old key)) (tree.get cmp old) (tree.get cmp new) × (number_in (one_less (tree.get cmp old key)) ≡ number_at old key)
+  TakesUser key old (Some n) new = PutsAt key (tree.get cmp old key) (tree.get cmp old) (tree.get cmp new) × (number_at old key ≡ Some n) × (one_less (tree.get cmp old key) ≡ None)
 
-  module _ (keeps : ObjectMap → Key → Kept → Type 0) where
-    -- a row that is kept has a user, and stands for the objects held
-    abbrev pub StandsAt : ObjectMap → Key → Option (KeptRow Kept) → Type 0
-    StandsAt held key None = Unit {0}
-    StandsAt held key (Some r) = (0 < r.users) × keeps held key r.kept
+module _ {Key Kept : Type 0} (keeps : ObjectMap → Key → Kept → Type 0) where
+  -- a key with users has a row of its own, which stands for the objects held
+  abbrev pub StandsAt : ObjectMap → Key → Option UsedKey → Option (KeptRow Key Kept) → Type 0
+  StandsAt held key None row = row ≡ None
+  StandsAt held key (Some u) None = ⊥
+  StandsAt held key (Some u) (Some r) = (0 < u.users) × (r.key ≡ key) × keeps held key r.kept
 
-    abbrev pub AllStand : ObjectMap → BTreeMap Key (KeptRow Kept) → Type 0
-    AllStand held rows = (key : Key) → StandsAt held key (row_at rows key)
+  abbrev pub AllStand : (Key → Key → Ordering) → ObjectMap → BTreeMap Key UsedKey → BTreeMap ℕ (KeptRow Key Kept) → Type 0
+  AllStand cmp held used rows = (key : Key) → StandsAt held key (tree.get cmp used key) (row_at cmp used rows key)
 
-    module _ (tells : Kept → Kept → Type 0) (changed : List Mark) (after : ObjectMap) where
-      -- what was kept for the key is brought up to the change
-      abbrev pub KeptFollows : Key → Kept → Kept → Type 0
-      KeptFollows key old new = (held : ObjectMap) → keeps held key old → Leads changed held after → keeps after key new × tells old new
+  module _ (tells : Kept → Kept → Type 0) (changed : List Mark) (after : ObjectMap) where
+    -- what was kept for the key is brought up to the change
+    abbrev pub KeptFollows : Key → Kept → Kept → Type 0
+    KeptFollows key old new = (held : ObjectMap) → keeps held key old → Leads changed held after → keeps after key new × tells old new
 
-      -- the row is the same with the kept brought up to the change
-      pub record RowFollows (key : Key) (old new : KeptRow Kept) : Type 0 where
-        pub number : new.number ≡ old.number
-        pub users : new.users ≡ old.users
-        pub kept : KeptFollows key old.kept new.kept
+    -- the row is of the same key, with the kept brought up to the change
+    pub record RowFollows (key : Key) (old new : KeptRow Key Kept) : Type 0 where
+      pub same_key : new.key ≡ old.key
+      pub kept : KeptFollows key old.kept new.kept
 
-      -- the row of the key, if there is one, follows the change, or it stays
-      abbrev pub RowAfter : Bool → Key → Option (KeptRow Kept) → Option (KeptRow Kept) → Type 0
-      RowAfter false key old new = new ≡ old
-      RowAfter true key None None = Unit {0}
-      RowAfter true key None (Some new) = ⊥
-      RowAfter true key (Some old) None = ⊥
-      RowAfter true key (Some old) (Some new) = RowFollows key old new
+    -- the row of the key, if there is one, follows the change, or it stays
+    abbrev pub RowAfter : Bool → Key → Option (KeptRow Key Kept) → Option (KeptRow Key Kept) → Type 0
+    RowAfter false key old new = new ≡ old
+    RowAfter true key None None = Unit {0}
+    RowAfter true key None (Some new) = ⊥
+    RowAfter true key (Some old) None = ⊥
+    RowAfter true key (Some old) (Some new) = RowFollows key old new
 
-      -- the rows of these keys follow the change, and all others stay
-      abbrev pub Follow : (Key → Bool) → BTreeMap Key (KeptRow Kept) → BTreeMap Key (KeptRow Kept) → Type 0
-      Follow some old new = (key : Key) → RowAfter (some key) key (row_at old key) (row_at new key)
+    -- the rows of these keys follow the change, and all others stay
+    abbrev pub Follow : (Key → Bool) → (Key → Option (KeptRow Key Kept)) → (Key → Option (KeptRow Key Kept)) → Type 0
+    Follow some old new = (key : Key) → RowAfter (some key) key (old key) (new key)

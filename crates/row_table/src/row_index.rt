@@ -1,13 +1,15 @@
 // Rows by keys: what every index promises.
-ghost use Rattle.std.specs.Prelude.{◌≡◌, ◌≤◌, ◌+◌, if◌then◌else◌, nat_lt, ℕ, Bool, true, false, List, Option, IsErr, IfOk, OnOk};
+ghost use Rattle.std.specs.Prelude.{◌≡◌, ◌≤◌, ◌+◌, if◌then◌else◌, nat_lt, ℕ, Bool, true, false, List, Option, Some, IsErr, IfOk, OnOk};
 ghost use Rattle.std.specs.FinMap.{IsAntisymmetric};
 ghost use Rattle.std.specs.List.{sum_by};
 ghost use Rattle.std.specs.Option.{option_copied};
+ghost use Rattle.std.specs.Ordering.{eq_by_cmp};
 ghost use Rattle.view_types.specs.Objects.{ObjectMap};
 ghost use Rattle.view_types.specs.declared.mark.Mark.{Mark};
+ghost use Rattle.mark_graph.specs.RowMarks.{has_row};
 ghost use Rattle.mark_rules.specs.Changes.{Leads};
 ghost use Rattle.mark_rules.specs.Reads.{cost};
-ghost use Rattle.row_table.specs.IndexRows.{AreMet, DifferAmong, Filter, IsCurrent, OneLess, OneMore};
+ghost use Rattle.row_table.specs.IndexRows.{AreMet, AreNumbered, DifferAmong, Filter, IsCurrent, KeepNumbers, OneLess, OneMore, has_key};
 ghost use Rattle.row_table.specs.PeekedRow.{peeked_row};
 
 use crate::peeked::Peeked;
@@ -37,8 +39,14 @@ pub trait RowIndex {
     /// The marks that are kept for it.
     ghost marks_at: { Self → Self.Key → List Mark };
 
+    /// The number that the row of a key with users is known by.
+    ghost number_at: { Self → Self.Key → Option ℕ };
+
     /// The keys whose rows may be others than before the last change.
     ghost differing: { Self → List Self.Key };
+
+    /// The numbers of the rows that read a mark of the last change, ascending.
+    ghost met: { Self → List ℕ };
 
     ghost is_spent: { Self → Bool };
 
@@ -56,6 +64,8 @@ pub trait RowIndex {
             (OneMore Self.Key.Ord.cmp key (users self.old) (users self.new)) }
         ensures stands { OnOk result
             (stands self.old store.now.objects → stands self.new store.now.objects) }
+        ensures numbers { OnOk result (stands self.old store.now.objects
+            → KeepNumbers (number_at self.old) (number_at self.new)) }
         ensures steps { steps.new ≤ steps.old + (if nat_lt 0 (users self.old key) then 0
             else cost store.now.objects ((filter self.old).reads store.now.objects key)) }
         ensures filter { filter self.new ≡ filter self.old }
@@ -67,6 +77,9 @@ pub trait RowIndex {
     fn leave(&mut self, key: &Self::Key)
         ensures users { OneLess Self.Key.Ord.cmp key.now (users self.old) (users self.new) }
         ensures stands { (held : ObjectMap) → stands self.old held → stands self.new held }
+        ensures numbers { (held : ObjectMap) → stands self.old held → (k : Self.Key)
+            → eq_by_cmp Self.Key.Ord.cmp k key.now ≡ false
+            → number_at self.new k ≡ number_at self.old k }
         ensures filter { filter self.new ≡ filter self.old }
         ensures spent { is_spent self.new ≡ is_spent self.old };
 
@@ -83,6 +96,11 @@ pub trait RowIndex {
         ensures users { OnOk result ((key : Self.Key) → users self.new key ≡ users self.old key) }
         ensures stands { OnOk result ((held : ObjectMap) → stands self.old held
             → Leads change.now.marks held store.now.objects → stands self.new store.now.objects) }
+        ensures numbers { OnOk result ((held : ObjectMap) → stands self.old held → (k : Self.Key)
+            → number_at self.new k ≡ number_at self.old k) }
+        ensures met { IfOk result (λ keys. (held : ObjectMap) → stands self.old held
+            → (k : Self.Key) (n : ℕ) → number_at self.old k ≡ Some n
+            → has_row n (met self.new) ≡ has_key Self.Key.Ord.cmp keys k) }
         ensures steps { IfOk result (λ keys. steps.new ≤ steps.old + sum_by (λ key.
             cost store.now.objects ((filter self.old).reads store.now.objects key)) keys) }
         ensures filter { filter self.new ≡ filter self.old }
@@ -93,6 +111,14 @@ pub trait RowIndex {
     /// The keys whose rows may be others than before the last change. All others that have users have the rows that they had.
     fn differing(&self) -> &[Self::Key]
         ensures { result.now ≡ differing self.now };
+
+    /// The number of the row of a key that has users.
+    fn number(&self, key: &Self::Key) -> Option<u64>
+        ensures { result ≡ number_at self.now key.now };
+
+    /// The numbers of the rows that read a mark of the last change, ascending.
+    fn met(&self) -> &[u64]
+        ensures { result.now ≡ met self.now };
 
     /// The row of a key that has users.
     fn row(&self, key: &Self::Key) -> Option<&Self::Row>
@@ -119,6 +145,10 @@ pub trait RowIndex {
     ghost current: { (index : Self) (held : ObjectMap) → stands index held → (key : Self.Key)
         → IsCurrent (filter index) held key (users index key) (row_at index key)
         (marks_at index key) };
+
+    /// A key has a number exactly while it has users, and no two keys have the same one.
+    ghost numbered: { (index : Self) (held : ObjectMap) → stands index held
+        → AreNumbered (users index) (number_at index) };
 
     /// Equal keys are the same key.
     ghost exact: { IsAntisymmetric Self.Key.Ord.cmp };

@@ -1,12 +1,14 @@
 // One table for all indexes.
-ghost use Rattle.std.specs.Prelude.{◌≡◌, ◌≤◌, ◌+◌, false, true, None, IsErr, IfOk, OnOk};
+ghost use Rattle.std.specs.Prelude.{◌≡◌, ◌≤◌, ◌+◌, ℕ, false, true, None, Some, IsErr, IfOk, OnOk};
+ghost use Rattle.std.specs.BTreeMap as tree;
 ghost use Rattle.std.specs.List.{sum_by};
 ghost use Rattle.std.specs.Option.{option_copied};
+ghost use Rattle.mark_graph.specs.RowMarks.{has_row};
 ghost use Rattle.mark_rules.specs.Reads.{cost};
 ghost use Rattle.view_types.specs.Objects.{ObjectMap};
 ghost use Rattle.row_table.specs.IndexRows.{AreMet, DifferAmong, has_key};
-ghost use Rattle.row_table.specs.TableRows.{AllStand, AreTied, Follow, kept_in, marks_of, row_at, shown_in, users_in};
-ghost use Rattle.row_table.specs.RowLaws.{current_row};
+ghost use Rattle.row_table.specs.TableRows.{AllStand, AreTied, Follow, kept_in, marks_of, number_at, row_at, shown_in, users_in};
+ghost use Rattle.row_table.specs.RowLaws.{current_row, numbered_rows};
 
 use crate::peeked::Peeked;
 use crate::row_index::RowIndex;
@@ -27,7 +29,7 @@ pub struct RowTable<F: RowRule> {
     table: TableRows<F>,
     spent: bool,
     alloc: Global,
-    ghost tied: { spent ≡ false → AreTied F.Key.Ord.cmp F.marks_in table.rows table.keys
+    ghost tied: { spent ≡ false → AreTied F.Key.Ord.cmp F.marks_in table.used table.rows
         table.graph.rows table.next },
 }
 
@@ -35,9 +37,9 @@ impl<F: RowRule> RowTable<F> {
     /// A table without users. It stands for all objects.
     pub fn new(alloc: Global, rule: F) -> RowTable<F>
         ensures rule { result.rule ≡ rule }
-        ensures none { (key : F.Key) → row_at F.Key.Ord.cmp result.table.rows key ≡ None }
-        ensures stands { (held : ObjectMap)
-            → AllStand F.Key.Ord.cmp (F.keeps rule) held result.table.rows }
+        ensures none { (key : F.Key) → tree.get F.Key.Ord.cmp result.table.used key ≡ None }
+        ensures stands { (held : ObjectMap) → AllStand (F.keeps rule) F.Key.Ord.cmp held
+            result.table.used result.table.rows }
         ensures going { result.spent ≡ false }
     {
         RowTable {
@@ -51,9 +53,10 @@ impl<F: RowRule> RowTable<F> {
     /// What is kept of the row of a key that has users.
     pub fn kept(&self, key: &F::Key) -> Option<&F::Kept>
         ensures { option_copied result
-            ≡ kept_in (row_at F.Key.Ord.cmp self.now.table.rows key.now) }
+            ≡ kept_in (row_at F.Key.Ord.cmp self.now.table.used self.now.table.rows key.now) }
     {
-        match self.table.rows.get(key) {
+        let used = self.table.used.get(key)?;
+        match self.table.rows.get(&used.number) {
             Some(row) => Some(&row.kept),
             None => None,
         }
@@ -68,14 +71,21 @@ impl<F: RowRule> RowTable<F> {
         steps: &mut Steps<L>,
     ) -> Result<List<F::Key>, Memory>
         ensures keys { IfOk result (AreMet F.Key.Ord.cmp change.now.marks
-            (λ key. marks_of F.marks_in (row_at F.Key.Ord.cmp self.old.table.rows key))) }
-        ensures rows { IfOk result (λ keys. Follow F.Key.Ord.cmp (F.keeps self.old.rule) F.tells
-            change.now.marks store.now.objects (has_key F.Key.Ord.cmp keys) self.old.table.rows
-            self.new.table.rows) }
+            (λ key. marks_of F.marks_in
+            (row_at F.Key.Ord.cmp self.old.table.used self.old.table.rows key))) }
+        ensures rows { IfOk result (λ keys. Follow (F.keeps self.old.rule) F.tells
+            change.now.marks store.now.objects (has_key F.Key.Ord.cmp keys)
+            (row_at F.Key.Ord.cmp self.old.table.used self.old.table.rows)
+            (row_at F.Key.Ord.cmp self.new.table.used self.new.table.rows)) }
+        ensures used { self.new.table.used ≡ self.old.table.used }
         ensures differ { IfOk result (λ keys. DifferAmong F.Key.Ord.cmp keys
-            self.new.table.differing
-            (λ key. shown_in F.row_in (row_at F.Key.Ord.cmp self.old.table.rows key))
-            (λ key. shown_in F.row_in (row_at F.Key.Ord.cmp self.new.table.rows key))) }
+            self.new.table.differing (λ key. shown_in F.row_in
+            (row_at F.Key.Ord.cmp self.old.table.used self.old.table.rows key))
+            (λ key. shown_in F.row_in
+            (row_at F.Key.Ord.cmp self.new.table.used self.new.table.rows key))) }
+        ensures met { IfOk result (λ keys. (k : F.Key) (n : ℕ)
+            → number_at F.Key.Ord.cmp self.old.table.used k ≡ Some n
+            → has_row n self.new.table.met ≡ has_key F.Key.Ord.cmp keys k) }
         ensures steps { IfOk result (λ keys. steps.new ≤ steps.old + sum_by (λ key.
             cost store.now.objects ((F.filter self.old.rule).reads store.now.objects key)) keys) }
         ensures rule { self.new.rule ≡ self.old.rule }
@@ -111,17 +121,24 @@ impl<F: RowRule> RowIndex for RowTable<F> {
 
     ghost filter = { λ s. F.filter s.rule };
 
-    ghost users = { λ s key. users_in (row_at F.Key.Ord.cmp s.table.rows key) };
+    ghost users = { λ s key. users_in (tree.get F.Key.Ord.cmp s.table.used key) };
 
-    ghost row_at = { λ s key. shown_in F.row_in (row_at F.Key.Ord.cmp s.table.rows key) };
+    ghost row_at = { λ s key. shown_in F.row_in
+        (row_at F.Key.Ord.cmp s.table.used s.table.rows key) };
 
-    ghost marks_at = { λ s key. marks_of F.marks_in (row_at F.Key.Ord.cmp s.table.rows key) };
+    ghost marks_at = { λ s key. marks_of F.marks_in
+        (row_at F.Key.Ord.cmp s.table.used s.table.rows key) };
+
+    ghost number_at = { λ s. number_at F.Key.Ord.cmp s.table.used };
 
     ghost differing = { λ s. s.table.differing };
 
+    ghost met = { λ s. s.table.met };
+
     ghost is_spent = { λ s. s.spent };
 
-    ghost stands = { λ s held. AllStand F.Key.Ord.cmp (F.keeps s.rule) held s.table.rows };
+    ghost stands = { λ s held. AllStand (F.keeps s.rule) F.Key.Ord.cmp held s.table.used
+        s.table.rows };
 
     fn enter<L>(&mut self, store: &Store, key: F::Key, steps: &mut Steps<L>) -> Result<(), Memory> {
         if self.spent {
@@ -151,6 +168,17 @@ impl<F: RowRule> RowIndex for RowTable<F> {
 
     fn differing(&self) -> &[F::Key] {
         self.table.differing.as_slice()
+    }
+
+    fn number(&self, key: &F::Key) -> Option<u64> {
+        match self.table.used.get(key) {
+            Some(used) => Some(used.number),
+            None => None,
+        }
+    }
+
+    fn met(&self) -> &[u64] {
+        self.table.met.as_slice()
     }
 
     fn row(&self, key: &F::Key) -> Option<&F::Row> {
@@ -183,8 +211,11 @@ impl<F: RowRule> RowIndex for RowTable<F> {
     }
 
     ghost current = { λ s held stands key. current_row (F.filter s.rule) F.row_in F.marks_in
-        F.Key.Ord.cmp (F.keeps s.rule) (F.shows s.rule) held key
-        (row_at F.Key.Ord.cmp s.table.rows key) (stands key) };
+        (F.keeps s.rule) (F.shows s.rule) held key (tree.get F.Key.Ord.cmp s.table.used key)
+        (row_at F.Key.Ord.cmp s.table.used s.table.rows key) (stands key) };
+
+    ghost numbered = { λ s held stands. numbered_rows F.Key.Ord.cmp (F.keeps s.rule) held
+        s.table.used s.table.rows stands };
 
     ghost exact = { F.exact };
 }

@@ -1,12 +1,14 @@
 // The rows of a table, each with a number by which the graph knows it.
-ghost use Rattle.std.specs.Prelude.{◌≡◌, ◌<◌, ◌≤◌, ◌+◌, ◌-◌, ◌++◌, ◌∷◌, ◌&&◌, Option, [], false, Some, None, IfOk, OnOk, if◌then◌else◌, is_some, nat_lt, option_map};
+ghost use Rattle.std.specs.Prelude.{◌≡◌, ◌≤◌, ◌+◌, ◌++◌, ◌∷◌, ℕ, Option, [], false, Some, None, IfOk, OnOk, if◌then◌else◌, is_some, nat_lt, option_map};
 ghost use Rattle.std.specs.BTreeMap as tree;
 ghost use Rattle.std.specs.List.{sum_by};
 ghost use Rattle.std.specs.Option.{option_to_list};
-ghost use Rattle.std.specs.Ordering.{eq_by_cmp, nat_cmp};
+ghost use Rattle.std.specs.Ordering.{nat_cmp};
+ghost use Rattle.view_types.specs.Objects.{ObjectMap};
+ghost use Rattle.mark_graph.specs.RowMarks.{has_row};
 ghost use Rattle.mark_rules.specs.Reads.{cost};
-ghost use Rattle.row_table.specs.IndexRows.{AreMet, DifferAmong, OneMore, has_key};
-ghost use Rattle.row_table.specs.TableRows.{AllStand, AreTied, Follow, PutsAt, Rewatched, TakesOne, TakesUser, marks_of, number_in, one_less, one_more, row_at, shown_in, users_in};
+ghost use Rattle.row_table.specs.IndexRows.{AreMet, DifferAmong, KeepNumbers, OneMore, has_key};
+ghost use Rattle.row_table.specs.TableRows.{AllStand, AreTied, Follow, PutsAt, Rewatched, TakesOne, TakesUser, key_in, marks_of, number_at, one_less, one_more, row_at, shown_in, users_in};
 
 use crate::row_rule::{Followed, MarksAfter, RowRule, StoreChange};
 use crate::watching::{due, move_marks, new_graph, unwatch, watch};
@@ -20,23 +22,32 @@ use std::alloc::Global;
 use std::collections::BTreeMap;
 use view_types::mark::Mark;
 
-/// A row that is kept while its key has users.
+/// A key that has users.
 #[derive(Drop)]
-pub struct KeptRow<K> {
-    /// The graph knows the row by this.
+pub struct UsedKey {
+    /// The graph knows the row of the key by this.
     pub number: u64,
     pub users: u64,
-    pub kept: K,
 }
 
-/// Rows by their keys, the key of each number, and the marks that each number watches.
+/// A row that is kept while its key has users.
+#[derive(Drop)]
+pub struct KeptRow<K, T> {
+    pub key: K,
+    pub kept: T,
+}
+
+/// The keys that have users, the row of each by its number, and the marks that each number watches. A change finds its rows by
+/// their numbers, without a search for a key.
 #[derive(Drop)]
 pub struct TableRows<F: RowRule> {
-    pub rows: BTreeMap<F::Key, KeptRow<F::Kept>>,
-    pub keys: BTreeMap<u64, F::Key>,
+    pub used: BTreeMap<F::Key, UsedKey>,
+    pub rows: BTreeMap<u64, KeptRow<F::Key, F::Kept>>,
     pub graph: Graph<Mark>,
     /// The keys whose rows may be others than before the last change.
     pub differing: List<F::Key>,
+    /// The numbers of the rows that read a mark of the last change, ascending.
+    pub met: List<u64>,
     /// The number of the next row.
     pub next: u64,
     pub alloc: Global,
@@ -58,15 +69,16 @@ pub struct Pass<F: RowRule> {
 
 impl<F: RowRule> TableRows<F> {
     pub fn new(alloc: Global) -> TableRows<F>
-        ensures none { (key : F.Key) → row_at F.Key.Ord.cmp result.rows key ≡ None }
-        ensures tied { AreTied F.Key.Ord.cmp F.marks_in result.rows result.keys result.graph.rows
+        ensures none { (key : F.Key) → tree.get F.Key.Ord.cmp result.used key ≡ None }
+        ensures tied { AreTied F.Key.Ord.cmp F.marks_in result.used result.rows result.graph.rows
             result.next }
     {
         TableRows {
+            used: BTreeMap::new(alloc),
             rows: BTreeMap::new(alloc),
-            keys: BTreeMap::new(alloc),
             graph: new_graph(alloc),
             differing: List::new(alloc),
+            met: List::new(alloc),
             next: 0,
             alloc,
         }
@@ -81,18 +93,20 @@ impl<F: RowRule> TableRows<F> {
         steps: &mut Steps<L>,
     ) -> Result<(), Memory>
         requires going { store.now.spent ≡ false }
-        requires tied { AreTied F.Key.Ord.cmp F.marks_in self.old.rows self.old.keys
+        requires tied { AreTied F.Key.Ord.cmp F.marks_in self.old.used self.old.rows
             self.old.graph.rows self.old.next }
         ensures users { OnOk result (OneMore F.Key.Ord.cmp key
-            (λ k. users_in (row_at F.Key.Ord.cmp self.old.rows k))
-            (λ k. users_in (row_at F.Key.Ord.cmp self.new.rows k))) }
-        ensures stands { OnOk result (AllStand F.Key.Ord.cmp (F.keeps rule.now) store.now.objects
-            self.old.rows → AllStand F.Key.Ord.cmp (F.keeps rule.now) store.now.objects
-            self.new.rows) }
-        ensures tied { OnOk result (AreTied F.Key.Ord.cmp F.marks_in self.new.rows self.new.keys
+            (λ k. users_in (tree.get F.Key.Ord.cmp self.old.used k))
+            (λ k. users_in (tree.get F.Key.Ord.cmp self.new.used k))) }
+        ensures stands { OnOk result (AllStand (F.keeps rule.now) F.Key.Ord.cmp store.now.objects
+            self.old.used self.old.rows → AllStand (F.keeps rule.now) F.Key.Ord.cmp
+            store.now.objects self.new.used self.new.rows) }
+        ensures numbers { OnOk result (KeepNumbers (number_at F.Key.Ord.cmp self.old.used)
+            (number_at F.Key.Ord.cmp self.new.used)) }
+        ensures tied { OnOk result (AreTied F.Key.Ord.cmp F.marks_in self.new.used self.new.rows
             self.new.graph.rows self.new.next) }
         ensures steps { steps.new ≤ steps.old
-            + (if nat_lt 0 (users_in (row_at F.Key.Ord.cmp self.old.rows key)) then 0
+            + (if nat_lt 0 (users_in (tree.get F.Key.Ord.cmp self.old.used key)) then 0
             else cost store.now.objects ((F.filter rule.now).reads store.now.objects key)) }
     {
         if self.add_user(&key)? {
@@ -102,72 +116,76 @@ impl<F: RowRule> TableRows<F> {
         self.add_row(key, kept)
     }
 
-    // Counts one user more of the key, if it has a row. Answers whether it has one.
+    // Counts one user more of the key, if it has users. Answers whether it has.
     fn add_user(&mut self, key: &F::Key) -> Result<bool, Memory>
         ensures there { IfOk result (λ there.
-            there ≡ is_some (row_at F.Key.Ord.cmp self.old.rows key.now)) }
+            there ≡ is_some (tree.get F.Key.Ord.cmp self.old.used key.now)) }
         ensures put { OnOk result (PutsAt F.Key.Ord.cmp key.now
-            (option_map one_more (row_at F.Key.Ord.cmp self.old.rows key.now)) self.old.rows
-            self.new.rows) }
-        ensures tied { AreTied F.Key.Ord.cmp F.marks_in self.old.rows self.old.keys
+            (option_map one_more (tree.get F.Key.Ord.cmp self.old.used key.now))
+            (tree.get F.Key.Ord.cmp self.old.used) (tree.get F.Key.Ord.cmp self.new.used)) }
+        ensures same { self.new.rows ≡ self.old.rows }
+        ensures tied { AreTied F.Key.Ord.cmp F.marks_in self.old.used self.old.rows
             self.old.graph.rows self.old.next → OnOk result (AreTied F.Key.Ord.cmp F.marks_in
-            self.new.rows self.new.keys self.new.graph.rows self.new.next) }
+            self.new.used self.new.rows self.new.graph.rows self.new.next) }
     {
-        add_user_at(&mut self.rows, key)
+        add_user_at(&mut self.used, key)
     }
 
     // Keeps a row for a key that has none.
     fn add_row(&mut self, key: F::Key, kept: F::Kept) -> Result<(), Memory>
-        requires none { row_at F.Key.Ord.cmp self.old.rows key ≡ None }
-        requires tied { AreTied F.Key.Ord.cmp F.marks_in self.old.rows self.old.keys
+        requires none { tree.get F.Key.Ord.cmp self.old.used key ≡ None }
+        requires tied { AreTied F.Key.Ord.cmp F.marks_in self.old.used self.old.rows
             self.old.graph.rows self.old.next }
-        ensures put { OnOk result (PutsAt F.Key.Ord.cmp key (Some (record {
-          number = self.old.next;
-          users = 1;
-          kept = kept;
-        })) self.old.rows self.new.rows) }
-        ensures tied { OnOk result (AreTied F.Key.Ord.cmp F.marks_in self.new.rows self.new.keys
+        ensures put { OnOk result (PutsAt F.Key.Ord.cmp key
+            (Some (record { number = self.old.next; users = 1 }))
+            (tree.get F.Key.Ord.cmp self.old.used) (tree.get F.Key.Ord.cmp self.new.used)) }
+        ensures row { OnOk result (PutsAt F.Key.Ord.cmp key
+            (Some (record { key = key; kept = kept }))
+            (row_at F.Key.Ord.cmp self.old.used self.old.rows)
+            (row_at F.Key.Ord.cmp self.new.used self.new.rows)) }
+        ensures tied { OnOk result (AreTied F.Key.Ord.cmp F.marks_in self.new.used self.new.rows
             self.new.graph.rows self.new.next) }
     {
         let number = self.next;
         self.next = number_after(number)?;
         let marks = F::marks(self.alloc, &kept)?;
         watch(&mut self.graph, number, marks)?;
-        self.keys.insert(number, key.copy(self.alloc)?)?;
-        self.rows.insert(
-            key,
-            KeptRow {
-                number,
-                users: 1,
-                kept,
-            },
-        )?;
+        let own = key.copy(self.alloc)?;
+        self.rows.insert(number, KeptRow { key: own, kept })?;
+        self.used.insert(key, UsedKey { number, users: 1 })?;
         Ok(())
     }
 
-    /// Counts one user less of the key, if it has a row, which goes with the last user.
+    /// Counts one user less of the key, if it has users. Its row goes with the last.
     pub fn drop_user(&mut self, key: &F::Key)
         ensures put { PutsAt F.Key.Ord.cmp key.now
-            (one_less (row_at F.Key.Ord.cmp self.old.rows key.now)) self.old.rows self.new.rows }
-        ensures tied { AreTied F.Key.Ord.cmp F.marks_in self.old.rows self.old.keys
-            self.old.graph.rows self.old.next → AreTied F.Key.Ord.cmp F.marks_in self.new.rows
-            self.new.keys self.new.graph.rows self.new.next }
+            (one_less (tree.get F.Key.Ord.cmp self.old.used key.now))
+            (tree.get F.Key.Ord.cmp self.old.used) (tree.get F.Key.Ord.cmp self.new.used) }
+        ensures stands { (rule : F) (held : ObjectMap) → AllStand (F.keeps rule) F.Key.Ord.cmp held
+            self.old.used self.old.rows → AllStand (F.keeps rule) F.Key.Ord.cmp held self.new.used
+            self.new.rows }
+        ensures tied { AreTied F.Key.Ord.cmp F.marks_in self.old.used self.old.rows
+            self.old.graph.rows self.old.next → AreTied F.Key.Ord.cmp F.marks_in self.new.used
+            self.new.rows self.new.graph.rows self.new.next }
     {
-        if let Some(number) = take_user(&mut self.rows, key) {
+        if let Some(number) = take_user(&mut self.used, key) {
             self.remove_row(key, number);
         }
     }
 
-    // Lets the row of a key go, which has this number.
+    // Lets a key go, and its row, which has this number.
     fn remove_row(&mut self, key: &F::Key, number: u64)
-        requires { number_in (row_at F.Key.Ord.cmp self.old.rows key.now) ≡ Some number }
-        ensures put { PutsAt F.Key.Ord.cmp key.now None self.old.rows self.new.rows }
-        ensures tied { AreTied F.Key.Ord.cmp F.marks_in self.old.rows self.old.keys
-            self.old.graph.rows self.old.next → AreTied F.Key.Ord.cmp F.marks_in self.new.rows
-            self.new.keys self.new.graph.rows self.new.next }
+        requires { number_at F.Key.Ord.cmp self.old.used key.now ≡ Some number }
+        ensures put { PutsAt F.Key.Ord.cmp key.now None (tree.get F.Key.Ord.cmp self.old.used)
+            (tree.get F.Key.Ord.cmp self.new.used) }
+        ensures rows { PutsAt nat_cmp number None (tree.get nat_cmp self.old.rows)
+            (tree.get nat_cmp self.new.rows) }
+        ensures tied { AreTied F.Key.Ord.cmp F.marks_in self.old.used self.old.rows
+            self.old.graph.rows self.old.next → AreTied F.Key.Ord.cmp F.marks_in self.new.used
+            self.new.rows self.new.graph.rows self.new.next }
     {
-        self.rows.remove(key);
-        self.keys.remove(&number);
+        self.used.remove(key);
+        self.rows.remove(&number);
         unwatch(&mut self.graph, number);
     }
 
@@ -178,17 +196,22 @@ impl<F: RowRule> TableRows<F> {
         steps: &mut Steps<L>,
     ) -> Result<List<F::Key>, Memory>
         requires going { by.now.after.store.now.spent ≡ false }
-        requires tied { AreTied F.Key.Ord.cmp F.marks_in self.old.rows self.old.keys
+        requires tied { AreTied F.Key.Ord.cmp F.marks_in self.old.used self.old.rows
             self.old.graph.rows self.old.next }
         ensures keys { IfOk result (AreMet F.Key.Ord.cmp by.now.after.change.now.marks
-            (λ key. marks_of F.marks_in (row_at F.Key.Ord.cmp self.old.rows key))) }
-        ensures rows { IfOk result (λ keys. Follow F.Key.Ord.cmp (F.keeps by.now.rule.now) F.tells
+            (λ key. marks_of F.marks_in (row_at F.Key.Ord.cmp self.old.used self.old.rows key))) }
+        ensures rows { IfOk result (λ keys. Follow (F.keeps by.now.rule.now) F.tells
             by.now.after.change.now.marks by.now.after.store.now.objects
-            (has_key F.Key.Ord.cmp keys) self.old.rows self.new.rows) }
+            (has_key F.Key.Ord.cmp keys) (row_at F.Key.Ord.cmp self.old.used self.old.rows)
+            (row_at F.Key.Ord.cmp self.new.used self.new.rows)) }
+        ensures used { self.new.used ≡ self.old.used }
         ensures differ { IfOk result (λ keys. DifferAmong F.Key.Ord.cmp keys self.new.differing
-            (λ key. shown_in F.row_in (row_at F.Key.Ord.cmp self.old.rows key))
-            (λ key. shown_in F.row_in (row_at F.Key.Ord.cmp self.new.rows key))) }
-        ensures tied { OnOk result (AreTied F.Key.Ord.cmp F.marks_in self.new.rows self.new.keys
+            (λ key. shown_in F.row_in (row_at F.Key.Ord.cmp self.old.used self.old.rows key))
+            (λ key. shown_in F.row_in (row_at F.Key.Ord.cmp self.new.used self.new.rows key))) }
+        ensures met { IfOk result (λ keys. (k : F.Key) (n : ℕ)
+            → number_at F.Key.Ord.cmp self.old.used k ≡ Some n
+            → has_row n self.new.met ≡ has_key F.Key.Ord.cmp keys k) }
+        ensures tied { OnOk result (AreTied F.Key.Ord.cmp F.marks_in self.new.used self.new.rows
             self.new.graph.rows self.new.next) }
         ensures steps { IfOk result (λ keys. steps.new ≤ steps.old + sum_by
             (λ key. cost by.now.after.store.now.objects
@@ -203,6 +226,7 @@ impl<F: RowRule> TableRows<F> {
         for number in numbers.as_slice() {
             self.follow_number(by, *number, &mut pass, steps)?;
         }
+        self.met = numbers;
         let Pass { keys, notes: _ } = pass;
         Ok(keys)
     }
@@ -218,75 +242,50 @@ impl<F: RowRule> TableRows<F> {
         requires going { by.now.after.store.now.spent ≡ false }
         requires notes { F.notes_hold by.now.rule.now by.now.after.store.now.objects
             by.now.after.change.now pass.old.notes }
-        requires tied { AreTied F.Key.Ord.cmp F.marks_in self.old.rows self.old.keys
+        requires tied { AreTied F.Key.Ord.cmp F.marks_in self.old.used self.old.rows
             self.old.graph.rows self.old.next }
         ensures keys { OnOk result (pass.new.keys ≡ pass.old.keys
-            ++ option_to_list (tree.get nat_cmp self.old.keys number)) }
-        ensures rows { OnOk result (Follow F.Key.Ord.cmp (F.keeps by.now.rule.now) F.tells
-            by.now.after.change.now.marks by.now.after.store.now.objects
-            (has_key F.Key.Ord.cmp (option_to_list (tree.get nat_cmp self.old.keys number)))
-            self.old.rows self.new.rows) }
+            ++ option_to_list (key_in (tree.get nat_cmp self.old.rows number))) }
+        ensures rows { OnOk result (Follow (F.keeps by.now.rule.now) F.tells
+            by.now.after.change.now.marks by.now.after.store.now.objects (has_key F.Key.Ord.cmp
+            (option_to_list (key_in (tree.get nat_cmp self.old.rows number))))
+            (row_at F.Key.Ord.cmp self.old.used self.old.rows)
+            (row_at F.Key.Ord.cmp self.new.used self.new.rows)) }
         ensures differ { OnOk result ((first : F.Key → Option F.Row) → DifferAmong F.Key.Ord.cmp
             pass.old.keys self.old.differing first
-            (λ key. shown_in F.row_in (row_at F.Key.Ord.cmp self.old.rows key))
+            (λ key. shown_in F.row_in (row_at F.Key.Ord.cmp self.old.used self.old.rows key))
             → DifferAmong F.Key.Ord.cmp pass.new.keys self.new.differing first
-            (λ key. shown_in F.row_in (row_at F.Key.Ord.cmp self.new.rows key))) }
+            (λ key. shown_in F.row_in (row_at F.Key.Ord.cmp self.new.used self.new.rows key))) }
         ensures notes { OnOk result (F.notes_hold by.now.rule.now by.now.after.store.now.objects
             by.now.after.change.now pass.new.notes) }
-        ensures tied { OnOk result (AreTied F.Key.Ord.cmp F.marks_in self.new.rows self.new.keys
+        ensures tied { OnOk result (AreTied F.Key.Ord.cmp F.marks_in self.new.used self.new.rows
             self.new.graph.rows self.new.next) }
-        ensures same { self.new.keys ≡ self.old.keys }
+        ensures used { self.new.used ≡ self.old.used }
+        ensures same { OnOk result ((n : ℕ) → key_in (tree.get nat_cmp self.new.rows n)
+            ≡ key_in (tree.get nat_cmp self.old.rows n)) }
         ensures steps { OnOk result (steps.new ≤ steps.old + sum_by
             (λ key. cost by.now.after.store.now.objects
             ((F.filter by.now.rule.now).reads by.now.after.store.now.objects key))
-            (option_to_list (tree.get nat_cmp self.old.keys number))) }
+            (option_to_list (key_in (tree.get nat_cmp self.old.rows number)))) }
     {
-        match key_of(self.alloc, &self.keys, number)? {
-            Some(key) => {
-                let differs = self.follow_key(by, &key, &mut pass.notes, steps)?;
-                note_differing(self.alloc, &mut self.differing, &key, differs)?;
+        match self.rows.get_mut(&number) {
+            Some(row) => {
+                let notes = &mut pass.notes;
+                let followed = by
+                    .rule
+                    .follow(&by.after, &row.key, &mut row.kept, notes, steps)?;
+                rewatch::<F>(
+                    self.alloc,
+                    &mut self.graph,
+                    number,
+                    followed.marks,
+                    &row.kept,
+                )?;
+                note_differing(self.alloc, &mut self.differing, &row.key, followed.differs)?;
+                let key = row.key.copy(self.alloc)?;
                 pass.keys.add(key)
             }
             None => Ok(()),
-        }
-    }
-
-    // Brings the row of a key up to a change. Tells whether it may be another than before.
-    fn follow_key<L>(
-        &mut self,
-        by: &RuleChange<F>,
-        key: &F::Key,
-        notes: &mut F::Notes,
-        steps: &mut Steps<L>,
-    ) -> Result<bool, Memory>
-        requires going { by.now.after.store.now.spent ≡ false }
-        requires notes { F.notes_hold by.now.rule.now by.now.after.store.now.objects
-            by.now.after.change.now notes.old }
-        requires tied { AreTied F.Key.Ord.cmp F.marks_in self.old.rows self.old.keys
-            self.old.graph.rows self.old.next }
-        ensures rows { OnOk result (Follow F.Key.Ord.cmp (F.keeps by.now.rule.now) F.tells
-            by.now.after.change.now.marks by.now.after.store.now.objects
-            (λ k. eq_by_cmp F.Key.Ord.cmp k key.now) self.old.rows self.new.rows) }
-        ensures differ { IfOk result (λ differs. (k : F.Key)
-            → (differs && eq_by_cmp F.Key.Ord.cmp k key.now) ≡ false
-            → shown_in F.row_in (row_at F.Key.Ord.cmp self.new.rows k)
-            ≡ shown_in F.row_in (row_at F.Key.Ord.cmp self.old.rows k)) }
-        ensures notes { OnOk result (F.notes_hold by.now.rule.now by.now.after.store.now.objects
-            by.now.after.change.now notes.new) }
-        ensures tied { OnOk result (AreTied F.Key.Ord.cmp F.marks_in self.new.rows self.new.keys
-            self.new.graph.rows self.new.next) }
-        ensures same { self.new.keys ≡ self.old.keys }
-        ensures before { self.new.differing ≡ self.old.differing }
-        ensures steps { steps.new ≤ steps.old + cost by.now.after.store.now.objects
-            ((F.filter by.now.rule.now).reads by.now.after.store.now.objects key.now) }
-    {
-        match self.rows.get_mut(key) {
-            Some(row) => {
-                let followed = by.rule.follow(&by.after, key, &mut row.kept, notes, steps)?;
-                rewatch::<F>(self.alloc, &mut self.graph, followed.marks, row)?;
-                Ok(followed.differs)
-            }
-            None => Ok(false),
         }
     }
 }
@@ -295,16 +294,17 @@ impl<F: RowRule> TableRows<F> {
 fn rewatch<F: RowRule>(
     alloc: Global,
     graph: &mut Graph<Mark>,
+    number: u64,
     marks: MarksAfter,
-    row: &KeptRow<F::Kept>,
+    kept: &F::Kept,
 ) -> Result<(), Memory>
-    ensures { OnOk result (Rewatched marks (F.marks_in row.now.kept) row.now.number graph.old.rows
-        graph.new.rows) }
+    ensures { OnOk result
+        (Rewatched marks (F.marks_in kept.now) number graph.old.rows graph.new.rows) }
 {
     match marks {
         MarksAfter::Same => Ok(()),
-        MarksAfter::Moved(moves) => move_marks(graph, row.number, moves),
-        MarksAfter::Other => watch(graph, row.number, F::marks(alloc, &row.kept)?),
+        MarksAfter::Moved(moves) => move_marks(graph, number, moves),
+        MarksAfter::Other => watch(graph, number, F::marks(alloc, kept)?),
     }
 }
 
@@ -330,49 +330,37 @@ fn number_after(number: u64) -> Result<u64, Memory>
     number.checked_add(1).ok_or(Memory)
 }
 
-fn add_user_at<K: Ord, T>(rows: &mut BTreeMap<K, KeptRow<T>>, key: &K) -> Result<bool, Memory>
-    ensures there { IfOk result (λ there. there ≡ is_some (row_at K.cmp rows.old key.now)) }
+fn add_user_at<K: Ord>(used: &mut BTreeMap<K, UsedKey>, key: &K) -> Result<bool, Memory>
+    ensures there { IfOk result (λ there. there ≡ is_some (tree.get K.cmp used.old key.now)) }
     ensures put { OnOk result (PutsAt K.cmp key.now
-        (option_map one_more (row_at K.cmp rows.old key.now)) rows.old rows.new) }
+        (option_map one_more (tree.get K.cmp used.old key.now)) (tree.get K.cmp used.old)
+        (tree.get K.cmp used.new)) }
 {
-    match rows.get_mut(key) {
-        Some(row) => {
-            row.users = row.users.checked_add(1).ok_or(Memory)?;
+    match used.get_mut(key) {
+        Some(at) => {
+            at.users = at.users.checked_add(1).ok_or(Memory)?;
             Ok(true)
         }
         None => Ok(false),
     }
 }
 
-// Counts one user less of the key, unless it is the last. For that it answers the number of the row, which stays.
-fn take_user<K: Ord, T>(rows: &mut BTreeMap<K, KeptRow<T>>, key: &K) -> Option<u64>
-    ensures { TakesUser K.cmp key.now rows.old result rows.new }
+// Counts one user less of the key, unless it is the last. For that it answers the number of the key, which stays.
+fn take_user<K: Ord>(used: &mut BTreeMap<K, UsedKey>, key: &K) -> Option<u64>
+    ensures { TakesUser K.cmp key.now used.old result used.new }
 {
-    match rows.get_mut(key) {
-        Some(row) => take_from(row),
+    match used.get_mut(key) {
+        Some(at) => take_from(at),
         None => None,
     }
 }
 
-fn take_from<T>(row: &mut KeptRow<T>) -> Option<u64>
-    ensures { TakesOne row.old result row.new }
+fn take_from(at: &mut UsedKey) -> Option<u64>
+    ensures { TakesOne at.old result at.new }
 {
-    if row.users > 1 {
-        row.users -= 1;
+    if at.users > 1 {
+        at.users -= 1;
         return None;
     }
-    Some(row.number)
-}
-
-fn key_of<K: Copied>(
-    alloc: Global,
-    keys: &BTreeMap<u64, K>,
-    number: u64,
-) -> Result<Option<K>, Memory>
-    ensures { IfOk result (λ key. key ≡ tree.get nat_cmp keys.now number) }
-{
-    match keys.get(&number) {
-        Some(key) => Ok(Some(key.copy(alloc)?)),
-        None => Ok(None),
-    }
+    Some(at.number)
 }

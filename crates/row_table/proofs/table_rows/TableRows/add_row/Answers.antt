@@ -1,16 +1,34 @@
-use Rattle.std.proofs.Common.{◌≡◌, ℕ, Some, List, cond, sym, ap, subst, ◌∙◌, refl}
-use Rattle.std.specs.BTreeMap as tree
+use Rattle.std.proofs.Common.{ℕ, Some, List, sym, subst, refl}
 use Rattle.std.specs.FinMap.{nat_cmp-IsAntisymmetric}
 use Rattle.std.specs.Ordering.{nat_cmp}
 use Rattle.std.proofs.lemmas.Cmp.{nat_cmp_total}
 use Rattle.view_types.specs.declared.mark.Mark.{Mark}
 use Rattle.mark_graph.specs.RowMarks.{Rewatches}
 use Rattle.mark_rules.specs.Marks.{has_mark, mark_cmp}
-use Rattle.row_table.specs.TableRows.{AreTied, row_at}
+use Rattle.row_table.specs.TableRows.{AreTied, PutsAt, row_at}
 use Rattle.row_table.specs.declared.table_rows.KeptRow.{KeptRow}
-use Rattle.row_table.proofs.Keys.{flipped, is_other}
-use Rattle.row_table.proofs.Tied.{tied_more}
+use Rattle.row_table.specs.declared.table_rows.UsedKey.{UsedKey}
+use Rattle.row_table.proofs.Puts.{updated}
+use Rattle.row_table.proofs.Tied.{row_more, tied_more}
 use Rattle.row_table.proofs.table_rows.TableRows.add_row.Goals as goal
+
+pub returns-clause-put : goal.returns-clause-put
+returns-clause-put g c =
+    updated g.F.Key.Ord.cmp g.met.F.Key.Ord.total g.met.F.RowRule.exact c.args.key (Some (record { number = c.args.self.now.next; users = 1 })) c.args.self.now.used c.insert-2.new.self c.in_ok-insert-2.ensures.updates
+
+pub returns-clause-row : goal.returns-clause-row
+returns-clause-row g c =
+    let cmp = g.F.Key.Ord.cmp in
+    let total = g.met.F.Key.Ord.total in
+    let exact = g.met.F.RowRule.exact in
+    let self = c.args.self.now in
+    let key = c.args.key in
+    let at : UsedKey = record { number = self.next; users = 1 } in
+    let row : KeptRow g.row.F-Key.Denot g.row.F-Kept.Denot = record { key = c.in_ok-own.own; kept = c.args.kept } in
+    subst (λ (own : g.row.F-Key.Denot). PutsAt cmp key (Some (record { key = own; kept = c.args.kept })) (row_at cmp self.used self.rows) (row_at cmp c.insert-2.new.self c.insert.new.self)) c.in_ok-own.ensures
+    (row_more cmp total exact g.F.RowRule.marks_in self.used c.insert-2.new.self self.rows c.insert.new.self self.graph.rows c.watch.new.graph.rows self.next key c.requires.tied at row refl c.in_ok-own.ensures c.requires.none
+    (updated cmp total exact key (Some at) self.used c.insert-2.new.self c.in_ok-insert-2.ensures.updates)
+    (updated nat_cmp nat_cmp_total nat_cmp-IsAntisymmetric self.next (Some row) self.rows c.insert.new.self c.in_ok-insert.ensures.updates))
 
 pub returns-clause-tied : goal.returns-clause-tied
 returns-clause-tied g c =
@@ -19,13 +37,13 @@ returns-clause-tied g c =
     let exact = g.met.F.RowRule.exact in
     let marks_in = g.F.RowRule.marks_in in
     let self = c.args.self.now in
-    let row : KeptRow g.row.F-Kept.Denot = record { number = self.next; users = 1; kept = c.args.kept } in
-    let here : tree.get nat_cmp c.insert.new.self self.next ≡ Some c.args.key = c.in_ok-insert.ensures.updates.1 ∙ ap Some c.in_ok-copy.ensures in
+    let key = c.args.key in
+    let at : UsedKey = record { number = self.next; users = 1 } in
+    let row : KeptRow g.row.F-Key.Denot g.row.F-Kept.Denot = record { key = c.in_ok-own.own; kept = c.args.kept } in
     let watched : Rewatches mark_cmp (has_mark (marks_in c.args.kept)) self.next self.graph.rows c.watch.new.graph.rows =
     subst (λ (marks : List Mark). Rewatches mark_cmp (has_mark marks) self.next self.graph.rows c.watch.new.graph.rows) c.in_ok-marks.ensures c.in_ok-watch.ensures.watched in
     subst (λ (next : ℕ). AreTied cmp marks_in c.insert-2.new.self c.insert.new.self c.watch.new.graph.rows next) (sym c.in_ok-self.ensures)
-    (tied_more cmp total exact marks_in self.rows c.insert-2.new.self self.keys c.insert.new.self self.graph.rows c.watch.new.graph.rows self.next self.next c.args.key c.requires.tied
-    (λ i ne. c.in_ok-insert.ensures.updates.2 i (is_other nat_cmp nat_cmp_total nat_cmp-IsAntisymmetric self.next i (λ e. ne (sym e))))
-    row c.requires.none
-    (λ k. c.in_ok-insert-2.ensures.updates.0 k ∙ ap (λ b. cond b (Some row) (row_at cmp self.rows k)) (flipped cmp total exact c.args.key k))
-    refl refl here watched)
+    (tied_more cmp total exact marks_in self.used c.insert-2.new.self self.rows c.insert.new.self self.graph.rows c.watch.new.graph.rows self.next key c.requires.tied at row refl c.in_ok-own.ensures c.requires.none
+    (updated cmp total exact key (Some at) self.used c.insert-2.new.self c.in_ok-insert-2.ensures.updates)
+    (updated nat_cmp nat_cmp_total nat_cmp-IsAntisymmetric self.next (Some row) self.rows c.insert.new.self c.in_ok-insert.ensures.updates)
+    watched)

@@ -1,11 +1,16 @@
-use Rattle.std.proofs.Common.{None, cond, sym, ap, ◌∙◌}
+use Rattle.std.proofs.Common.{None}
 use Rattle.std.specs.FinMap.{nat_cmp-IsAntisymmetric}
 use Rattle.std.specs.Ordering.{nat_cmp}
 use Rattle.std.proofs.lemmas.Cmp.{nat_cmp_total}
-use Rattle.row_table.specs.TableRows.{row_at}
-use Rattle.row_table.proofs.Keys.{flipped, is_other}
+use Rattle.row_table.proofs.Puts.{updated}
 use Rattle.row_table.proofs.Tied.{tied_less}
 use Rattle.row_table.proofs.table_rows.TableRows.remove_row.Goals as goal
+
+pub returns-clause-put : goal.returns-clause-put
+returns-clause-put g c = updated g.F.Key.Ord.cmp g.met.F.Key.Ord.total g.met.F.RowRule.exact c.args.key.now None c.args.self.now.used c.remove.new.self c.remove.ensures.updates
+
+pub returns-clause-rows : goal.returns-clause-rows
+returns-clause-rows g c = updated nat_cmp nat_cmp_total nat_cmp-IsAntisymmetric c.args.number None c.args.self.now.rows c.remove-2.new.self c.remove-2.ensures.updates
 
 pub returns-clause-tied : goal.returns-clause-tied
 returns-clause-tied g c = λ tied.
@@ -13,10 +18,9 @@ returns-clause-tied g c = λ tied.
     let total = g.met.F.Key.Ord.total in
     let exact = g.met.F.RowRule.exact in
     let self = c.args.self.now in
+    let key = c.args.key.now in
     let number = c.args.number in
-    tied_less cmp total exact g.F.RowRule.marks_in self.rows c.remove.new.self self.keys c.remove-2.new.self self.graph.rows c.unwatch.new.graph.rows self.next number c.args.key.now tied
-    (λ i ne. c.remove-2.ensures.updates.2 i (is_other nat_cmp nat_cmp_total nat_cmp-IsAntisymmetric number i (λ e. ne (sym e))))
-    c.requires
-    (λ k. c.remove.ensures.updates.0 k ∙ ap (λ b. cond b None (row_at cmp self.rows k)) (flipped cmp total exact c.args.key.now k))
-    c.remove-2.ensures.updates.1
+    tied_less cmp total exact g.F.RowRule.marks_in self.used c.remove.new.self self.rows c.remove-2.new.self self.graph.rows c.unwatch.new.graph.rows self.next key tied number c.requires
+    (updated cmp total exact key None self.used c.remove.new.self c.remove.ensures.updates)
+    (updated nat_cmp nat_cmp_total nat_cmp-IsAntisymmetric number None self.rows c.remove-2.new.self c.remove-2.ensures.updates)
     c.unwatch.ensures.watched
