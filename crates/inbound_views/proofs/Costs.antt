@@ -166,7 +166,7 @@ kind (row.Authz key) = 2
 kind _ = 3
 
 module _ (stand : InboundViews → Config → ObjectMap → Type 0) (config : Config) (changed : List Mark) (before after : ObjectMap) (old mid : InboundViews) (joined : AreJoined stand config before old)
-    (tied : AreTied server_cmp old.servers.by_key old.servers.by_id)
+    (number_at : ServerKey → Option ℕ) (tied : AreTied server_cmp number_at old.servers.by_number old.servers.by_id)
     (route_user : (key : RouteKey) → uses_routes old key ≡ true → (id : ℕ) × (has_key route_cmp (routes_of old id) key ≡ true))
     (authz_user : (key : ObjKey) → uses_authz old key ≡ true → (id : ℕ) × (has_key key_cmp (authz_of old id) key ≡ true))
     (uses_route : (id : ℕ) (key : RouteKey) → has_key route_cmp (routes_of old id) key ≡ true → uses_routes mid key ≡ true)
@@ -191,8 +191,8 @@ module _ (stand : InboundViews → Config → ObjectMap → Type 0) (config : Co
       let user = authz_user key used in
       record { id = user.0; of_query = row_of_authz (rows_at config before (query_at old user.0)) key (ap (λ (keys : List ObjKey). has_key key_cmp keys key) (sym (joined.authz user.0)) ∙ user.1) }
 
-  server_in_use : (key : ServerKey) → uses_server old key ≡ true → Used (row.Server key)
-  server_in_use = in_use server_cmp server_laws.total-law server_keys_exact row.Server query_for config before (λ key. (0, omega arith, refl)) old.servers.by_key old.servers.by_id tied
+  server_in_use : (key : ServerKey) → uses_server number_at old key ≡ true → Used (row.Server key)
+  server_in_use = in_use server_cmp server_laws.total-law server_keys_exact row.Server query_for config before (λ key. (0, omega arith, refl)) number_at old.servers.by_number old.servers.by_id tied
 
   -- a key that comes into use is that of no query before, and of one after
   route_comes : (key : RouteKey) → (uses_routes mid key ≡ false) × ((id : ℕ) × (has_key route_cmp (route_keys config after (query_at mid id)) key ≡ true)) → New 1 (row.Route key)
@@ -216,7 +216,7 @@ module _ (stand : InboundViews → Config → ObjectMap → Type 0) (config : Co
   apart_kinds : (n m : ℕ) → (n ≡ m → ⊥) → (key : RowKey) → kind key ≡ n → kind key ≡ m → ⊥
   apart_kinds n m apart key is also = apart (sym is ∙ also)
 
-  module _ (start second end : ℕ) (follow : RowsFollow config before after changed old start second) (enter : AllEnter config after mid second end) where
+  module _ (start second end : ℕ) (follow : RowsFollow number_at config before after changed old start second) (enter : AllEnter config after mid second end) where
     servers_read : Reading config after (Read 0) start follow.first
     servers_read =
         let all = follow.servers in

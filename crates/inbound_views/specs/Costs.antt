@@ -1,5 +1,5 @@
 -- What is looked up as ports are opened, and as their rows follow a change.
-use Rattle.std.specs.Prelude.{◌≡◌, ◌≤◌, ◌+◌, ℕ, Bool, true, false, List}
+use Rattle.std.specs.Prelude.{◌≡◌, ◌≤◌, ◌+◌, ℕ, Bool, true, false, List, Option}
 use Rattle.std.specs.List.{AllByRecursion, IsDistinct, sum_by}
 use Rattle.std.specs.Ordering.{eq_by_cmp}
 use Rattle.std.specs.declared.cmp.Ordering.{Ordering}
@@ -12,6 +12,7 @@ use Rattle.mark_rules.specs.Reads.{authz_reads, cost, route_reads}
 use Rattle.mark_rules.specs.contracts.keys.RouteKeyOrd as route_order
 use Rattle.mark_rules.specs.contracts.keys.ServerKeyOrd as server_order
 use Rattle.mark_rules.specs.declared.keys.RouteKey.{RouteKey}
+use Rattle.mark_rules.specs.declared.keys.ServerKey.{ServerKey}
 use Rattle.row_table.specs.IndexRows.{has_key}
 use Rattle.row_views.specs.Standing.{FollowCost}
 use Rattle.row_sets.specs.Standing.{EntersWithin}
@@ -58,9 +59,9 @@ module _ (config : Config) (held : ObjectMap) where
     pub most : new ≤ old + (cost_of_routes held routes + cost_of_authz held authz)
 
 -- Rows that are used and read a mark of a change read all that is looked up as they follow it.
-pub record RowsFollow (config : Config) (before after : ObjectMap) (changed : List Mark) (views : InboundViews) (old new : ℕ) : Type 0 where
+pub record RowsFollow (number_at : ServerKey → Option ℕ) (config : Config) (before after : ObjectMap) (changed : List Mark) (views : InboundViews) (old new : ℕ) : Type 0 where
   pub first : ℕ
   pub second : ℕ
-  pub servers : FollowCost (server_rows config) server_order.TheImpl.cmp-value.it (uses_server views) changed before after old first
+  pub servers : FollowCost (server_rows config) server_order.TheImpl.cmp-value.it (uses_server number_at views) changed before after old first
   pub routes : FollowCost route_rows route_order.TheImpl.cmp-value.it (uses_routes views) changed before after first second
   pub authz : FollowCost (authz_rows config) key_order.TheImpl.cmp-value.it (uses_authz views) changed before after second new

@@ -94,9 +94,9 @@ module _ (config : Config) (held : ObjectMap) (port : ServerKey) where
 
 -- ---- the rows that have users
 
-module _ {Servers Routes Authz : Type 0} {server_users : Servers → ServerKey → ℕ} {route_users : Routes → RouteKey → ℕ} {authz_users : Authz → ObjKey → ℕ} {server_stand : Servers → ObjectMap → Type 0} {route_stand : Routes → ObjectMap → Type 0} {authz_stand : Authz → ObjectMap → Type 0}
-    {held : ObjectMap} {servers : Servers} {routes : Routes} {authz : Authz} {of_servers : BTreeMap ServerKey (BTreeSet ℕ)} {of_routes : BTreeMap RouteKey (BTreeSet ℕ)} {of_authz : BTreeMap ObjKey (BTreeSet ℕ)} {ports : BTreeMap ℕ ServerKey} {routes_at : BTreeMap ℕ (List RouteKey)} {authz_at : BTreeMap ℕ (List ObjKey)}
-    (config : Config) (servers_stand : views.Standing server_order.TheImpl.cmp-value.it server_users server_stand held servers of_servers ports)
+module _ {Servers Routes Authz : Type 0} {server_users : Servers → ServerKey → ℕ} {route_users : Routes → RouteKey → ℕ} {authz_users : Authz → ObjKey → ℕ} {server_numbers : Servers → ServerKey → Option ℕ} {server_stand : Servers → ObjectMap → Type 0} {route_stand : Routes → ObjectMap → Type 0} {authz_stand : Authz → ObjectMap → Type 0}
+    {held : ObjectMap} {servers : Servers} {routes : Routes} {authz : Authz} {of_servers : BTreeMap ℕ (BTreeSet ℕ)} {of_routes : BTreeMap RouteKey (BTreeSet ℕ)} {of_authz : BTreeMap ObjKey (BTreeSet ℕ)} {ports : BTreeMap ℕ ServerKey} {routes_at : BTreeMap ℕ (List RouteKey)} {authz_at : BTreeMap ℕ (List ObjKey)}
+    (config : Config) (servers_stand : views.Standing server_order.TheImpl.cmp-value.it server_users server_numbers server_stand held servers of_servers ports)
     (routes_stand : sets.Standing route_order.TheImpl.cmp-value.it route_users route_stand held routes of_routes routes_at)
     (authz_stands : sets.Standing key_order.TheImpl.cmp-value.it authz_users authz_stand held authz of_authz authz_at)
     (has_routes : (id : ℕ) → keys_at routes_at id ≡ route_keys config held (option_map query_for (key_at ports id)))
@@ -108,7 +108,7 @@ module _ {Servers Routes Authz : Type 0} {server_users : Servers → ServerKey �
   users = port_users (server_users servers) (route_users routes) (authz_users authz)
 
   used_if : (of : RowKey) → 0 < users of → ∥ IsInUse config held asked of ∥₁
-  used_if (row.Server key) some = ∣ one_key.used_row server_order.TheImpl.cmp-value.it server_laws.total-law server_keys_exact server_users server_stand row.Server query_for config held servers of_servers ports servers_stand (λ k. (0, omega arith, refl)) key some ∣₁
+  used_if (row.Server key) some = ∣ one_key.used_row server_order.TheImpl.cmp-value.it server_laws.total-law server_keys_exact server_users server_numbers server_stand row.Server query_for config held servers of_servers ports servers_stand (λ k. (0, omega arith, refl)) key some ∣₁
   used_if (row.Route key) some = ∣ many_keys.used_row route_order.TheImpl.cmp-value.it route_laws.total-law route_keys_exact route_users route_stand held routes of_routes routes_at routes_stand config asked route_key row.Route has_routes route_row_is key some ∣₁
   used_if (row.Authz key) some = ∣ many_keys.used_row key_order.TheImpl.cmp-value.it key_laws.total-law authz_keys_exact authz_users authz_stand held authz of_authz authz_at authz_stands config asked authz_key row.Authz has_authz authz_row_is key some ∣₁
   used_if _ some = absurd (omega (arith, some))
@@ -123,7 +123,7 @@ module _ {Servers Routes Authz : Type 0} {server_users : Servers → ServerKey �
 
   unused_if : (of : RowKey) → users of ≡ 0 → IsInUse config held asked of → ⊥
   unused_if (row.Server key) none =
-      one_key.unused_row server_order.TheImpl.cmp-value.it server_laws.total-law server_keys_exact server_users server_stand row.Server query_for config held servers of_servers ports servers_stand (own_server config held) key none
+      one_key.unused_row server_order.TheImpl.cmp-value.it server_laws.total-law server_keys_exact server_users server_numbers server_stand row.Server query_for config held servers of_servers ports servers_stand (own_server config held) key none
   unused_if (row.Route key) none = many_keys.unused_row route_order.TheImpl.cmp-value.it route_laws.total-law route_keys_exact route_users route_stand held routes of_routes routes_at routes_stand config asked route_key row.Route has_routes (λ k. refl) key none
   unused_if (row.Authz key) none = many_keys.unused_row key_order.TheImpl.cmp-value.it key_laws.total-law authz_keys_exact authz_users authz_stand held authz of_authz authz_at authz_stands config asked authz_key row.Authz has_authz (λ k. refl) key none
   unused_if (row.Endpoint key) none = of_other (row.Endpoint key) refl

@@ -14,11 +14,10 @@ use Rattle.view_types.specs.declared.server_view.RouteRow.{RouteRow}
 use Rattle.mark_graph.specs.RowMarks.{has_row}
 use Rattle.mark_rules.specs.Rows.{authz_row, server_routes}
 use Rattle.mark_rules.specs.contracts.keys.RouteKeyOrd as route_order
-use Rattle.mark_rules.specs.contracts.keys.ServerKeyOrd as server_order
 use Rattle.mark_rules.specs.declared.keys.RouteKey.{RouteKey}
 use Rattle.mark_rules.specs.declared.keys.ServerKey.{ServerKey}
 use Rattle.row_table.specs.IndexRows.{Filter, has_key}
-use Rattle.row_views.specs.Ids.{SetsAt, has_ids, key_at}
+use Rattle.row_views.specs.Ids.{SetsAt, has_ids, is_open, key_at}
 use Rattle.row_views.specs.Standing.{is_met}
 use Rattle.row_sets.specs.Standing.{Standing, any_met, keys_at}
 use Rattle.inbound_views.specs.PortRows.{authz_keys, authz_rows, query_for, route_keys, route_rows, server_rows}
@@ -60,8 +59,9 @@ HasKeys config held Rows views id = HasRoutes config held views id × HasAuthz c
 abbrev pub rows_if : {Row : Type 0} → Bool → List Row → List Row
 rows_if used rows = if used then rows else []
 
-abbrev pub uses_server : InboundViews → ServerKey → Bool
-uses_server views key = has_ids server_order.TheImpl.cmp-value.it views.servers.by_key key
+-- ids are open with the key, by the numbers of the rows of Servers
+abbrev pub uses_server : (ServerKey → Option ℕ) → InboundViews → ServerKey → Bool
+uses_server number_at views key = is_open number_at views.servers.by_number key
 
 abbrev pub uses_routes : InboundViews → RouteKey → Bool
 uses_routes views key = has_ids route_order.TheImpl.cmp-value.it views.routes.used.by_key key

@@ -1,6 +1,5 @@
 // The view of a port that no id needs to be open with. Its rows are lent where they are kept, and made for it where they aren't.
 ghost use Rattle.std.specs.Prelude.{◌≡◌, ◌≤◌, ◌+◌, IfOk, Some};
-ghost use Rattle.view_types.specs.Objects.{ObjectMap};
 ghost use Rattle.view_types.specs.declared.config.Config.{Config};
 ghost use Rattle.mark_rules.specs.Rows.{server_joined};
 ghost use Rattle.row_table.specs.PeekedRow.{peeked_row};

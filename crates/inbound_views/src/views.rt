@@ -62,8 +62,9 @@ impl KeepsRows for InboundViews {
 
     ghost stand = { λ s config held. AllAreKept
         (AreKept ⟦<ServerKey as Ord>⟧.cmp ⟦<ServerIndex as RowIndex>⟧.users
-        ⟦<ServerIndex as RowIndex>⟧.stands ⟦<ServerIndex as RowIndex>⟧.filter
-        (server_rows config) held s.servers.index s.servers.by_key s.servers.by_id)
+        ⟦<ServerIndex as RowIndex>⟧.number_at ⟦<ServerIndex as RowIndex>⟧.stands
+        ⟦<ServerIndex as RowIndex>⟧.filter (server_rows config) held s.servers.index
+        s.servers.by_number s.servers.by_id)
         (SetsAreKept ⟦<RouteKey as Ord>⟧.cmp ⟦<RouteIndex as RowIndex>⟧.users
         ⟦<RouteIndex as RowIndex>⟧.stands ⟦<RouteIndex as RowIndex>⟧.filter
         route_rows held s.routes.used.index s.routes.used.by_key s.routes.by_id)
@@ -150,7 +151,8 @@ impl InboundViews {
             → Leads change.now.marks held store.now.objects
             → ⟦<InboundViews as KeepsRows>⟧.stand self.new config store.now.objects) }
         ensures steps { OnOk result ((config : TheConfig) (held : ObjectMap)
-            → ⟦<InboundViews as KeepsRows>⟧.stand self.old config held → RowsFollow config held
+            → ⟦<InboundViews as KeepsRows>⟧.stand self.old config held → RowsFollow
+            (⟦<ServerIndex as RowIndex>⟧.number_at self.old.servers.index) config held
             store.now.objects change.now.marks self.old steps.old steps.new) }
         ensures ports { self.new.servers.by_id ≡ self.old.servers.by_id }
         ensures routes { OnOk result (self.new.routes.by_id ≡ self.old.routes.by_id) }

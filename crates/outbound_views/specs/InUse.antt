@@ -27,7 +27,7 @@ target_is (row.Outbound target) other is = cc is
 target_is _ other is = absurd (cc is)
 
 -- the outbound views that have users are those of the queries of ids
-pub outbound_in_use : {Index : Type 0} {users : Index → Target → ℕ} {stand : Index → ObjectMap → Type 0} {held : ObjectMap} {index : Index} {by_key : BTreeMap Target (BTreeSet ℕ)} {by_id : BTreeMap ℕ Target} → (config : Config)
-    → Standing order.TheImpl.cmp-value.it users stand held index by_key by_id → AreInUse config held (λ id. option_map query_for (key_at by_id id)) (λ key. users_if (users index) (target_of key))
-outbound_in_use {users} {stand} {held} {index} {by_key} {by_id} config st =
-    asked_in_use order.TheImpl.cmp-value.it total-law targets_exact users stand row.Outbound query_for config held index by_key by_id st target_of target_is (λ target. refl) (λ target. refl)
+pub outbound_in_use : {Index : Type 0} {users : Index → Target → ℕ} {number_at : Index → Target → Option ℕ} {stand : Index → ObjectMap → Type 0} {held : ObjectMap} {index : Index} {by_number : BTreeMap ℕ (BTreeSet ℕ)} {by_id : BTreeMap ℕ Target} → (config : Config)
+    → Standing order.TheImpl.cmp-value.it users number_at stand held index by_number by_id → AreInUse config held (λ id. option_map query_for (key_at by_id id)) (λ key. users_if (users index) (target_of key))
+outbound_in_use {users} {number_at} {stand} {held} {index} {by_number} {by_id} config st =
+    asked_in_use order.TheImpl.cmp-value.it total-law targets_exact users number_at stand row.Outbound query_for config held index by_number by_id st target_of target_is (λ target. refl) (λ target. refl)

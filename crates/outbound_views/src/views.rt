@@ -61,9 +61,9 @@ impl QueryViews for OutboundViews {
         (target_of key) };
 
     ghost stands = { λ s config held. ∥ AreKept ⟦<Target as Ord>⟧.cmp
-        ⟦<OutboundIndex as RowIndex>⟧.users ⟦<OutboundIndex as RowIndex>⟧.stands
-        ⟦<OutboundIndex as RowIndex>⟧.filter (outbound_rows config) held s.rows.index
-        s.rows.by_key s.rows.by_id ∥₁ };
+        ⟦<OutboundIndex as RowIndex>⟧.users ⟦<OutboundIndex as RowIndex>⟧.number_at
+        ⟦<OutboundIndex as RowIndex>⟧.stands ⟦<OutboundIndex as RowIndex>⟧.filter
+        (outbound_rows config) held s.rows.index s.rows.by_number s.rows.by_id ∥₁ };
 
     fn keeps(query: &Query) -> bool {
         match query {

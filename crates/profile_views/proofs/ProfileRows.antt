@@ -16,7 +16,7 @@ use Rattle.mark_rules.specs.declared.keys.ProfileKey.{ProfileKey}
 use Rattle.mark_rules.specs.declared.keys.RowKey.TheVariants as row
 use Rattle.row_table.specs.IndexRows.{Filter}
 use Rattle.row_views.specs.Costs.{FollowedRows, open_cost}
-use Rattle.row_views.specs.Ids.{AreTied, has_ids, key_at}
+use Rattle.row_views.specs.Ids.{AreTied, is_open, key_at}
 use Rattle.row_views.specs.Queries.{reads_one, view_at}
 use Rattle.row_views.specs.Standing.{FollowCost, is_met}
 use Rattle.row_views.proofs.RowQueries.{followed_as_asked, met_as_asked, opened_as_asked, seen_as_asked}
@@ -35,6 +35,6 @@ module _ (config : Config) where
       → new ≤ old + cond used 0 (cost held (filter.reads held key)) → new ≤ old + open_cost config held query
   opened_is = opened_as_asked (profile_rows config) query_for config row.Profile (λ held key. refl) (λ held key. refl)
 
-  pub followed_is : (before after : ObjectMap) (changed : List Mark) (by_key : BTreeMap ProfileKey (BTreeSet ℕ)) (by_id : BTreeMap ℕ ProfileKey) → AreTied order.TheImpl.cmp-value.it by_key by_id → (filter : Filter ProfileKey ProfileView) → filter ≡ profile_rows config → (old new : ℕ)
-      → FollowCost filter order.TheImpl.cmp-value.it (has_ids order.TheImpl.cmp-value.it by_key) changed before after old new → FollowedRows config changed before after (λ id. option_map query_for (key_at by_id id)) old new
+  pub followed_is : (before after : ObjectMap) (changed : List Mark) (number_at : ProfileKey → Option ℕ) (by_number : BTreeMap ℕ (BTreeSet ℕ)) (by_id : BTreeMap ℕ ProfileKey) → AreTied order.TheImpl.cmp-value.it number_at by_number by_id → (filter : Filter ProfileKey ProfileView) → filter ≡ profile_rows config → (old new : ℕ)
+      → FollowCost filter order.TheImpl.cmp-value.it (is_open number_at by_number) changed before after old new → FollowedRows config changed before after (λ id. option_map query_for (key_at by_id id)) old new
   followed_is = followed_as_asked (profile_rows config) query_for config row.Profile (λ held key. refl) (λ held key. refl) order.TheImpl.cmp-value.it total-law profile_keys_exact (λ a b same. cc same)

@@ -27,7 +27,7 @@ profile_is (row.Profile key) other is = cc is
 profile_is _ other is = absurd (cc is)
 
 -- the profiles that have users are those of the queries of ids
-pub profiles_in_use : {Index : Type 0} {users : Index → ProfileKey → ℕ} {stand : Index → ObjectMap → Type 0} {held : ObjectMap} {index : Index} {by_key : BTreeMap ProfileKey (BTreeSet ℕ)} {by_id : BTreeMap ℕ ProfileKey} → (config : Config)
-    → Standing order.TheImpl.cmp-value.it users stand held index by_key by_id → AreInUse config held (λ id. option_map query_for (key_at by_id id)) (λ key. users_if (users index) (profile_of key))
-profiles_in_use {users} {stand} {held} {index} {by_key} {by_id} config st =
-    asked_in_use order.TheImpl.cmp-value.it total-law profile_keys_exact users stand row.Profile query_for config held index by_key by_id st profile_of profile_is (λ key. refl) (λ key. refl)
+pub profiles_in_use : {Index : Type 0} {users : Index → ProfileKey → ℕ} {number_at : Index → ProfileKey → Option ℕ} {stand : Index → ObjectMap → Type 0} {held : ObjectMap} {index : Index} {by_number : BTreeMap ℕ (BTreeSet ℕ)} {by_id : BTreeMap ℕ ProfileKey} → (config : Config)
+    → Standing order.TheImpl.cmp-value.it users number_at stand held index by_number by_id → AreInUse config held (λ id. option_map query_for (key_at by_id id)) (λ key. users_if (users index) (profile_of key))
+profiles_in_use {users} {number_at} {stand} {held} {index} {by_number} {by_id} config st =
+    asked_in_use order.TheImpl.cmp-value.it total-law profile_keys_exact users number_at stand row.Profile query_for config held index by_number by_id st profile_of profile_is (λ key. refl) (λ key. refl)

@@ -66,9 +66,10 @@ impl QueryViews for ProfileViews {
 
     ghost stands = { λ s config held. ∥ AreKept ⟦<ProfileKey as Ord>⟧.cmp
         ⟦<RowTable<FindAnew<ProfileFinder>> as RowIndex>⟧.users
+        ⟦<RowTable<FindAnew<ProfileFinder>> as RowIndex>⟧.number_at
         ⟦<RowTable<FindAnew<ProfileFinder>> as RowIndex>⟧.stands
         ⟦<RowTable<FindAnew<ProfileFinder>> as RowIndex>⟧.filter (profile_rows config) held
-        s.rows.index s.rows.by_key s.rows.by_id ∥₁ };
+        s.rows.index s.rows.by_number s.rows.by_id ∥₁ };
 
     fn keeps(query: &Query) -> bool {
         match query {

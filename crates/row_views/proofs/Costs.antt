@@ -23,11 +23,11 @@ use Rattle.row_table.specs.IndexRows.{AreMet, Filter, IsCurrent, has_key}
 use Rattle.row_table.proofs.Keys.{is_itself, is_same}
 use Rattle.row_table.proofs.MarkLists.{meets_same}
 use Rattle.row_views.specs.Costs.{AreApart, FollowedRows, IsFollowed, cost_of, open_cost}
-use Rattle.row_views.specs.Ids.{AreTied, has_ids, is_key, key_at}
+use Rattle.row_views.specs.Ids.{AreTied, is_key, is_open, key_at}
 use Rattle.row_views.specs.InUse.{IsInUse}
 use Rattle.row_views.specs.Queries.{rows_at}
 use Rattle.row_views.specs.Standing.{FollowCost}
-use Rattle.row_views.proofs.Ids.{has_one}
+use Rattle.row_views.proofs.Numbers.{open_one}
 
 pub all_of : {X : Type 0} (P Q : X → Type 0) → ((x : X) → P x → Q x) → (xs : List X) → AllByRecursion P xs → AllByRecursion Q xs
 all_of P Q f [] all = tt
@@ -134,9 +134,10 @@ module _ {Key : Type 0} (cmp : Key → Key → Ordering) (total : IsTotalOrder c
   own_row key (Some k) is = subst (λ (k : Key). Contains (rows config held (query_for k)) (row key)) (is_same cmp total exact key k is) (own key)
 
   -- the row of a key that has ids is one of those of their query
-  pub in_use : (by_key : BTreeMap Key (BTreeSet ℕ)) (by_id : BTreeMap ℕ Key) → AreTied cmp by_key by_id → (key : Key) → has_ids cmp by_key key ≡ true → IsInUse config held (λ id. option_map query_for (key_at by_id id)) (row key)
-  in_use by_key by_id tied key has =
-      let one = has_one cmp total exact by_key tied.each key has in
+  pub in_use : (number_at : Key → Option ℕ) (by_number : BTreeMap ℕ (BTreeSet ℕ)) (by_id : BTreeMap ℕ Key) → AreTied cmp number_at by_number by_id → (key : Key) → is_open number_at by_number key ≡ true
+      → IsInUse config held (λ id. option_map query_for (key_at by_id id)) (row key)
+  in_use number_at by_number by_id tied key has =
+      let one = open_one by_number tied.each (number_at key) has in
       record { id = one.0; of_query = own_row key (key_at by_id one.0) (sym (tied.ids key one.0) ∙ one.1) }
 
 -- what one row reads, at most

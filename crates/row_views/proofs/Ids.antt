@@ -13,10 +13,10 @@ use Rattle.std.specs.List.{list_any}
 use Rattle.std.specs.Option.{is_some}
 use Rattle.std.specs.Ordering.{eq_by_cmp, nat_cmp}
 use Rattle.std.specs.declared.cmp.Ordering.{Ordering}
-use Rattle.mark_graph.specs.RowMarks.{AddsRow, AllHaveRows, RemovesRow, row_at, some_row}
+use Rattle.mark_graph.specs.RowMarks.{AllHaveRows, row_at, some_row}
 use Rattle.row_table.specs.IndexRows.{OneLess}
-use Rattle.row_table.proofs.Keys.{flipped, is_itself, tells, turned}
-use Rattle.row_views.specs.Ids.{AreTied, OneMoreUnless, SetsAt, has_ids, is_key, key_at}
+use Rattle.row_table.proofs.Keys.{flipped, is_itself, tells}
+use Rattle.row_views.specs.Ids.{OneMoreUnless, SetsAt, has_ids, is_key, key_at}
 
 -- the same test of ids
 pub at_id : (id n : ℕ) → eq_by_cmp nat_cmp id n ≡ nat_eq n id
@@ -30,11 +30,11 @@ first_of s some = by s.keys refl
     by [] is = let lt : 0 < 0 = subst (λ (ks : List ℕ). 0 < length ks) is some in absurd (omega (arith, lt))
     by (x ∷ xs) is = (x, ap (list_any (is_at (nat_cmp x))) is ∙ ap (λ b. b || list_any (is_at (nat_cmp x)) xs) (is_itself nat_cmp nat_cmp_total nat_cmp-IsAntisymmetric x))
 
-or_plain : (b : Bool) → ((b && true) || false) ≡ b
+pub or_plain : (b : Bool) → ((b && true) || false) ≡ b
 or_plain true = refl
 or_plain false = refl
 
-or_rest : (a rest : Bool) → ((a && false) || rest) ≡ rest
+pub or_rest : (a rest : Bool) → ((a && false) || rest) ≡ rest
 or_rest true rest = refl
 or_rest false rest = refl
 
@@ -75,82 +75,59 @@ module _ {Key : Type 0} (cmp : Key → Key → Ordering) (total : IsTotalOrder c
       by true false e f = let one = has_one new other k e in absurd (false≢true (sym f ∙ has_where old k one.0 (sym (same one.0) ∙ one.1)))
       by false true e f = let one = has_one old each k f in absurd (false≢true (sym e ∙ has_where new k one.0 (same one.0 ∙ one.1)))
 
-  -- the key of an id has it
-  pub id_there : (by_key : ByKey) (by_id : BTreeMap ℕ Key) → AreTied cmp by_key by_id → (id : ℕ) (key : Key) → key_at by_id id ≡ Some key → has_ids cmp by_key key ≡ true
-  id_there by_key by_id tied id key is = has_where by_key key id (tied.ids key id ∙ ap (is_key cmp key) is ∙ is_itself cmp total exact key)
+module _ {Key : Type 0} (cmp : Key → Key → Ordering) (total : IsTotalOrder cmp) (exact : IsAntisymmetric cmp) where
+  -- ---- one id more, and one less, by the ids at each key
 
-  -- ---- one id more
+  module _ (at new : Key → ℕ → Bool) (by_id next : BTreeMap ℕ Key) (id : ℕ) (key : Key) (ids : (k : Key) (n : ℕ) → at k n ≡ is_key cmp k (key_at by_id n)) where
+    pub put_ids : key_at by_id id ≡ None → ((k : Key) (n : ℕ) → new k n ≡ ((eq_by_cmp cmp key k && nat_eq n id) || at k n)) → SetsAt id (Some key) (key_at by_id) (key_at next) → (k : Key) (n : ℕ) → new k n ≡ is_key cmp k (key_at next n)
+    put_ids free adds sets k n = adds k n ∙ elim (eqb_tells n id) [
+      | inl same ↦
+          let none : at k n ≡ false = ids k n ∙ ap (is_key cmp k) (ap (key_at by_id) same.1 ∙ free) in
+          (λ i. (eq_by_cmp cmp key k && same.0 i) || none i) ∙ or_plain (eq_by_cmp cmp key k) ∙ flipped cmp total exact key k
+          ∙ sym (ap (is_key cmp k) (sets n ∙ ap (λ b. cond b (Some key) (key_at by_id n)) same.0))
+      | inr apart ↦
+          ap (λ b. (eq_by_cmp cmp key k && b) || at k n) apart.0 ∙ or_rest (eq_by_cmp cmp key k) (at k n) ∙ ids k n
+          ∙ sym (ap (is_key cmp k) (sets n ∙ ap (λ b. cond b (Some key) (key_at by_id n)) apart.0))
+    ]
 
-  module _ (by_key new : ByKey) (by_id next : BTreeMap ℕ Key) (id : ℕ) (key : Key) (tied : AreTied cmp by_key by_id) (free : key_at by_id id ≡ None)
-      (adds : AddsRow cmp (eq_by_cmp cmp key) id by_key new) (each : AllHaveRows cmp new) (sets : SetsAt id (Some key) (key_at by_id) (key_at next)) where
-    pub put_tied : AreTied cmp new next
-    put_tied = record {
-      ids = λ k n. adds k n ∙ elim (eqb_tells n id) [
-        | inl same ↦
-            let none : row_at cmp by_key k n ≡ false = tied.ids k n ∙ ap (is_key cmp k) (ap (key_at by_id) same.1 ∙ free) in
-            (λ i. (eq_by_cmp cmp key k && same.0 i) || none i) ∙ or_plain (eq_by_cmp cmp key k) ∙ flipped cmp total exact key k
-            ∙ sym (ap (is_key cmp k) (sets n ∙ ap (λ b. cond b (Some key) (key_at by_id n)) same.0))
-        | inr apart ↦
-            ap (λ b. (eq_by_cmp cmp key k && b) || row_at cmp by_key k n) apart.0 ∙ or_rest (eq_by_cmp cmp key k) (row_at cmp by_key k n) ∙ tied.ids k n
-            ∙ sym (ap (is_key cmp k) (sets n ∙ ap (λ b. cond b (Some key) (key_at by_id n)) apart.0))
-      ];
-      each = each;
-    }
-
-    pub put_alike : (k : Key) → eq_by_cmp cmp k key ≡ false → has_ids cmp new k ≡ has_ids cmp by_key k
-    put_alike k apart = has_alike by_key new tied.each each k (λ r. adds k r ∙ ap (λ b. (b && nat_eq r id) || row_at cmp by_key k r) (turned cmp total exact k key apart))
-
-    pub put_there : has_ids cmp new key ≡ true
-    put_there = id_there new next put_tied id key (sets id ∙ ap (λ b. cond b (Some key) (key_at by_id id)) (sym (at_id id id) ∙ is_itself nat_cmp nat_cmp_total nat_cmp-IsAntisymmetric id))
-
-  -- ---- one id less
-
-  module _ (by_key new : ByKey) (by_id next : BTreeMap ℕ Key) (id : ℕ) (key : Key) (tied : AreTied cmp by_key by_id) (is : key_at by_id id ≡ Some key)
-      (takes : RemovesRow cmp (eq_by_cmp cmp key) id by_key new) (each : AllHaveRows cmp new) (sets : SetsAt id None (key_at by_id) (key_at next)) where
-    pub take_tied : AreTied cmp new next
-    take_tied = record {
-      ids = λ k n. takes k n ∙ elim (eqb_tells n id) [
-        | inl same ↦
-            let here : row_at cmp by_key k n ≡ eq_by_cmp cmp key k = tied.ids k n ∙ ap (is_key cmp k) (ap (key_at by_id) same.1 ∙ is) ∙ flipped cmp total exact k key in
-            (λ i. not (eq_by_cmp cmp key k && same.0 i) && here i) ∙ and_gone (eq_by_cmp cmp key k)
-            ∙ sym (ap (is_key cmp k) (sets n ∙ ap (λ b. cond b None (key_at by_id n)) same.0))
-        | inr apart ↦
-            ap (λ b. not (eq_by_cmp cmp key k && b) && row_at cmp by_key k n) apart.0 ∙ and_rest (eq_by_cmp cmp key k) (row_at cmp by_key k n) ∙ tied.ids k n
-            ∙ sym (ap (is_key cmp k) (sets n ∙ ap (λ b. cond b None (key_at by_id n)) apart.0))
-      ];
-      each = each;
-    }
-
-    pub take_alike : (k : Key) → eq_by_cmp cmp k key ≡ false → has_ids cmp new k ≡ has_ids cmp by_key k
-    take_alike k apart = has_alike by_key new tied.each each k (λ r. takes k r ∙ ap (λ b. not (b && nat_eq r id) && row_at cmp by_key k r) (turned cmp total exact k key apart))
+    pub take_ids : key_at by_id id ≡ Some key → ((k : Key) (n : ℕ) → new k n ≡ (not (eq_by_cmp cmp key k && nat_eq n id) && at k n)) → SetsAt id None (key_at by_id) (key_at next) → (k : Key) (n : ℕ) → new k n ≡ is_key cmp k (key_at next n)
+    take_ids is takes sets k n = takes k n ∙ elim (eqb_tells n id) [
+      | inl same ↦
+          let here : at k n ≡ eq_by_cmp cmp key k = ids k n ∙ ap (is_key cmp k) (ap (key_at by_id) same.1 ∙ is) ∙ flipped cmp total exact k key in
+          (λ i. not (eq_by_cmp cmp key k && same.0 i) && here i) ∙ and_gone (eq_by_cmp cmp key k)
+          ∙ sym (ap (is_key cmp k) (sets n ∙ ap (λ b. cond b None (key_at by_id n)) same.0))
+      | inr apart ↦
+          ap (λ b. not (eq_by_cmp cmp key k && b) && at k n) apart.0 ∙ and_rest (eq_by_cmp cmp key k) (at k n) ∙ ids k n
+          ∙ sym (ap (is_key cmp k) (sets n ∙ ap (λ b. cond b None (key_at by_id n)) apart.0))
+    ]
 
   -- ---- the users of rows
 
-  module _ (users next : Key → ℕ) (by_key new : ByKey) (key : Key) (one : (k : Key) → users k ≡ cond (has_ids cmp by_key k) 1 0)
-      (alike : (k : Key) → eq_by_cmp cmp k key ≡ false → has_ids cmp new k ≡ has_ids cmp by_key k) where
-    moved : next key ≡ cond (has_ids cmp new key) 1 0 → ((k : Key) → eq_by_cmp cmp k key ≡ false → next k ≡ users k) → (k : Key) → next k ≡ cond (has_ids cmp new k) 1 0
+  module _ (users next : Key → ℕ) (has new : Key → Bool) (key : Key) (one : (k : Key) → users k ≡ cond (has k) 1 0)
+      (alike : (k : Key) → eq_by_cmp cmp k key ≡ false → new k ≡ has k) where
+    moved : next key ≡ cond (new key) 1 0 → ((k : Key) → eq_by_cmp cmp k key ≡ false → next k ≡ users k) → (k : Key) → next k ≡ cond (new k) 1 0
     moved there others k = elim (tells cmp total exact k key) [
-      | inl same ↦ ap next same.1 ∙ there ∙ sym (ap (λ k. cond (has_ids cmp new k) 1 0) same.1)
+      | inl same ↦ ap next same.1 ∙ there ∙ sym (ap (λ k. cond (new k) 1 0) same.1)
       | inr apart ↦ others k apart.0 ∙ one k ∙ ap (λ b. cond b 1 0) (sym (alike k apart.0))
     ]
 
-    pub more_users : has_ids cmp new key ≡ true → OneMoreUnless cmp (has_ids cmp by_key key) key users next → (k : Key) → next k ≡ cond (has_ids cmp new k) 1 0
-    more_users there more = by (has_ids cmp by_key key) refl more
+    pub more_users : new key ≡ true → OneMoreUnless cmp (has key) key users next → (k : Key) → next k ≡ cond (new k) 1 0
+    more_users there more = by (has key) refl more
       where
-        by : (b : Bool) → has_ids cmp by_key key ≡ b → OneMoreUnless cmp b key users next → (k : Key) → next k ≡ cond (has_ids cmp new k) 1 0
+        by : (b : Bool) → has key ≡ b → OneMoreUnless cmp b key users next → (k : Key) → next k ≡ cond (new k) 1 0
         by true e same = moved (same key ∙ one key ∙ ap (λ b. cond b 1 0) (e ∙ sym there)) (λ k apart. same k)
         by false e add =
             let none : users key ≡ 0 = one key ∙ ap (λ b. cond b 1 0) e in
             moved (add key ∙ (λ i. none i + cond (is_itself cmp total exact key i) 1 0) ∙ sym (ap (λ b. cond b 1 0) there))
             (λ k apart. add k ∙ ap (λ b. users k + cond b 1 0) apart ∙ omega arith)
 
-    pub same_users : has_ids cmp by_key key ≡ true → has_ids cmp new key ≡ true → (k : Key) → users k ≡ cond (has_ids cmp new k) 1 0
+    pub same_users : has key ≡ true → new key ≡ true → (k : Key) → users k ≡ cond (new k) 1 0
     same_users was there k = elim (tells cmp total exact k key) [
-      | inl same ↦ ap users same.1 ∙ one key ∙ ap (λ b. cond b 1 0) (was ∙ sym there) ∙ sym (ap (λ k. cond (has_ids cmp new k) 1 0) same.1)
+      | inl same ↦ ap users same.1 ∙ one key ∙ ap (λ b. cond b 1 0) (was ∙ sym there) ∙ sym (ap (λ k. cond (new k) 1 0) same.1)
       | inr apart ↦ one k ∙ ap (λ b. cond b 1 0) (sym (alike k apart.0))
     ]
 
-    pub less_users : has_ids cmp by_key key ≡ true → has_ids cmp new key ≡ false → OneLess cmp key users next → (k : Key) → next k ≡ cond (has_ids cmp new k) 1 0
+    pub less_users : has key ≡ true → new key ≡ false → OneLess cmp key users next → (k : Key) → next k ≡ cond (new k) 1 0
     less_users was gone less =
         let one_was : users key ≡ 1 = one key ∙ ap (λ b. cond b 1 0) was in
         moved (less key ∙ (λ i. one_was i - cond (is_itself cmp total exact key i) 1 0) ∙ sym (ap (λ b. cond b 1 0) gone))

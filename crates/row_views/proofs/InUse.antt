@@ -15,12 +15,12 @@ use Rattle.view_rules.proofs.Among.{Among, among_found, among_from, contained, f
 use Rattle.mark_rules.specs.Rows.{rows}
 use Rattle.mark_rules.specs.declared.keys.RowKey.{RowKey}
 use Rattle.row_table.specs.IndexRows.{has_key}
-use Rattle.row_views.specs.Ids.{has_ids, key_at}
+use Rattle.row_views.specs.Ids.{is_open, key_at}
 use Rattle.row_views.specs.InUse.{AreInUse, IsInUse, users_if}
 use Rattle.row_views.specs.Queries.{rows_at}
 use Rattle.row_views.specs.Standing.{Standing}
 use Rattle.row_views.proofs.Costs.{among_has, has_among, in_use}
-use Rattle.row_views.proofs.Ids.{id_there}
+use Rattle.row_views.proofs.Numbers.{open_there}
 
 -- of views that stand for something, of which it isn't said how they do
 pub in_use_of : {A : Type 0} {config : Config} {held : ObjectMap} {queries : ℕ → Option Query} {users : RowKey → ℕ} → ∥ A ∥₁ → (A → AreInUse config held queries users) → AreInUse config held queries users
@@ -57,17 +57,17 @@ module _ {Key : Type 0} (cmp : Key → Key → Ordering) (total : IsTotalOrder c
 
 -- ---- ids with one key each
 
-module _ {Index Key : Type 0} (cmp : Key → Key → Ordering) (total : IsTotalOrder cmp) (exact : IsAntisymmetric cmp) (users : Index → Key → ℕ) (stand : Index → ObjectMap → Type 0) (row : Key → RowKey) (query_for : Key → Query) (config : Config) (held : ObjectMap)
-    (index : Index) (by_key : BTreeMap Key (BTreeSet ℕ)) (by_id : BTreeMap ℕ Key) (st : Standing cmp users stand held index by_key by_id) where
+module _ {Index Key : Type 0} (cmp : Key → Key → Ordering) (total : IsTotalOrder cmp) (exact : IsAntisymmetric cmp) (users : Index → Key → ℕ) (number_at : Index → Key → Option ℕ) (stand : Index → ObjectMap → Type 0) (row : Key → RowKey) (query_for : Key → Query) (config : Config) (held : ObjectMap)
+    (index : Index) (by_number : BTreeMap ℕ (BTreeSet ℕ)) (by_id : BTreeMap ℕ Key) (st : Standing cmp users number_at stand held index by_number by_id) where
   abbrev asked_by : ℕ → Option Query
   asked_by id = option_map query_for (key_at by_id id)
 
   has_user : (id : ℕ) (key : Key) → key_at by_id id ≡ Some key → users index key ≡ 1
-  has_user id key is = st.one_user key ∙ ap (λ b. cond b 1 0) (id_there cmp total exact by_key by_id st.tied id key is)
+  has_user id key is = st.one_user key ∙ ap (λ b. cond b 1 0) (open_there cmp total exact (number_at index) by_number by_id st.tied id key is)
 
   -- a row with users is of the query of an id
   pub used_row : ((key : Key) → Contains (rows config held (query_for key)) (row key)) → (key : Key) → 0 < users index key → IsInUse config held asked_by (row key)
-  used_row own key some = in_use cmp total exact row query_for config held own by_key by_id st.tied key (is_used (users index key) (has_ids cmp by_key key) (st.one_user key) some)
+  used_row own key some = in_use cmp total exact row query_for config held own (number_at index) by_number by_id st.tied key (is_used (users index key) (is_open (number_at index) by_number key) (st.one_user key) some)
 
   -- and one without is of none
   pub unused_row : ((asked key : Key) → Contains (rows config held (query_for asked)) (row key) → asked ≡ key) → (key : Key) → users index key ≡ 0 → IsInUse config held asked_by (row key) → ⊥

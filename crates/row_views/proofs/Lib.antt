@@ -1,6 +1,7 @@
 pub mod Costs
 pub mod Ids
 pub mod InUse
+pub mod Numbers
 pub mod RowQueries
 pub mod Standing
 pub mod Truncated

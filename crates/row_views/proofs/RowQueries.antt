@@ -20,7 +20,7 @@ use Rattle.mark_rules.specs.Rows.{rows}
 use Rattle.mark_rules.specs.declared.keys.RowKey.{RowKey}
 use Rattle.row_table.specs.IndexRows.{Filter}
 use Rattle.row_views.specs.Costs.{FollowedRows, open_cost}
-use Rattle.row_views.specs.Ids.{AreTied, has_ids, key_at}
+use Rattle.row_views.specs.Ids.{AreTied, is_open, key_at}
 use Rattle.row_views.specs.Queries.{reads_one, rows_at, view_at}
 use Rattle.row_views.specs.Standing.{FollowCost, is_met}
 use Rattle.row_views.proofs.Costs.{followed, in_use, opened_within}
@@ -51,11 +51,11 @@ module _ {Key Row : Type 0} (kept : Filter Key Row) (query_for : Key → Query) 
         opened_within used config held (row key) query (filter.reads held key) old new (ap (rows_at config held) (sym is) ∙ only held key) (reading held key ∙ ap (λ f. f.reads held key) (sym same)) most
 
     -- and as a change is followed
-    module _ (cmp : Key → Key → Ordering) (total : IsTotalOrder cmp) (exact : IsAntisymmetric cmp) (row_exact : (a b : Key) → row a ≡ row b → a ≡ b) (before after : ObjectMap) (changed : List Mark) (by_key : BTreeMap Key (BTreeSet ℕ)) (by_id : BTreeMap ℕ Key) where
+    module _ (cmp : Key → Key → Ordering) (total : IsTotalOrder cmp) (exact : IsAntisymmetric cmp) (row_exact : (a b : Key) → row a ≡ row b → a ≡ b) (before after : ObjectMap) (changed : List Mark) (number_at : Key → Option ℕ) (by_number : BTreeMap ℕ (BTreeSet ℕ)) (by_id : BTreeMap ℕ Key) where
       own : (key : Key) → Contains (rows config before (query_for key)) (row key)
       own key = subst (λ (keys : List RowKey). Contains keys (row key)) (sym (only before key)) (0, omega arith, refl)
 
-      pub followed_as_asked : AreTied cmp by_key by_id → (filter : Filter Key Row) → filter ≡ kept → (old new : ℕ) → FollowCost filter cmp (has_ids cmp by_key) changed before after old new → FollowedRows config changed before after (λ id. option_map query_for (key_at by_id id)) old new
+      pub followed_as_asked : AreTied cmp number_at by_number by_id → (filter : Filter Key Row) → filter ≡ kept → (old new : ℕ) → FollowCost filter cmp (is_open number_at by_number) changed before after old new → FollowedRows config changed before after (λ id. option_map query_for (key_at by_id id)) old new
       followed_as_asked tied filter same old new most =
-          followed cmp total exact row row_exact kept config reading before after changed (λ id. option_map query_for (key_at by_id id)) (has_ids cmp by_key) (in_use cmp total exact row query_for config before own by_key by_id tied) old new
-          (subst (λ (f : Filter Key Row). FollowCost f cmp (has_ids cmp by_key) changed before after old new) same most)
+          followed cmp total exact row row_exact kept config reading before after changed (λ id. option_map query_for (key_at by_id id)) (is_open number_at by_number) (in_use cmp total exact row query_for config before own number_at by_number by_id tied) old new
+          (subst (λ (f : Filter Key Row). FollowCost f cmp (is_open number_at by_number) changed before after old new) same most)

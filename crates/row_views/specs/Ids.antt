@@ -8,6 +8,8 @@ use Rattle.std.specs.declared.cmp.Ordering.{Ordering}
 use Rattle.mark_graph.specs.RowMarks.{AllHaveRows, has_rows, row_at}
 use Rattle.row_table.specs.IndexRows.{OneMore, has_key}
 
+-- ---- what is at ids
+
 -- this is at the id, and at each other id what was
 abbrev pub SetsAt : {X : Type 0} → ℕ → X → (ℕ → X) → (ℕ → X) → Type 0
 SetsAt id value old new = (n : ℕ) → new n ≡ (if nat_eq n id then value else old n)
@@ -19,6 +21,34 @@ Keeps old new = (id : ℕ) → new id ≡ old id
 -- the key that an id is open with
 abbrev pub key_at : {Key : Type 0} → BTreeMap ℕ Key → ℕ → Option Key
 key_at by_id id = tree.get nat_cmp by_id id
+
+-- ---- the ids of rows that have numbers
+
+-- it is this number, if there is one
+abbrev pub is_number : Option ℕ → ℕ → Bool
+is_number None number = false
+is_number (Some n) number = eq_by_cmp nat_cmp n number
+
+-- the number of a key, if there is one
+abbrev pub number_of : {Key : Type 0} → (Key → Option ℕ) → Option Key → Option ℕ
+number_of number_at None = None
+number_of number_at (Some key) = number_at key
+
+-- the id stands at the number, if there is one
+abbrev pub id_at : BTreeMap ℕ (BTreeSet ℕ) → Option ℕ → ℕ → Bool
+id_at by_number None id = false
+id_at by_number (Some number) id = row_at nat_cmp by_number number id
+
+-- ids stand at the number, if there is one
+abbrev pub has_ids_at : BTreeMap ℕ (BTreeSet ℕ) → Option ℕ → Bool
+has_ids_at by_number None = false
+has_ids_at by_number (Some number) = has_rows nat_cmp by_number number
+
+-- ids are open with the key
+abbrev pub is_open : {Key : Type 0} → (Key → Option ℕ) → BTreeMap ℕ (BTreeSet ℕ) → Key → Bool
+is_open number_at by_number key = has_ids_at by_number (number_at key)
+
+-- ---- the ids of keys
 
 module _ {Key : Type 0} (cmp : Key → Key → Ordering) where
   -- it is this key
@@ -35,10 +65,12 @@ module _ {Key : Type 0} (cmp : Key → Key → Ordering) where
   abbrev pub has_ids : BTreeMap Key (BTreeSet ℕ) → Key → Bool
   has_ids by_key key = has_rows cmp by_key key
 
-  -- Each id stands at the key that it is open with, and at no other. A key that is kept has an id.
-  pub record AreTied (by_key : BTreeMap Key (BTreeSet ℕ)) (by_id : BTreeMap ℕ Key) : Type 0 where
-    pub ids : (key : Key) (id : ℕ) → row_at cmp by_key key id ≡ is_key key (key_at by_id id)
-    pub each : AllHaveRows cmp by_key
+  -- The ids at the number of a key are those that are open with it. An id stands at the number of its key alone. A number that is
+  -- kept has an id.
+  pub record AreTied (number_at : Key → Option ℕ) (by_number : BTreeMap ℕ (BTreeSet ℕ)) (by_id : BTreeMap ℕ Key) : Type 0 where
+    pub ids : (key : Key) (id : ℕ) → id_at by_number (number_at key) id ≡ is_key key (key_at by_id id)
+    pub alone : (number id : ℕ) → row_at nat_cmp by_number number id ≡ true → number_of number_at (key_at by_id id) ≡ Some number
+    pub each : AllHaveRows nat_cmp by_number
 
   -- the key has a user more, unless it has ids, and each other key has as many
   abbrev pub OneMoreUnless : Bool → Key → (Key → ℕ) → (Key → ℕ) → Type 0

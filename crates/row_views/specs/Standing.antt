@@ -10,13 +10,13 @@ use Rattle.view_types.specs.declared.mark.Mark.{Mark}
 use Rattle.mark_rules.specs.Marks.{meets}
 use Rattle.mark_rules.specs.Reads.{cost}
 use Rattle.row_table.specs.IndexRows.{Filter}
-use Rattle.row_views.specs.Ids.{AreTied, has_ids}
+use Rattle.row_views.specs.Ids.{AreTied, is_open}
 
 -- The index stands for the objects held, and the keys with users are those that ids are open with.
-pub record Standing {Index Key : Type 0} (cmp : Key → Key → Ordering) (users : Index → Key → ℕ) (stand : Index → ObjectMap → Type 0) (held : ObjectMap) (index : Index) (by_key : BTreeMap Key (BTreeSet ℕ)) (by_id : BTreeMap ℕ Key) : Type 0 where
+pub record Standing {Index Key : Type 0} (cmp : Key → Key → Ordering) (users : Index → Key → ℕ) (number_at : Index → Key → Option ℕ) (stand : Index → ObjectMap → Type 0) (held : ObjectMap) (index : Index) (by_number : BTreeMap ℕ (BTreeSet ℕ)) (by_id : BTreeMap ℕ Key) : Type 0 where
   pub rows : stand index held
-  pub one_user : (key : Key) → users index key ≡ (if has_ids cmp by_key key then 1 else 0)
-  pub tied : AreTied cmp by_key by_id
+  pub one_user : (key : Key) → users index key ≡ (if is_open (number_at index) by_number key then 1 else 0)
+  pub tied : AreTied cmp (number_at index) by_number by_id
 
 module _ {Key Row : Type 0} (filter : Filter Key Row) where
   -- the row of a key, if there is one, reads a mark of a change
@@ -36,7 +36,7 @@ module _ {Key Row : Type 0} (filter : Filter Key Row) where
     pub most : new ≤ old + sum_by (λ key. cost after (filter.reads after key)) keys
 
 -- The rows stand for the objects held, and are those of this filter.
-pub record AreKept {Index Key Row : Type 0} (cmp : Key → Key → Ordering) (users : Index → Key → ℕ) (stand : Index → ObjectMap → Type 0) (filter_of : Index → Filter Key Row) (filter : Filter Key Row)
-    (held : ObjectMap) (index : Index) (by_key : BTreeMap Key (BTreeSet ℕ)) (by_id : BTreeMap ℕ Key) : Type 0 where
-  pub rows : Standing cmp users stand held index by_key by_id
+pub record AreKept {Index Key Row : Type 0} (cmp : Key → Key → Ordering) (users : Index → Key → ℕ) (number_at : Index → Key → Option ℕ) (stand : Index → ObjectMap → Type 0) (filter_of : Index → Filter Key Row) (filter : Filter Key Row)
+    (held : ObjectMap) (index : Index) (by_number : BTreeMap ℕ (BTreeSet ℕ)) (by_id : BTreeMap ℕ Key) : Type 0 where
+  pub rows : Standing cmp users number_at stand held index by_number by_id
   pub filtered : filter_of index ≡ filter

@@ -1,14 +1,15 @@
 // The rows of the keys that ids are open with.
-ghost use Rattle.std.specs.Prelude.{◌≡◌, ◌≤◌, ◌+◌, ℕ, false, None, Some, IfOk, OnErr, OnOk, if◌then◌else◌, nat_lt, option_map};
+ghost use Rattle.std.specs.Prelude.{◌≡◌, ◌≤◌, ◌+◌, ◌++◌, ℕ, false, None, Some, IfOk, OnErr, OnOk, filter_map, if◌then◌else◌, is_some, nat_lt, option_map, option_to_list};
 ghost use Rattle.std.specs.List.Sorted.{IsStrictlySortedBy};
 ghost use Rattle.std.specs.Option.{option_copied};
 ghost use Rattle.std.specs.Ordering.{nat_cmp};
 ghost use Rattle.view_types.specs.Objects.{ObjectMap};
-ghost use Rattle.mark_graph.specs.RowMarks.{has_row};
+ghost use Rattle.mark_graph.specs.RowMarks.{AddsRow, AllHaveRows, RemovesRow, has_row};
 ghost use Rattle.mark_rules.specs.Changes.{Leads};
 ghost use Rattle.mark_rules.specs.Reads.{cost};
+ghost use Rattle.row_table.specs.IndexRows.{KeepNumbers};
 ghost use Rattle.row_table.specs.PeekedRow.{peeked_row};
-ghost use Rattle.row_views.specs.Ids.{Keeps, OneMoreUnless, SetsAt, has_ids, is_one_of, key_at};
+ghost use Rattle.row_views.specs.Ids.{Keeps, OneMoreUnless, SetsAt, has_ids_at, is_number, is_one_of, is_open, key_at};
 ghost use Rattle.row_views.specs.Standing.{FollowCost, HasSameRow, Standing, is_met};
 
 use mark_graph::by_mark::{put_one, rows_at, take_one};
@@ -33,8 +34,8 @@ where
 {
     /// Each key that has ids is one user of its row.
     index: I,
-    /// The ids of each key.
-    by_key: BTreeMap<I::Key, SortedSet<u64>>,
+    /// The ids of each row, by its number.
+    by_number: BTreeMap<u64, SortedSet<u64>>,
     /// The key of each id.
     by_id: BTreeMap<u64, I::Key>,
     alloc: Global,
@@ -49,12 +50,12 @@ where
         requires { (key : I.Key) → I.users index key ≡ 0 }
         ensures index { result.index ≡ index }
         ensures keys { (id : ℕ) → key_at result.by_id id ≡ None }
-        ensures stands { (held : ObjectMap) → I.stands index held
-            → Standing I.Key.Ord.cmp I.users I.stands held index result.by_key result.by_id }
+        ensures stands { (held : ObjectMap) → I.stands index held → Standing I.Key.Ord.cmp I.users
+            I.number_at I.stands held index result.by_number result.by_id }
     {
         RowViews {
             index,
-            by_key: BTreeMap::new(alloc),
+            by_number: BTreeMap::new(alloc),
             by_id: BTreeMap::new(alloc),
             alloc,
         }
@@ -71,55 +72,65 @@ where
         requires free { key_at self.old.by_id id ≡ None }
         ensures keys { OnOk result
             (SetsAt id (Some key) (key_at self.old.by_id) (key_at self.new.by_id)) }
-        ensures stands { OnOk result (Standing I.Key.Ord.cmp I.users I.stands store.now.objects
-            self.old.index self.old.by_key self.old.by_id → Standing I.Key.Ord.cmp I.users
-            I.stands store.now.objects self.new.index self.new.by_key self.new.by_id) }
-        ensures steps { Standing I.Key.Ord.cmp I.users I.stands store.now.objects self.old.index
-            self.old.by_key self.old.by_id → steps.new ≤ steps.old
-            + (if nat_lt 0 (I.users self.old.index key) then 0 else cost store.now.objects
-            ((I.filter self.old.index).reads store.now.objects key)) }
+        ensures stands { OnOk result (Standing I.Key.Ord.cmp I.users I.number_at I.stands
+            store.now.objects self.old.index self.old.by_number self.old.by_id → Standing
+            I.Key.Ord.cmp I.users I.number_at I.stands store.now.objects self.new.index
+            self.new.by_number self.new.by_id) }
+        ensures steps { Standing I.Key.Ord.cmp I.users I.number_at I.stands store.now.objects
+            self.old.index self.old.by_number self.old.by_id → steps.new ≤ steps.old + (if nat_lt 0
+            (I.users self.old.index key) then 0 else cost store.now.objects ((I.filter
+            self.old.index).reads store.now.objects key)) }
         ensures filter { I.filter self.new.index ≡ I.filter self.old.index }
         ensures kept { OnErr result (Keeps (key_at self.old.by_id) (key_at self.new.by_id)) }
     {
-        self.enter(store, &key, steps)?;
-        put_one(self.alloc, &mut self.by_key, &key, id)?;
+        let number = self.enter(store, &key, steps)?;
+        put_at(self.alloc, &mut self.by_number, number, id)?;
         self.by_id.insert(id, key)?;
         Ok(())
     }
 
-    // Lets the key be a user of its row, if it has no ids yet.
-    fn enter<L>(&mut self, store: &Store, key: &I::Key, steps: &mut Steps<L>) -> Result<(), Memory>
+    // Lets the key be a user of its row, if it has no ids yet. Gives the number of the row.
+    fn enter<L>(
+        &mut self,
+        store: &Store,
+        key: &I::Key,
+        steps: &mut Steps<L>,
+    ) -> Result<Option<u64>, Memory>
+        ensures number { IfOk result (λ number. number ≡ I.number_at self.new.index key.now) }
         ensures users { OnOk result (OneMoreUnless I.Key.Ord.cmp
-            (has_ids I.Key.Ord.cmp self.old.by_key key.now) key.now (I.users self.old.index)
+            (is_some (I.number_at self.old.index key.now)) key.now (I.users self.old.index)
             (I.users self.new.index)) }
         ensures stands { OnOk result (I.stands self.old.index store.now.objects
             → I.stands self.new.index store.now.objects) }
-        ensures steps { steps.new ≤ steps.old
-            + (if has_ids I.Key.Ord.cmp self.old.by_key key.now then 0 else cost store.now.objects
+        ensures numbers { OnOk result (I.stands self.old.index store.now.objects
+            → KeepNumbers (I.number_at self.old.index) (I.number_at self.new.index)) }
+        ensures steps { steps.new ≤ steps.old + (if nat_lt 0 (I.users self.old.index key.now)
+            then 0 else cost store.now.objects
             ((I.filter self.old.index).reads store.now.objects key.now)) }
         ensures filter { I.filter self.new.index ≡ I.filter self.old.index }
-        ensures by_key { self.new.by_key ≡ self.old.by_key }
+        ensures by_number { self.new.by_number ≡ self.old.by_number }
         ensures by_id { self.new.by_id ≡ self.old.by_id }
     {
-        if self.by_key.contains_key(key) {
-            return Ok(());
+        if let Some(number) = self.index.number(key) {
+            return Ok(Some(number));
         }
-        self.index.enter(store, key.copy(self.alloc)?, steps)
+        self.index.enter(store, key.copy(self.alloc)?, steps)?;
+        Ok(self.index.number(key))
     }
 
     /// Closes an id, if it is open. It allocates nothing.
     pub fn close(&mut self, id: u64)
         ensures keys { SetsAt id None (key_at self.old.by_id) (key_at self.new.by_id) }
-        ensures stands { (held : ObjectMap) → Standing I.Key.Ord.cmp I.users I.stands held
-            self.old.index self.old.by_key self.old.by_id → Standing I.Key.Ord.cmp I.users
-            I.stands held self.new.index self.new.by_key self.new.by_id }
+        ensures stands { (held : ObjectMap) → Standing I.Key.Ord.cmp I.users I.number_at I.stands
+            held self.old.index self.old.by_number self.old.by_id → Standing I.Key.Ord.cmp I.users
+            I.number_at I.stands held self.new.index self.new.by_number self.new.by_id }
         ensures filter { I.filter self.new.index ≡ I.filter self.old.index }
     {
         let Some(key) = self.by_id.remove(&id) else {
             return;
         };
-        take_one(&mut self.by_key, &key, id);
-        if !self.by_key.contains_key(&key) {
+        let number = self.index.number(&key);
+        if !take_at(&mut self.by_number, number, id) {
             self.index.leave(&key);
         }
     }
@@ -132,40 +143,51 @@ where
         steps: &mut Steps<L>,
     ) -> Result<List<u64>, Memory>
         ensures touched { IfOk result (λ ids. (held : ObjectMap) → Standing I.Key.Ord.cmp I.users
-            I.stands held self.old.index self.old.by_key self.old.by_id → (id : ℕ)
-            → has_row id ids ≡ is_met (I.filter self.old.index) held change.now.marks
-            (key_at self.old.by_id id)) }
+            I.number_at I.stands held self.old.index self.old.by_number self.old.by_id → (id : ℕ) →
+            has_row id ids ≡ is_met (I.filter self.old.index) held change.now.marks (key_at
+            self.old.by_id id)) }
         ensures in_order { IfOk result (λ ids. IsStrictlySortedBy nat_cmp ids) }
-        ensures differ { OnOk result ((held : ObjectMap) → Standing I.Key.Ord.cmp I.users I.stands
-            held self.old.index self.old.by_key self.old.by_id
-            → Leads change.now.marks held store.now.objects → (id : ℕ)
-            → is_one_of I.Key.Ord.cmp (I.differing self.new.index) (key_at self.old.by_id id)
-            ≡ false → HasSameRow (I.filter self.old.index) held store.now.objects
-            (key_at self.old.by_id id)) }
-        ensures stands { OnOk result ((held : ObjectMap) → Standing I.Key.Ord.cmp I.users I.stands
-            held self.old.index self.old.by_key self.old.by_id
-            → Leads change.now.marks held store.now.objects → Standing I.Key.Ord.cmp I.users
-            I.stands store.now.objects self.new.index self.new.by_key self.new.by_id) }
-        ensures steps { OnOk result ((held : ObjectMap) → Standing I.Key.Ord.cmp I.users I.stands
-            held self.old.index self.old.by_key self.old.by_id
-            → FollowCost (I.filter self.old.index) I.Key.Ord.cmp
-            (has_ids I.Key.Ord.cmp self.old.by_key) change.now.marks held store.now.objects
-            steps.old steps.new) }
+        ensures differ { OnOk result ((held : ObjectMap) → Standing I.Key.Ord.cmp I.users
+            I.number_at I.stands held self.old.index self.old.by_number self.old.by_id → Leads
+            change.now.marks held store.now.objects → (id : ℕ) → is_one_of I.Key.Ord.cmp
+            (I.differing self.new.index) (key_at self.old.by_id id) ≡ false → HasSameRow (I.filter
+            self.old.index) held store.now.objects (key_at self.old.by_id id)) }
+        ensures stands { OnOk result ((held : ObjectMap) → Standing I.Key.Ord.cmp I.users
+            I.number_at I.stands held self.old.index self.old.by_number self.old.by_id → Leads
+            change.now.marks held store.now.objects → Standing I.Key.Ord.cmp I.users I.number_at
+            I.stands store.now.objects self.new.index self.new.by_number self.new.by_id) }
+        ensures steps { OnOk result ((held : ObjectMap) → Standing I.Key.Ord.cmp I.users I.number_at
+            I.stands held self.old.index self.old.by_number self.old.by_id → FollowCost (I.filter
+            self.old.index) I.Key.Ord.cmp (is_open (I.number_at self.old.index) self.old.by_number)
+            change.now.marks held store.now.objects steps.old steps.new) }
         ensures filter { I.filter self.new.index ≡ I.filter self.old.index }
         ensures keys { self.new.by_id ≡ self.old.by_id }
     {
-        let keys = self.index.on_change(store, change, steps)?;
-        rows_at(self.alloc, &self.by_key, keys.as_slice())
+        self.index.on_change(store, change, steps)?;
+        rows_at(self.alloc, &self.by_number, self.index.met())
     }
 
     /// The ids of those keys whose rows may be others than before the last change. All others have the rows that they had.
     pub fn differing(&self) -> Result<List<u64>, Memory>
-        ensures { IfOk result (λ ids. (held : ObjectMap) → Standing I.Key.Ord.cmp I.users I.stands
-            held self.now.index self.now.by_key self.now.by_id → (id : ℕ)
-            → has_row id ids ≡ is_one_of I.Key.Ord.cmp (I.differing self.now.index)
-            (key_at self.now.by_id id)) }
+        ensures { IfOk result (λ ids. (held : ObjectMap) → Standing I.Key.Ord.cmp I.users
+            I.number_at I.stands held self.now.index self.now.by_number self.now.by_id → (id : ℕ) →
+            has_row id ids ≡ is_one_of I.Key.Ord.cmp (I.differing self.now.index) (key_at
+            self.now.by_id id)) }
     {
-        rows_at(self.alloc, &self.by_key, self.index.differing())
+        let numbers = self.numbers_of(self.index.differing())?;
+        rows_at(self.alloc, &self.by_number, numbers.as_slice())
+    }
+
+    // The numbers of the rows of these keys, without those that have no users.
+    fn numbers_of(&self, keys: &[I::Key]) -> Result<List<u64>, Memory>
+        ensures { IfOk result (λ numbers.
+            numbers ≡ filter_map (I.number_at self.now.index) keys.now) }
+    {
+        let mut numbers = List::new(self.alloc);
+        for key in keys {
+            add_number(&mut numbers, self.index.number(key))?;
+        }
+        Ok(numbers)
     }
 
     /// The key that an id is open with.
@@ -177,9 +199,9 @@ where
 
     /// The row of the key that an id is open with.
     pub fn row(&self, id: u64) -> Option<&I::Row>
-        ensures { (held : ObjectMap) → Standing I.Key.Ord.cmp I.users I.stands held self.now.index
-            self.now.by_key self.now.by_id → option_copied result
-            ≡ option_map ((I.filter self.now.index).row_of held) (key_at self.now.by_id id) }
+        ensures { (held : ObjectMap) → Standing I.Key.Ord.cmp I.users I.number_at I.stands held
+            self.now.index self.now.by_number self.now.by_id → option_copied result ≡ option_map
+            ((I.filter self.now.index).row_of held) (key_at self.now.by_id id) }
     {
         match self.by_id.get(&id) {
             Some(key) => self.index.row(key),
@@ -194,13 +216,53 @@ where
         key: &I::Key,
         steps: &mut Steps<L>,
     ) -> Result<Peeked<'_, I::Row>, Memory>
-        ensures row { IfOk result (λ peeked. Standing I.Key.Ord.cmp I.users I.stands
-            store.now.objects self.now.index self.now.by_key self.now.by_id → peeked_row peeked
+        ensures row { IfOk result (λ peeked. Standing I.Key.Ord.cmp I.users I.number_at I.stands
+            store.now.objects self.now.index self.now.by_number self.now.by_id → peeked_row peeked
             ≡ (I.filter self.now.index).row_of store.now.objects key.now) }
         ensures steps { steps.new ≤ steps.old + (if nat_lt 0 (I.users self.now.index key.now)
             then 0 else cost store.now.objects
             ((I.filter self.now.index).reads store.now.objects key.now)) }
     {
         self.index.peek(store, key, steps)
+    }
+}
+
+// Puts the id at the number, if there is one.
+fn put_at(
+    alloc: Global,
+    by: &mut BTreeMap<u64, SortedSet<u64>>,
+    number: Option<u64>,
+    id: u64,
+) -> Result<(), Memory>
+    ensures added { OnOk result (AddsRow nat_cmp (is_number number) id by.old by.new) }
+    ensures kept { AllHaveRows nat_cmp by.old → OnOk result (AllHaveRows nat_cmp by.new) }
+{
+    match number {
+        Some(number) => {
+            put_one(alloc, by, &number, id)?;
+            Ok(())
+        }
+        None => Ok(()),
+    }
+}
+
+// Removes the id from the number, if there is one. Answers whether others are left there.
+fn take_at(by: &mut BTreeMap<u64, SortedSet<u64>>, number: Option<u64>, id: u64) -> bool
+    ensures taken { RemovesRow nat_cmp (is_number number) id by.old by.new }
+    ensures kept { AllHaveRows nat_cmp by.old → AllHaveRows nat_cmp by.new }
+    ensures others { result ≡ has_ids_at by.new number }
+{
+    match number {
+        Some(number) => take_one(by, &number, id),
+        None => false,
+    }
+}
+
+fn add_number(numbers: &mut List<u64>, number: Option<u64>) -> Result<(), Memory>
+    ensures { OnOk result (numbers.new ≡ numbers.old ++ option_to_list number) }
+{
+    match number {
+        Some(number) => numbers.add(number),
+        None => Ok(()),
     }
 }

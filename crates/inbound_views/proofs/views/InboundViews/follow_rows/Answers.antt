@@ -71,7 +71,7 @@ returns-clause-steps g c = λ config held kept.
     record {
       first = c.follow.new.steps;
       second = c.follow-2.new.steps;
-      servers = follows_as _ _ kept.servers.filtered server_cmp (uses_server self) marks held after c.args.steps.now c.follow.new.steps (c.in_ok-asked.ensures.steps held kept.servers.rows);
+      servers = follows_as _ _ kept.servers.filtered server_cmp (uses_server _ self) marks held after c.args.steps.now c.follow.new.steps (c.in_ok-asked.ensures.steps held kept.servers.rows);
       routes = follows_as _ _ kept.routes.filtered route_cmp (uses_routes self) marks held after c.follow.new.steps c.follow-2.new.steps (c.in_ok-rerouted.ensures.steps held kept.routes.rows);
       authz = follows_as _ _ kept.authz.filtered key_cmp (uses_authz self) marks held after c.follow-2.new.steps c.follow-3.new.steps (c.in_ok-authorized.ensures.steps held kept.authz.rows);
     }

@@ -67,7 +67,7 @@ returns-clause-steps g c = λ config held old leads. map_truncated old (λ joine
     let sets = c.in_ok-set_all.ensures.set config kept_mid in
     let asked : (id : ℕ) → query_at first id ≡ query_at mid id = same_queries mid first (same_ports mid first c.set_all.ensures.servers) in
     let last = c.in_ok-set_all-2.ensures.none_entered config refl sets.kept (λ id has. subst (λ (query : Option Query). HasRowsOf config after query first id) (sym (asked id)) (sets.covered id (ap (has_row id) (c.as_slice.ensures ∙ sym c.as_slice-2.ensures) ∙ has))) in
-    follow_cost ghosts.stand config c.args.change.now.marks held after self mid joined joined.kept.servers.rows.tied
+    follow_cost ghosts.stand config c.args.change.now.marks held after self mid joined _ joined.kept.servers.rows.tied
     (user_of route_cmp route_laws.total-law route_keys_exact _ _ held _ _ _ joined.kept.routes.rows)
     (user_of key_cmp key_laws.total-law authz_keys_exact _ _ held _ _ _ joined.kept.authz.rows)
     (λ id key has. used_by route_cmp route_laws.total-law route_keys_exact _ _ after _ _ _ kept_mid.routes.rows id key (ap (λ (by_id : BTreeMap ℕ (List RouteKey)). has_key route_cmp (keys_at by_id id) key) c.in_ok-touched.ensures.routes ∙ has))

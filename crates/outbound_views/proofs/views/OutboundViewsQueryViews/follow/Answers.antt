@@ -19,5 +19,5 @@ pub returns-clause-steps : goal.returns-clause-steps
 returns-clause-steps g c =
     let rows = c.args.self.now.rows in
     on_ok_weaker c.follow.result (λ most config held old leads. map_truncated old (λ kept.
-    followed_is config held c.args.store.now.objects c.args.change.now.marks rows.by_key rows.by_id kept.rows.tied _ kept.filtered c.args.steps.now c.follow.new.steps (most held kept.rows)))
+    followed_is config held c.args.store.now.objects c.args.change.now.marks _ rows.by_number rows.by_id kept.rows.tied _ kept.filtered c.args.steps.now c.follow.new.steps (most held kept.rows)))
     c.follow.ensures.steps
