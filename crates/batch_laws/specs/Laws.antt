@@ -1,4 +1,4 @@
--- What a batch carries, and what is seen by folding it.
+-- The contents of a batch, and the result of folding it.
 use Rattle.std.specs.Prelude.{◌≡◌, ◌+◌, ◌<◌, ◌≤◌, ℕ, List, [], Option, Some, None, length, slice_index_or, All, flat_map}
 use Rattle.mesh_base.specs.declared.limits.Limits.{Limits}
 use Rattle.net_cidr.specs.declared.ip.Ip.{Ip}
@@ -13,13 +13,13 @@ use Rattle.view_rules.specs.Batch.{batch, in_pieces}
 use Rattle.view_rules.specs.Fold.{IsOrderlyIfShown, folded_onto}
 use Rattle.view_rules.specs.Views.{view_before, view_of}
 
--- the items of the pieces are the items
+-- the pieces joined are the items
 pub record IsCut {X : Type 0} (size : ℕ) (items : List X) (pieces : List (List X)) : Type 0 where
   pub joined : flat_map (λ piece. piece) pieces ≡ items
-  -- each piece but the last has exactly as many as may be, and the last no more
+  -- each piece except the last has exactly `size` items, and the last no more
   pub full : (k : ℕ) (d : List X) → k + 1 < length pieces → length (slice_index_or pieces k d) ≡ size
   pub within : All (λ piece. length piece ≤ size) pieces
-  -- none is without
+  -- no piece is empty
   pub some : All (λ piece. 0 < length piece) pieces
 
 abbrev pub RowsAreCut : Type 0
@@ -34,23 +34,23 @@ AuthzIsCut = (size : ℕ) (rows : List AuthzRow) → 1 ≤ size → IsCut size r
 abbrev pub AuthzKeysAreCut : Type 0
 AuthzKeysAreCut = (size : ℕ) (keys : List AuthzKey) → 1 ≤ size → IsCut size keys (in_pieces size keys)
 
--- Folding the messages of a batch on top of the old view, if there was one, gives the new view. The views need not come from
--- objects: their rows are in order, each key once, and a Service that isn't there has none.
+-- Folding the messages of a batch over the old view, if there was one, gives the new view. The views need not be those of objects, but
+-- their rows must be in order, each key once, and a Service that does not exist must have none.
 abbrev pub BatchesFold : Type 0
 BatchesFold = (old : Option View) (new : View) (limits : Limits) → 1 ≤ limits.frame_addrs → IsOrderlyIfShown old → IsOrderlyIfShown (Some new)
     → folded_onto old (batch old new limits) ≡ Some new
 
--- each object that was held, if there was such a moment, stood at its own key
+-- each object that was held then, if anything was, was held under its own key
 abbrev pub WereAtKeys : Option ObjectMap → Type 0
 WereAtKeys None = Unit {0}
 WereAtKeys (Some held) = AtKeys held
 
--- Whatever was held when a query's view was last shown, if it was, and whatever is held now, folding the messages of the
--- query on top of the view then gives the view now.
+-- Whatever objects were held when the view of a query was last shown, if it was, and whatever objects are held now, folding the messages
+-- of the query over the old view gives the new one.
 abbrev pub MessagesFold : Type 0
 MessagesFold = (config : Config) (before : Option ObjectMap) (held : ObjectMap) (query : Query) (limits : Limits) → 1 ≤ limits.frame_addrs → WereAtKeys before → AtKeys held
     → folded_onto (view_before config query before) (batch (view_before config query before) (view_of config held query) limits) ≡ Some (view_of config held query)
 
--- No message leads from a view to itself.
+-- The batch from a view to itself is empty.
 abbrev pub SameViewSendsNothing : Type 0
 SameViewSendsNothing = (view : View) (limits : Limits) → batch (Some view) view limits ≡ []

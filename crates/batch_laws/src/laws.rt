@@ -5,34 +5,34 @@ use view_rules::laws::{
     same_server_decides,
 };
 
-/// The messages that add rows have as many each as may be, but for the last.
+/// States that each message that adds rows has as many rows as the limit, except that the last may have fewer.
 pub fn rows_are_cut()
     ensures { RowsAreCut }
 {}
 
-/// So have those that take addresses out.
+/// States the same for the messages that remove addresses.
 pub fn pairs_are_cut()
     ensures { PairsAreCut }
 {}
 
-/// So have the messages that put authorizations, and those that take kinds and names out.
+/// States the same for the messages that add authorizations, and for those that remove kinds and names.
 pub fn authorizations_are_cut()
     ensures rows { AuthzIsCut }
     ensures keys { AuthzKeysAreCut }
 {}
 
-/// Folding the messages of a batch on top of the old view, or on none, gives the new view, whatever the two views are.
+/// States that folding the messages of a batch over the old view, or over none, gives the new view, whatever the two views are.
 pub fn batches_fold()
     ensures { BatchesFold }
 {}
 
-/// Whatever was held when a query's view was last shown, and whatever is held now, folding the messages of the query on top
-/// of the view then gives the view now, where each object is held at its own key.
+/// States that whatever objects were held when the view of a query was last shown, and whatever objects are held now, folding the messages
+/// of the query over the old view gives the new one, if each object is held under its own key.
 pub fn messages_fold()
     ensures { MessagesFold }
 {}
 
-/// No message leads from a view to itself.
+/// States that the batch from a view to itself is empty.
 pub fn same_view_sends_nothing()
     ensures { SameViewSendsNothing }
 {

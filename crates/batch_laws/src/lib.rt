@@ -1,7 +1,7 @@
-//! What holds of the messages between two views: law functions alone, which do nothing.
+//! Laws on the messages between two views. The functions state them and do nothing.
 //!
-//! Stands on view_rules, whose `Batch` says which messages bring a subscriber from one view to another, and whose `Fold`
-//! says what is seen by folding them. `specs/Laws` says that folding a batch gives the new view, and how large messages are.
+//! Depends on view_rules, whose `Batch` defines the messages that bring a subscriber from one view to another, and whose `Fold` defines
+//! the view that results from messages. `specs/Laws` states that folding a batch gives the new view, and how large messages are.
 #![tactic(auto)]
 
 pub mod laws;

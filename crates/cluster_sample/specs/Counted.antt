@@ -1,4 +1,4 @@
--- What is counted of a replay of the generated cluster: its lines, and by their first words the lines that were written.
+-- The counts of a replay of the generated cluster: its lines, and the lines that were written, by their first words.
 use Rattle.std.specs.Prelude.{ℕ, ◌/◌, Bool, false, List, [], ◌∷◌, ◌++◌, bytes_eq, codes, length, map, if◌then◌else◌}
 use Rattle.std.specs.Fmt.{decimal}
 use Rattle.std.specs.List.{filter, sum}
@@ -15,16 +15,16 @@ abbrev pub is_first : List ℕ → List (List ℕ) → Bool
 is_first word [] = false
 is_first word (first ∷ more) = bytes_eq first word
 
--- how many of the lines begin with a word
+-- the number of lines that begin with a word
 abbrev pub lines_with : List ℕ → List (List ℕ) → ℕ
 lines_with word lines = length (filter (λ line. is_first word (words_of line)) lines)
 
--- `frame <id> <hex>`, where two digits are a byte
+-- the bytes of the frame in `frame <id> <hex>`; two digits are a byte
 abbrev pub size_in : List (List ℕ) → ℕ
 size_in (first ∷ id ∷ hex ∷ []) = if bytes_eq first (codes "frame") then length hex / 2 else 0
 size_in _ = 0
 
--- the sizes of all frames together
+-- the bytes of all frames
 abbrev pub frame_bytes : List (List ℕ) → ℕ
 frame_bytes lines = sum (map (λ line. size_in (words_of line)) lines)
 
@@ -44,7 +44,7 @@ counts_text counts =
     ++ (codes " bytes " ++ (decimal counts.bytes
     ++ (codes " verdicts " ++ decimal counts.verdicts))))))
 
--- `sample <n> lines <a>`, and the counts
+-- `sample <n> lines <a>`, followed by the counts
 unfoldable pub sample_text : ℕ → ℕ → Counts → List ℕ
 sample_text n lines counts =
     codes "sample " ++ (decimal n
@@ -52,6 +52,6 @@ sample_text n lines counts =
     ++ (codes " " ++ (counts_text counts
     ++ codes "\n")))))
 
--- the line of the cluster of n, whose lines write the text
+-- the output line for the cluster of n Services, whose replay writes the text
 abbrev pub sample_line : ℕ → List ℕ → List ℕ
 sample_line n text = sample_text n (length (lines_of (generated n))) (counts_of (lines_of text))

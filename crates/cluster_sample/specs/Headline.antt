@@ -1,4 +1,4 @@
--- What a sample comes to: what a replay of the cluster's lines would write is counted, and one line tells the counts.
+-- The result of a sample: the output of a replay of the cluster's lines is counted, and one line with the counts is written.
 use Rattle.std.specs.Prelude.{◌≡◌, ◌⊎◌, ℕ, Bool, List, [], ◌++◌, Some}
 use Rattle.std.specs.declared.option.Option.{Option}
 use Rattle.std.specs.Io.KnownBytes.{Appends}
@@ -11,20 +11,20 @@ use Rattle.replay_core.specs.Headline.{RefusesSome, WritesOutput, WritesPlain, W
 use Rattle.feed_history.specs.KnownPatterns.{PatternsNow}
 use Rattle.cluster_sample.specs.Counted.{sample_line}
 
--- A replay of the cluster's lines over this machine writes the text, and refuses a line or none.
+-- A replay of the cluster's lines over this machine writes the text, and the flag says whether a line was refused.
 pub record Replays (config : Config) (limits : Limits) (known : PatternsNow) (state : Option HubState) (replies replies_new : Option (List Reply)) (n : ℕ) (text : List ℕ) (refused : Bool) : Type 0 where
   pub output : WritesOutput config limits known state (Some (generated n)) (Some []) (Some text) refused
   pub quiet : WritesPlain config limits known state (Some (generated n)) (Some []) (Some text) refused
   pub refuses : RefusesSome config limits known state (Some (generated n)) refused
   pub said : WritesSaid config limits replies replies_new (Some (generated n)) (Some []) (Some text) refused
 
--- What was written is the line that counts such a text.
+-- What was written is the line with the counts of such a text.
 pub record WritesSample (config : Config) (limits : Limits) (known : PatternsNow) (state : Option HubState) (replies replies_new : Option (List Reply)) (n : ℕ) (held held_new : Option (List ℕ)) (refused : Bool) : Type 0 where
   pub text : List ℕ
   pub replays : Replays config limits known state replies replies_new n text refused
   pub writes : Appends held held_new (sample_line n text)
 
--- What was written is a front of the line.
+-- What was written is a prefix of the line.
 pub record IsFrontOfSample (config : Config) (limits : Limits) (known : PatternsNow) (state : Option HubState) (replies replies_new : Option (List Reply)) (n : ℕ) (sent : List ℕ) : Type 0 where
   pub text : List ℕ
   pub refused : Bool
@@ -32,7 +32,7 @@ pub record IsFrontOfSample (config : Config) (limits : Limits) (known : Patterns
   pub unsent : List ℕ
   pub front : sample_line n text ≡ sent ++ unsent
 
--- Nothing was written, or such a front.
+-- Nothing was written, or such a prefix.
 pub record WritesSampleFront (config : Config) (limits : Limits) (known : PatternsNow) (state : Option HubState) (replies replies_new : Option (List Reply)) (n : ℕ) (held held_new : Option (List ℕ)) : Type 0 where
   pub sent : List ℕ
   pub writes : Appends held held_new sent

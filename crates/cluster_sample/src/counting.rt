@@ -24,13 +24,13 @@ fn push_sample(
     out.extend_from_slice(text.as_bytes())
 }
 
-/// A count that is under way, of the lines that are written for the cluster of `n`. It says nothing before its end, and
-/// refuses no line.
+/// A running count of the lines that a replay of the cluster of `n` Services writes. It writes nothing before its end, and refuses no
+/// line.
 #[derive(Drop)]
 struct Counting {
     alloc: Global,
     n: u32,
-    /// The cluster's own lines.
+    /// The number of lines of the cluster.
     lines: u64,
     counts: Counts,
 }
@@ -74,8 +74,8 @@ impl LineMachine for Counting {
     }
 }
 
-/// Counts the lines of a text that is written for the lines of the cluster of `n`, and writes the line of the sample, or a
-/// front of it where a write fails or has no memory.
+/// Counts the lines of a text that a replay of the cluster of `n` Services writes, and writes the output line of the sample, or a prefix
+/// of it if a write fails or memory runs out.
 pub(crate) fn write_counts<K: Sink>(
     alloc: Global,
     limits: &Limits,

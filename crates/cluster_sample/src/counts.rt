@@ -7,12 +7,12 @@ ghost use Rattle.cluster_sample.specs.Stand.{both, capped, capped_counts};
 use mesh_base::pieces::cut;
 use std::fmt;
 
-/// What is counted of lines that a replay writes. A count that has reached the greatest number stays there.
+/// The counts of the lines that a replay writes. A count stops at the end of `u64`.
 #[derive(Clone, Copy, Debug, PartialEq, Eq)]
 pub struct Counts {
     pub refused: u64,
     pub frames: u64,
-    /// Of all frames together.
+    /// The bytes of all frames.
     pub bytes: u64,
     pub verdicts: u64,
 }
@@ -32,7 +32,7 @@ fn begins_with(line: &[u8], word: &[u8]) -> bool
     }
 }
 
-// The bytes of the frame in a line, or 0.
+// Returns the number of bytes of the frame in a line, or 0.
 fn frame_size(line: &[u8]) -> usize
     ensures { result ≡ size_in (words_of line.now) }
 {
@@ -51,7 +51,7 @@ fn frame_size(line: &[u8]) -> usize
     }
 }
 
-// One more, where the line begins with the word.
+// Returns the count, plus 1 if the line begins with the word.
 fn count(counted: u64, line: &[u8], word: &[u8]) -> u64
     ensures { result ≡ capped (counted + lines_with word.now (line.now ∷ [])) }
 {
@@ -108,7 +108,7 @@ fn count_breaks(text: &[u8]) -> usize
     text.iter().filter(|byte| **byte == b'\n').count()
 }
 
-/// How many lines a text has. Its last byte ends a line, whatever it is.
+/// Returns the number of lines of a text. The last byte of the text ends a line, whatever it is.
 pub(crate) fn count_lines(text: &[u8]) -> u64
     ensures { result ≡ length (lines_of text.now) }
 {

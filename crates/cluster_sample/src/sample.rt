@@ -17,8 +17,8 @@ use replay_core::replay::replay;
 use std::alloc::Global;
 use view_types::config::Config;
 
-/// Replays the lines of the generated cluster of n, and writes one line that counts them and what they write: refused
-/// lines, frames, the bytes of the frames with their first five, and verdicts.
+/// Replays the lines of the generated cluster of n Services, and writes one line with counts of them and of the output: refused lines,
+/// frames, the bytes of the frames with the five bytes before each message, and verdicts.
 pub fn sample<H: Machine, K: Sink, P: Patterns>(
     alloc: Global,
     hub: &mut H,
@@ -30,27 +30,27 @@ pub fn sample<H: Machine, K: Sink, P: Patterns>(
 ) -> Status
     requires { 1 ≤ limits.now.frame_addrs }
 
-    // The lines were replayed to their end: the counts of what a replay writes were written, and a line was refused or none.
+    // If all lines were replayed, the counts of the replay's output were written, and the status says whether a line was refused.
     ensures output { OnEnd result (WritesSample config.now limits.now
         (known_over P.Patterns patterns.old patterns.new)
         (H.state hub.old) (H.replies hub.old) (H.replies hub.new) n (K.held out.old) (K.held out.new)) }
 
-    // Else it is nothing, or a front of them.
+    // If the run ends early, nothing was written, or a prefix of the counts.
     ensures front { OnStop result (WritesSampleFront config.now limits.now
         (known_over P.Patterns patterns.old patterns.new)
         (H.state hub.old) (H.replies hub.old) (H.replies hub.new) n (K.held out.old) (K.held out.new)) }
 
-    // The machine then stands where the lines lead.
+    // The machine's state is then that at the end of the lines.
     ensures state { OnEnd result (λ refused.
         StandsAtEnd config.now limits.now (H.state hub.old) (H.state hub.new)
         (Some (generated n))) }
 
-    // No count falls, and each fault is told by its status.
+    // The counts of faults and refusals never decrease, and each new fault has its status.
     ensures later { P.refusals patterns.old ≤ P.refusals patterns.new }
     ensures write_later { K.faults out.old ≤ K.faults out.new }
     ensures write_told { result ≢ Status.WriteFault → K.faults out.new ≡ K.faults out.old }
 
-    // When each status comes.
+    // The cause of each status.
     ensures read { result ≢ Status.ReadFault }
     ensures write { result ≡ Status.WriteFault → Rose (K.faults out.old) (K.faults out.new) }
     ensures long { result ≡ Status.InputTooLong → limits.now.input ≤ length (generated n) }

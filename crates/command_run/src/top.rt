@@ -29,16 +29,17 @@ use std::alloc::Global;
 use view_types::config::Config;
 use view_types::query::{Method, Query};
 
-/// What a call of the program came to.
+/// The outcome of a call of the program.
 #[derive(Drop)]
 pub enum Outcome {
-    /// The command has ended.
+    /// The command has ended with this status.
     Ended(Status),
-    /// The words ask for a server of this configuration, which hasn't run.
+    /// The words ask for a server with this configuration, which the caller is to run.
     Serve(ServeConfig),
 }
 
-/// Does what the words ask for, from the input to the output. Of a server it gives the configuration, by which the caller runs it.
+/// Runs the command that the words give, from the input to the output. For `serve` it returns the configuration of the server, which the
+/// caller runs.
 pub fn top<H: Machine, S: Source, K: Sink, P: Patterns>(
     alloc: Global,
     words: &[Text],
@@ -50,11 +51,11 @@ pub fn top<H: Machine, S: Source, K: Sink, P: Patterns>(
 ) -> Outcome
     requires { 1 ≤ limits.now.frame_addrs }
 
-    // ---- which words are a command
+    // ---- the command line
 
-    // Words that give a command aren't refused.
+    // Words that give a command are not refused.
     ensures usage { IsSome (command_in words.now) → EndsWith result (λ status. status ≢ Status.Usage) }
-    // Words that give none are refused, unless memory ran out.
+    // Words that give no command are refused, unless memory ran out.
     ensures refused { command_in words.now ≡ None → EndsWith result IsUnread }
     // In both cases nothing was read or written.
     ensures untouched { EndsWith result (λ status. status ≡ Status.Usage
@@ -66,42 +67,42 @@ pub fn top<H: Machine, S: Source, K: Sink, P: Patterns>(
 
     // ---- replay
 
-    // Read to the end, where the machine tells what it holds: what was written is the defined output, in which
-    // simulations may have met patterns that are refused, at most as many as refusals rose, and a line was refused or none.
+    // If all lines were read and the machine's state is known, what was written is the defined output. In it, at most as many
+    // simulations met refused patterns as the count of refusals rose. The status says whether a line was refused.
     ensures output { OfReplay words.now (λ config. AtEnd result (WritesOutput config limits.now
         (known_over P.Patterns patterns.old patterns.new)
         (H.state hub.old) (S.left input.old) (K.held out.old) (K.held out.new))) }
 
-    // Where no pattern was refused, no simulation met one.
+    // If no pattern was refused, no simulation met a refused one.
     ensures quiet { OfReplay words.now (λ config. AtEnd result (WritesPlain config limits.now
         (known_over P.Patterns patterns.old patterns.new)
         (H.state hub.old) (S.left input.old) (K.held out.old) (K.held out.new))) }
 
-    // Whether a line was refused, whatever patterns match.
+    // Whether a line was refused does not depend on what patterns match.
     ensures refuses { OfReplay words.now (λ config. AtEnd result (RefusesSome config limits.now
         (known_over P.Patterns patterns.old patterns.new) (H.state hub.old) (S.left input.old))) }
 
-    // The machine then stands where the input leads.
+    // The machine's state is then that at the end of the input.
     ensures state { OfReplay words.now (λ config. AtEnd result (λ refused.
         StandsAtEnd config limits.now (H.state hub.old) (H.state hub.new) (S.left input.old))) }
 
-    // Where it tells its replies, what was written is what they and the lines say.
+    // If the machine's replies are known, what was written is defined by the lines and the replies.
     ensures said { OfReplay words.now (λ config. AtEnd result (WritesSaid config limits.now
         (H.replies hub.old) (H.replies hub.new) (S.left input.old) (K.held out.old) (K.held out.new))) }
 
-    // Else it is a front of the defined output.
+    // If the run ends early, what was written is a prefix of the defined output.
     ensures front { OfReplay words.now (λ config. AtStop result (WritesFront config limits.now
         (known_over P.Patterns patterns.old patterns.new)
         (H.state hub.old) (S.left input.old) (K.held out.old) (K.held out.new))) }
 
-    // A machine that tells its replies: it is a front of what they and the lines say.
+    // The same, by the replies if they are known.
     ensures said_front { OfReplay words.now (λ config. AtStop result (WritesSaidFront config limits.now
         (H.replies hub.old) (H.replies hub.new) (S.left input.old) (K.held out.old) (K.held out.new))) }
 
     // ---- diagnose
 
-    // Read to the end: what was written is the defined text, and a line was refused or none. Else it is a front of that text.
-    // The machine stays as it is.
+    // If all lines were read, what was written is the defined output, and the status says whether a line was refused. If the run ends
+    // early, what was written is a prefix of it. The machine is unchanged.
     ensures diagnosed { OfDiagnose words.now (λ id query config.
         AtEnd result (WritesDiagnosed config limits.now
         id.0 query (S.left input.old) (K.held out.old) (K.held out.new))) }
@@ -113,8 +114,8 @@ pub fn top<H: Machine, S: Source, K: Sink, P: Patterns>(
 
     // ---- fold
 
-    // Read to the end: what was written is the defined text, and a line didn't read or none. Else it is a front of that text.
-    // The machine stays as it is.
+    // If all lines were read, what was written is the defined output, and the status says whether a line could not be read. If the run
+    // ends early, what was written is a prefix of it. The machine is unchanged.
     ensures folded { OfFold words.now (λ id method. AtEnd result (WritesFolded method id.0
         limits.now (S.left input.old) (K.held out.old) (K.held out.new))) }
     ensures folded_front { OfFold words.now (λ id method. AtStop result (WritesFoldedFront method id.0
@@ -124,8 +125,8 @@ pub fn top<H: Machine, S: Source, K: Sink, P: Patterns>(
 
     // ---- sample
 
-    // The lines of the generated cluster were replayed to their end: the counts of what a replay writes were written, and a
-    // line was refused or none. Else it is nothing, or a front of them.
+    // If all lines of the generated cluster were replayed, the counts of the replay's output were written, and the status says whether
+    // a line was refused. If the run ends early, nothing was written, or a prefix of the counts.
     ensures sampled { OfSample words.now (λ n config. AtEnd result (WritesSample config limits.now
         (known_over P.Patterns patterns.old patterns.new)
         (H.state hub.old) (H.replies hub.old) (H.replies hub.new) n (K.held out.old) (K.held out.new))) }
@@ -134,20 +135,20 @@ pub fn top<H: Machine, S: Source, K: Sink, P: Patterns>(
         (known_over P.Patterns patterns.old patterns.new)
         (H.state hub.old) (H.replies hub.old) (H.replies hub.new) n (K.held out.old) (K.held out.new))) }
 
-    // The machine then stands where the lines lead.
+    // The machine's state is then that at the end of the generated lines.
     ensures sampled_state { OfSample words.now (λ n config. AtEnd result (λ refused.
         StandsAtEnd config limits.now (H.state hub.old) (H.state hub.new) (Some (generated n)))) }
 
-    // The input isn't read.
+    // The input is not read.
     ensures sampled_alone { OfSample words.now (λ n config.
         (input.new ≡ input.old) × EndsWith result (λ status. status ≢ Status.ReadFault)) }
 
     // ---- serve
 
-    // The address and the configuration that the words give, and the limits handed in.
+    // The result has the address and the configuration that the words give, and the limits of the call.
     ensures serve { OfServe words.now (λ address config.
         IsServed (server_of address config limits.now) result) }
-    // Only words that ask for a server give one.
+    // Only `serve` has this result.
     ensures served { ServesBy result (λ server.
         (command_in words.now ≡ Some (commands.Serve server.address server.config))
         × (server.limits ≡ limits.now)) }
@@ -158,7 +159,7 @@ pub fn top<H: Machine, S: Source, K: Sink, P: Patterns>(
 
     // ---- any command
 
-    // No count falls, and each fault is told by its status.
+    // The counts of faults and refusals never decrease, and each new fault has its status.
     ensures later { P.refusals patterns.old ≤ P.refusals patterns.new }
     ensures read_later { S.faults input.old ≤ S.faults input.new }
     ensures write_later { K.faults out.old ≤ K.faults out.new }
@@ -167,7 +168,7 @@ pub fn top<H: Machine, S: Source, K: Sink, P: Patterns>(
     ensures write_told { EndsWith result (λ status.
         status ≢ Status.WriteFault → K.faults out.new ≡ K.faults out.old) }
 
-    // When each other status comes.
+    // The cause of each other status.
     ensures read { EndsWith result (λ status.
         status ≡ Status.ReadFault → Rose (S.faults input.old) (S.faults input.new)) }
     ensures write { EndsWith result (λ status.

@@ -7,7 +7,7 @@ use std::env;
 use std::env::Env;
 use std::io::ErrorKind;
 
-/// The status where the arguments cannot be read: they need more memory than there is, or one is not UTF-8.
+/// Returns the status for arguments that cannot be read: they need more memory than there is, or one is not UTF-8.
 pub fn status_without_words(kind: ErrorKind) -> Status
     ensures memory { kind ≡ ErrorKind.OutOfMemory → result ≡ Status.Memory }
     ensures usage { kind ≢ ErrorKind.OutOfMemory → result ≡ Status.Usage }
@@ -20,8 +20,8 @@ pub fn status_without_words(kind: ErrorKind) -> Status
     }
 }
 
-/// The words of the command line, without the program's name. The error is Memory where there is no memory for them, and Usage
-/// where one is not UTF-8.
+/// Returns the words of the command line, without the program's name. Returns `Memory` if there is no memory for them, and `Usage` if
+/// one is not UTF-8.
 pub fn words_of<R: Env + AllocGlobal>(rt: &R) -> Result<Vec<Text>, Status>
     ensures { IfErr result IsUnread }
 {

@@ -2,7 +2,7 @@ use crate::shown::compare;
 use std::alloc::Global;
 use std::test::Fail;
 
-// Words, and what they come to.
+// Words, and the expected command.
 const FIRST_WORDS: &str = " => usage
 '' => usage
 replya => usage
@@ -328,7 +328,7 @@ SERVE --bind 127.0.0.1:80 => usage
 serves --bind 127.0.0.1:80 => usage
 serv --bind 127.0.0.1:80 => usage";
 
-// Each method with all that it needs, with each part left out or unreadable, and with what it doesn't need.
+// Each method with all options that it needs, with each option missing or invalid, and with options that it does not need.
 const GETS: &str =
     r#"diagnose --id 1 --method Get --path web.app.svc.cluster.local:8080 => diagnose 1 Get app/web:8080
 diagnose --path=web.app.svc.cluster.local --method=Get --id=0000000001 => diagnose 1 Get app/web:80
@@ -443,7 +443,7 @@ diagnose --id 1 --method Watch --path 10.9.9.9 --token {"ns":"cli"} => diagnose 
 diagnose --id 1 --method Watch --path 10.9.9.9 --cluster-networks x => usage
 diagnose 1 Watch 10.9.9.9 => usage"#;
 
-// Adds the rows that don't hold. A row that doesn't split fails the test.
+// Appends the rows that do not pass. A row that cannot be split fails the test.
 fn compare_all(alloc: Global, wrong: &mut String, rows: &str) -> Result<(), Fail> {
     for row in rows.lines() {
         let Some((line, expected)) = row.split_once(" => ") else {

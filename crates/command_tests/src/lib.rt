@@ -1,7 +1,7 @@
-//! Tests of the words of the command line: each option in each form, and each value at its bounds. They stand apart, since a
-//! crate with tests is proved twice.
+//! Tests of the command line: each option in each form, and each value at its bounds. They are in a crate of their own, since a crate with
+//! tests is proved twice.
 //!
-//! Stands on command_words.
+//! Depends on command_words.
 #![tactic(auto)]
 
 #[cfg(test)]

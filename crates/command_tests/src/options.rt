@@ -2,8 +2,8 @@ use crate::shown::compare;
 use std::alloc::Global;
 use std::test::Fail;
 
-// A command with all else that it needs, one of its options, a value, what they come to, and what they come to where the
-// value is empty or is written twice with `=` between.
+// A command with its other required options, one of its options, a value, the expected command, and the expected command if the value is
+// empty or is written twice with `=` between.
 const OPTIONS: &str = r#"replay | cluster-domain | mesh | replay cluster-domain=mesh | usage
 replay | trust-domain | a.b | replay trust-domain=a.b | usage
 replay | control-plane-namespace | l5d | replay control-plane-namespace=l5d | usage
@@ -68,7 +68,7 @@ fn row_of(row: &str) -> Result<Row<'_>, Fail> {
     })
 }
 
-// The option in both spellings, behind the other words and before them.
+// The option in both forms, after the other words and before them.
 fn spellings(alloc: Global, wrong: &mut String, row: &Row<'_>) -> Result<(), Fail> {
     let Row {
         command,
@@ -91,7 +91,7 @@ fn spellings(alloc: Global, wrong: &mut String, row: &Row<'_>) -> Result<(), Fai
     compare(alloc, wrong, &line, given)
 }
 
-// Values that are empty or hold `=`.
+// Values that are empty or contain `=`.
 fn odd_values(alloc: Global, wrong: &mut String, row: &Row<'_>) -> Result<(), Fail> {
     let Row {
         command,
@@ -110,7 +110,7 @@ fn odd_values(alloc: Global, wrong: &mut String, row: &Row<'_>) -> Result<(), Fa
     compare(alloc, wrong, &line, unread)
 }
 
-// The option twice, in each order of the spellings.
+// The option twice, in each order of its forms.
 fn twice(alloc: Global, wrong: &mut String, row: &Row<'_>) -> Result<(), Fail> {
     let Row {
         command,
@@ -128,7 +128,7 @@ fn twice(alloc: Global, wrong: &mut String, row: &Row<'_>) -> Result<(), Fail> {
     compare(alloc, wrong, &line, "usage")
 }
 
-// The option without a value, behind `--`, with one hyphen, with three, without any, and with a letter more.
+// The option without a value, after `--`, with one hyphen, with three, without any, and with a letter more.
 fn other_forms(alloc: Global, wrong: &mut String, row: &Row<'_>) -> Result<(), Fail> {
     let Row {
         command,

@@ -1,4 +1,4 @@
-// What words come to, as a text: the command, its values, and each setting that isn't the default.
+// The command that words give, as text: its values, and each setting that is not the default.
 use command_words::command::Command;
 use command_words::fault::WordsFault;
 use command_words::words::read_words;
@@ -14,7 +14,7 @@ use view_types::query::{Context, Method, Query, Target};
 // `10.0.0.0/8,100.64.0.0/10,172.16.0.0/12,192.168.0.0/16`, as `nets_text` writes them.
 const USUAL_NETS: &str = "4:a000000/8,4:64400000/10,4:ac100000/12,4:c0a80000/16";
 
-// Words with a blank between them. `''` is the empty word.
+// Splits a line into words at single blanks. `''` is the empty word.
 fn words_of(alloc: Global, line: &str) -> Result<Vec<Text>, Fail> {
     let mut words = Vec::new(alloc);
     if line.is_empty() {
@@ -27,7 +27,7 @@ fn words_of(alloc: Global, line: &str) -> Result<Vec<Text>, Fail> {
     Ok(words)
 }
 
-// Addresses by their family and the digits of their number.
+// Writes an address as its family and the digits of its number.
 fn ip_text(alloc: Global, ip: Ip) -> Result<String, Fail> {
     Ok(match ip {
         Ip::V4(number) => format!(in alloc; "4:{number:x}")?,
@@ -69,7 +69,7 @@ fn method_text(method: Method) -> &'static str {
     }
 }
 
-// Adds a setting, unless it is the default.
+// Appends a setting, unless it is the default.
 fn add_setting(text: &mut String, name: &str, default: &str, value: &str) -> Result<(), Fail> {
     if value != default {
         write!(text, " {name}={value}")?;
@@ -186,7 +186,7 @@ fn command_text(alloc: Global, command: &Command) -> Result<String, Fail> {
     }
 }
 
-/// What the words of a line come to.
+/// Returns the command that the words of a line give, as text.
 pub fn shown(alloc: Global, line: &str) -> Result<String, Fail> {
     let words = words_of(alloc, line)?;
     match read_words(alloc, &words) {
@@ -196,7 +196,7 @@ pub fn shown(alloc: Global, line: &str) -> Result<String, Fail> {
     }
 }
 
-/// Adds the words of a line, and what they come to, where that isn't what is expected.
+/// Appends the words of a line and their command, unless it is the expected one.
 pub fn compare(alloc: Global, wrong: &mut String, line: &str, expected: &str) -> Result<(), Fail> {
     let found = shown(alloc, line)?;
     if found.as_str() != expected {

@@ -1,4 +1,4 @@
--- The names of arguments, and what stands at them.
+-- The names of arguments, and their values in the matches.
 use Rattle.std.specs.Prelude.{ℕ, List, Option, codes}
 use Rattle.clap.specs.Words.{Row, first_of, found_of, rows_of}
 use Rattle.clap.specs.declared.parser.matches.ArgMatches.{ArgMatches}
@@ -20,10 +20,10 @@ argument_text DefaultPolicy = codes "default-policy"
 argument_text Bind = codes "bind"
 argument_text Number = codes "n"
 
--- the matches of the words
+-- the rows of the matches
 abbrev pub rows_in : ArgMatches → List Row
 rows_in m = rows_of (found_of m)
 
--- the string that is given for an argument
+-- the value that is given for an argument
 abbrev pub text_at : Argument → List Row → Option (List ℕ)
 text_at argument rows = first_of (argument_text argument) rows

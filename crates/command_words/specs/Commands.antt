@@ -1,4 +1,4 @@
--- What the words ask for, of the matches that clap's definition gives.
+-- The command that the words give, from clap's matches.
 use Rattle.std.specs.Prelude.{ℕ, List, [], ◌∷◌, Option, Some, None}
 use Rattle.clap.specs.Words.{Row}
 use Rattle.mesh_base.specs.declared.sub_id.SubId.{SubId}
@@ -63,8 +63,8 @@ abbrev pub command_named : Option Name → List (List ℕ) → Option Command
 command_named (Some name) words = matched name words >>= command_of name
 command_named None words = None
 
--- the command that the first word names, where clap's definition accepts the others, and all that the command needs can
--- be read from their matches
+-- the command that the first word names, if clap accepts the other words and all values that the command needs can be read from their
+-- matches
 abbrev pub command_in : List (List ℕ) → Option Command
 command_in [] = None
 command_in (first ∷ rest) = command_named (name_of first) rest

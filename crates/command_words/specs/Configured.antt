@@ -4,7 +4,7 @@ use Rattle.view_types.specs.declared.config.Config.{Config}
 use Rattle.command_words.specs.declared.command.Command.{Command}
 use Rattle.command_words.specs.declared.command.Command.TheVariants.{Replay, Diagnose, Fold, Sample, Serve}
 
--- P of the configuration, where the command has one
+-- P of the command's configuration, if it has one
 abbrev pub ConfigIs : (Config → Type 0) → Command → Type 0
 ConfigIs P (Replay config) = P config
 ConfigIs P (Diagnose id query config) = P config

@@ -1,4 +1,4 @@
--- The query that `diagnose` is asked for. What its method doesn't need isn't looked at.
+-- The query of `diagnose`. Options that its method does not need are ignored.
 use Rattle.std.specs.Prelude.{List, [], Option, Some, None, unwrap_or}
 use Rattle.clap.specs.Words.{Row}
 use Rattle.mesh_text.specs.Contexts.{context_of}
@@ -19,11 +19,11 @@ use Rattle.command_words.specs.Gives.{◌>>=◌, needed}
 use Rattle.command_words.specs.Numbers.{number_within}
 use Rattle.command_words.specs.declared.argument.Argument.TheVariants as arguments
 
--- An absent token is as the empty one.
+-- An absent context token counts as an empty one.
 unfoldable pub context_in : List Row → Context
 context_in rows = context_of (unwrap_or (text_at arguments.Token rows) [])
 
--- Only a port of a Service has endpoints.
+-- `Get` needs a target that is a Service port; an address has no endpoints.
 abbrev pub get_of : Context → Target → Option Query
 get_of ctx (Service ns name port) = Some (queries.Get ns name port ctx)
 get_of ctx (Address ip port) = None

@@ -23,11 +23,11 @@ abbrev pub nets_of_pieces : List (List ℕ) → Option (List Net)
 nets_of_pieces [] = Some []
 nets_of_pieces (piece ∷ more) = put (net_of piece) (nets_of_pieces more)
 
--- the networks between commas
+-- the networks of a list separated by commas
 unfoldable pub nets_of : List ℕ → Option (List Net)
 nets_of text = nets_of_pieces (pieces 44 text)
 
--- the usual configuration, but for what is given
+-- the default configuration, with the settings that are given
 unfoldable pub config_in : List Row → Option Config
 config_in rows = do
   cluster_domain ← defaulted usual_config.cluster_domain named (text_at arguments.ClusterDomain rows)

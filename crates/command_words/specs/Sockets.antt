@@ -14,7 +14,7 @@ abbrev pub is_v6 : Option Ip → Bool
 is_v6 (Some (V6 n)) = true
 is_v6 _ = false
 
--- the two pieces, if there are no more and no less
+-- the two pieces, if there are exactly two
 abbrev pub pair_of : List (List ℕ) → Option (List ℕ × List ℕ)
 pair_of (first ∷ second ∷ []) = Some (first, second)
 pair_of _ = None
@@ -29,12 +29,12 @@ abbrev pub is_v4_socket : Option (List ℕ × List ℕ) → Bool
 is_v4_socket (Some (ip, digits)) = is_v4 (ip_of ip) && is_some (port_of digits)
 is_v4_socket None = false
 
--- an IPv6 address, and what follows its closing bracket
+-- an IPv6 address, and the port after its closing bracket
 abbrev pub is_v6_socket : Option (List ℕ × List ℕ) → Bool
 is_v6_socket (Some (ip, after)) = is_v6 (ip_of ip) && is_port_after after
 is_v6_socket None = false
 
--- An IPv6 address stands in brackets.
+-- An IPv6 address is in brackets.
 unfoldable pub is_socket : List ℕ → Bool
 is_socket [] = false
 is_socket (c ∷ cs) = if c == 91 then is_v6_socket (pair_of (pieces 93 cs)) else is_v4_socket (pair_of (pieces 58 (c ∷ cs)))

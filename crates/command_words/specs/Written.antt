@@ -1,7 +1,7 @@
--- Words that are written out.
+-- Example command lines.
 use Rattle.std.specs.Prelude.{ℕ, List, [], ◌∷◌, codes}
 
--- a value as the next word, and a value in its option's word
+-- one option with its value as the next word, and one with `=`
 abbrev pub fold_words : List (List ℕ)
 fold_words = codes "fold" ∷ codes "--id" ∷ codes "7" ∷ codes "--method=Get" ∷ []
 

@@ -1,7 +1,7 @@
 ghost use Rattle.std.specs.Prelude.{◌≡◌};
 ghost use Rattle.command_words.specs.Arguments.{argument_text};
 
-/// What may stand behind a command's name: an option's value, or the number of `sample`.
+/// An argument of a command: an option, or the number of `sample`.
 #[derive(Clone, Copy)]
 pub(crate) enum Argument {
     Id,
@@ -16,12 +16,12 @@ pub(crate) enum Argument {
     ClusterNetworks,
     DefaultPolicy,
     Bind,
-    /// The number of `sample`, which stands alone.
+    /// The positional number of `sample`.
     Number,
 }
 
 impl Argument {
-    /// The name, without the hyphens before it.
+    /// The name, without leading hyphens.
     #[tactic(auto, unfolding(crate::specs::Arguments::argument_text))]
     pub(crate) fn text<'a>(self) -> &'a str
         ensures { result.now ≡ argument_text self }

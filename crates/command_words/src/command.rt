@@ -15,7 +15,7 @@ use std::alloc::Global;
 use view_types::config::Config;
 use view_types::query::{Method, Query};
 
-/// What the program is asked to do.
+/// A command with its arguments.
 #[derive(Drop)]
 pub enum Command {
     Replay(Config),
@@ -33,14 +33,14 @@ pub enum Command {
         n: u32,
         config: Config,
     },
-    /// `address` is an IP address and a port to listen on, as `127.0.0.1:8086` or `[::1]:8086`.
+    /// `address` is the IP address and port to listen on, for example `127.0.0.1:8086` or `[::1]:8086`.
     Serve {
         address: Text,
         config: Config,
     },
 }
 
-/// Which command the first word names.
+/// The name of a command.
 #[derive(Clone, Copy)]
 pub(crate) enum Name {
     Replay,
@@ -107,7 +107,7 @@ fn read_serve<'a>(alloc: Global, matches: &ArgMatches<'a>) -> Result<Command, Wo
     Ok(Command::Serve { address, config })
 }
 
-/// The command of this name whose arguments were matched.
+/// Returns the command of this name, with the values of its matched arguments.
 #[tactic(auto, unfolding(crate::specs::Commands::command_of))]
 pub(crate) fn read_command<'a>(
     alloc: Global,

@@ -52,7 +52,7 @@ fn read_one_net(text: &[u8]) -> Result<Net, WordsFault>
     }
 }
 
-/// The networks between commas.
+/// Reads networks separated by commas.
 #[tactic(auto, using(crate::proofs::Nets::start_is, crate::proofs::Nets::loop_none, crate::proofs::Nets::loop_more, crate::proofs::Nets::last_none, crate::proofs::Nets::last_some))]
 fn read_nets(alloc: Global, text: &[u8]) -> Result<List<Net>, WordsFault>
     ensures { Gives result (nets_of text.now) }
@@ -100,7 +100,7 @@ fn policy_at<'a>(matches: &ArgMatches<'a>, usual: Policy) -> Result<Policy, Word
     }
 }
 
-/// The usual configuration, but for the settings that are given.
+/// Returns the default configuration, with the settings that are given.
 #[tactic(auto, unfolding(crate::specs::Gives::then, crate::specs::Settings::config_in))]
 pub(crate) fn read_config<'a>(alloc: Global, matches: &ArgMatches<'a>) -> Result<Config, WordsFault>
     ensures { Gives result (config_in (rows_in matches.now)) }

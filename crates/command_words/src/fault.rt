@@ -11,7 +11,7 @@ use std::alloc::AllocError;
 /// Why the words give no command.
 #[derive(Clone, Copy, Debug, PartialEq, Eq)]
 pub enum WordsFault {
-    /// They aren't one.
+    /// The words are no valid command line.
     Usage,
     Memory,
 }

@@ -1,8 +1,8 @@
-//! The words of the command line: which command they are, and with which configuration, numbers and query.
+//! The command line: the command that its words give, with its configuration, numbers and query.
 //!
-//! Stands on clap for options, on mesh_text, k8s_meta, net_cidr and watch_events for the values, and on view_types for
-//! what they stand for. `read_words` gives `command_in` of `specs/Commands`, or says that there is none: clap's definition
-//! doesn't accept the words after the command's name, or what the command needs can't be read from them.
+//! Depends on clap for options, on mesh_text, k8s_meta, net_cidr and watch_events for reading values, and on view_types for their types.
+//! `read_words` returns `command_in` of `specs/Commands`. There is no command if clap does not accept the words after the command's
+//! name, or if a value that the command needs cannot be read.
 #![tactic(auto)]
 
 mod argument;

@@ -96,7 +96,7 @@ fn command_for<'a>(alloc: Global, name: Name) -> Result<Command<'a>, AllocError>
     }
 }
 
-/// What clap matches of the words after a command's name.
+/// Returns clap's matches of the words after a command's name.
 pub(crate) fn parse<'a>(
     alloc: Global,
     name: Name,
@@ -111,7 +111,7 @@ pub(crate) fn parse<'a>(
     Ok(command.try_get_matches_from(words)?)
 }
 
-/// The string that is given for an argument.
+/// Returns the value that is given for an argument.
 pub(crate) fn given<'a>(matches: &ArgMatches<'a>, argument: Argument) -> Option<&'a str>
     ensures { option_copied result ≡ text_at argument (rows_in matches.now) }
 {

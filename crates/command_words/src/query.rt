@@ -58,7 +58,7 @@ fn token_at<'a>(matches: &ArgMatches<'a>) -> &'a str
     }
 }
 
-/// What a client says of itself, who says nothing without a token.
+/// Reads the client's context from the context token. Without a token the context is empty.
 #[tactic(auto, unfolding(crate::specs::Diagnosed::context_in))]
 fn context_at<'a>(alloc: Global, matches: &ArgMatches<'a>) -> Result<Context, Memory>
     ensures { IfOk result (λ ctx. ctx ≡ context_in (rows_in matches.now)) }
@@ -93,7 +93,7 @@ fn port_at<'a>(alloc: Global, matches: &ArgMatches<'a>) -> Result<PodPort, Words
     })
 }
 
-/// The query that the options of the method make.
+/// Reads the query from the method and its options.
 #[tactic(auto, unfolding(crate::specs::Gives::then, crate::specs::Diagnosed::query_in))]
 pub(crate) fn read_query<'a>(
     alloc: Global,

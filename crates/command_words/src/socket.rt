@@ -16,7 +16,7 @@ use mesh_base::text::Text;
 use net_cidr::ip::{Ip, read_ip};
 use std::alloc::Global;
 
-/// The text before the only mark, and the text after it.
+/// Splits the text at `mark`. Returns None unless the mark occurs exactly once.
 #[tactic(auto, using(crate::proofs::Sockets::pair_of_more))]
 fn cut_once(text: &[u8], mark: u8) -> Option<(&[u8], &[u8])>
     ensures { MatchOption result (pair_of (pieces mark text.now) ≡ None)
@@ -72,7 +72,7 @@ fn is_v6_socket(text: &[u8]) -> bool
     }
 }
 
-/// Whether it is an IP address and a port, as `127.0.0.1:8086` or `[::1]:8086`.
+/// Whether the text is an IP address and a port, for example `127.0.0.1:8086` or `[::1]:8086`.
 #[tactic(auto, unfolding(crate::specs::Sockets::is_socket))]
 fn is_socket(text: &[u8]) -> bool
     ensures { result ≡ is_socket text.now }
@@ -84,7 +84,7 @@ fn is_socket(text: &[u8]) -> bool
     }
 }
 
-/// The address and port that `--bind` gives.
+/// Reads the address and port of `--bind`.
 pub(crate) fn read_socket<'a>(alloc: Global, matches: &ArgMatches<'a>) -> Result<Text, WordsFault>
     ensures { Gives result (needed socket_of (text_at arguments.Bind (rows_in matches.now))) }
 {

@@ -25,7 +25,7 @@ fn number_within(digits: &[u8], low: u64, high: u64) -> Option<u64>
     if low <= number { Some(number) } else { None }
 }
 
-/// The number from `low` to `high` that is given for an argument.
+/// Reads the number of an argument, which must be from `low` to `high`.
 pub(crate) fn read_number_at<'a>(
     matches: &ArgMatches<'a>,
     argument: Argument,
@@ -45,7 +45,7 @@ pub(crate) fn read_number_at<'a>(
     }
 }
 
-/// The method whose word is given.
+/// Reads the method.
 pub(crate) fn read_method<'a>(matches: &ArgMatches<'a>) -> Result<Method, WordsFault>
     ensures { Gives result (needed method_of (text_at arguments.Method (rows_in matches.now))) }
 {

@@ -47,7 +47,7 @@ fn read_named<'a>(alloc: Global, name: Name, words: &'a [&'a str]) -> Result<Com
     read_command(alloc, name, &matches)
 }
 
-/// What the words of the command line ask for, without the program's name.
+/// Reads the command from the words of the command line, without the program's name.
 pub fn read_words(alloc: Global, words: &[Text]) -> Result<Command, WordsFault>
     ensures { Gives result (command_in words.now) }
 {

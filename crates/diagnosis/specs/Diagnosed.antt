@@ -1,4 +1,4 @@
--- What is written of an input by who asks one query of what it leads to: why its refused lines are refused, and at the end the view.
+-- What a diagnosis writes for an input: why each refused line is refused, and at the end the view of one query.
 use Rattle.std.specs.Prelude.{ℕ, Bool, false, List, ◌++◌, Some, Result, Ok, Err}
 use Rattle.mesh_base.specs.declared.limits.Limits.{Limits}
 use Rattle.line_run.specs.Rows.{Row, past_of}
@@ -17,7 +17,7 @@ use Rattle.output_fold.specs.Folded.{view_lines}
 
 -- ---- the program
 
--- Lines that speak of subscriptions and requests are passed over, as if they were blank.
+-- Lines about subscriptions and requests count as blank.
 abbrev pub passed_over : Line → Line
 passed_over (lines.Event event) = lines.Event event
 passed_over lines.Stop = lines.Stop
@@ -27,12 +27,12 @@ passed_over (lines.Cancel id) = lines.Blank
 passed_over (lines.Drain id) = lines.Blank
 passed_over (lines.Simulate request) = lines.Blank
 
--- They must read all the same.
+-- They must be readable all the same.
 abbrev pub if_read : Result Line LineFault → Result Line LineFault
 if_read (Ok line) = Ok (passed_over line)
 if_read (Err fault) = Err fault
 
--- So events alone do something, and `stop` has no place, as in a replay. Nothing asks which patterns match.
+-- Only events have an effect. A `stop` line is refused, as in a replay. No regular expression is matched.
 abbrev pub diagnosis_of : Config → Limits → Program
 diagnosis_of config limits = record {
   config = config;
@@ -44,7 +44,7 @@ diagnosis_of config limits = record {
 
 -- ---- what is written
 
--- Of rows, the newest first: each refused one's fault, and then the view of the query over what they lead to.
+-- For rows, the newest first: the refusals, and then the view of the query over the objects held after them.
 abbrev pub diagnosed_after : Config → Limits → ℕ → Query → List Row → List ℕ
 diagnosed_after config limits id query past =
     written_after (diagnosis_of config limits) (unmarked past)
@@ -54,6 +54,6 @@ diagnosed_after config limits id query past =
 abbrev pub refused_in : Config → Limits → List Row → Bool
 refused_in config limits past = refused_after (diagnosis_of config limits) (unmarked past)
 
--- what is written of an input
+-- what is written for an input
 abbrev pub diagnosed_of : Config → Limits → ℕ → Query → List ℕ → List ℕ
 diagnosed_of config limits id query bytes = diagnosed_after config limits id query (past_of limits.line bytes)

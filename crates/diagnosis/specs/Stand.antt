@@ -1,4 +1,4 @@
--- What an event and a line come to, and where a diagnosis stands after some rows, the newest first, and after its end.
+-- The effect of an event and of a line, and the state of a diagnosis after some rows, the newest first, and after its end.
 use Rattle.std.specs.Prelude.{◌≡◌, ℕ, Bool, List, Option, None, Result}
 use Rattle.mesh_base.specs.declared.limits.Limits.{Limits}
 use Rattle.mesh_base.specs.declared.sub_id.SubId.{SubId}
@@ -20,7 +20,7 @@ use Rattle.diagnosis.specs.Diagnosed.{diagnosed_after, diagnosis_of, if_read, re
 
 -- ---- an event
 
--- It was refused for its cause, or done.
+-- The event was refused, for its cause, or applied.
 pub record Applies (event : Event) (old new : Held) (fault : Option HubFault) : Type 0 where
   pub fault_is : fault ≡ event_refusal old.limit old.objects event
   pub objects : new.objects ≡ unless_refused fault old.objects (objects_after old.objects event)
@@ -28,23 +28,23 @@ pub record Applies (event : Event) (old new : Held) (fault : Option HubFault) : 
 
 -- ---- a line
 
--- A store holds what rows lead to, and may hold as much as the limits say.
+-- The store holds the objects of this state, with the limit on objects.
 pub record Holds (limits : Limits) (now : State) (held : Held) : Type 0 where
   pub objects : held.objects ≡ now.objects
   pub limit : held.limit ≡ limits.objects
 
--- The line was refused for its cause, or did what it says, and the store holds what it leads to.
+-- The line was refused, for its cause, or applied, and the store holds the objects after it.
 pub record TakesFrom (config : Config) (limits : Limits) (line : Result Line LineFault) (refusal : Option Refusal) (now : State) (new : Held) : Type 0 where
   pub refusal_is : refusal ≡ refusal_of (diagnosis_of config limits) now None (if_read line)
   pub holds : Holds limits (unless_refused refusal now (after_line (diagnosis_of config limits) now (if_read line))) new
 
--- So it is wherever the store held what rows lead to.
+-- The same for any state whose objects the store held.
 abbrev pub Takes : Config → Limits → Result Line LineFault → Option Refusal → Held → Held → Type 0
 Takes config limits line refusal old new = (now : State) → Holds limits now old → TakesFrom config limits line refusal now new
 
 -- ---- rows
 
--- the same question, under the same configuration and limits
+-- the same id and query, under the same configuration and limits
 pub record IsOfRun (config : Config) (limits : Limits) (id : SubId) (query : Query) (config_now : Config) (limits_now : Limits) (id_now : SubId) (query_now : Query) : Type 0 where
   pub same_config : config_now ≡ config
   pub same_limits : limits_now ≡ limits

@@ -13,7 +13,7 @@ use object_store::store::Store;
 use view_types::object::Object;
 use watch_events::event::Event;
 
-// Each of these answers why it did nothing, if so.
+// Each function returns why it changed nothing, or None if it did.
 
 fn set(store: &mut Store, object: Object) -> Result<Option<HubFault>, Memory>
     ensures { IfOk result (Applies (Set object) store.old store.new) }
@@ -45,7 +45,7 @@ fn relist(store: &mut Store, kind: Kind, items: List<Object>) -> Result<Option<H
     }
 }
 
-/// Does what a watch event says.
+/// Applies a watch event. Returns why it is refused, or None.
 pub(crate) fn apply(store: &mut Store, event: Event) -> Result<Option<HubFault>, Memory>
     requires { IsLawfulEvent event }
     ensures { IfOk result (Applies event store.old store.new) }

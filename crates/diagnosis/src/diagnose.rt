@@ -13,8 +13,8 @@ use std::alloc::Global;
 use view_types::config::Config;
 use view_types::query::Query;
 
-/// Reads a recorded feed to its end, writes why each refused line is refused, and then, in `view` lines of this id, the
-/// messages that bring a subscriber who has no view to that of the query over the objects then held.
+/// Reads a recorded feed to its end and writes why each refused line is refused, and then `view` lines with this id: the messages that
+/// bring a subscriber without a view to the view of the query over the objects then held.
 pub fn diagnose<S: Source, K: Sink>(
     alloc: Global,
     config: &Config,
@@ -26,15 +26,15 @@ pub fn diagnose<S: Source, K: Sink>(
 ) -> Status
     requires { 1 ≤ limits.now.frame_addrs }
 
-    // Read to the end: what was written is the defined text, and a line was refused or none.
+    // At the end of the input, what was written is the defined output, and the status says whether a line was refused.
     ensures output { OnEnd result (WritesDiagnosed config.now limits.now id.0 query.now
         (S.left input.old) (K.held out.old) (K.held out.new)) }
 
-    // Else it is a front of the defined text.
+    // If the run ends early, what was written is a prefix of the defined output.
     ensures front { OnStop result (WritesDiagnosedFront config.now limits.now id.0 query.now
         (S.left input.old) (K.held out.old) (K.held out.new)) }
 
-    // When each status comes.
+    // The cause of each status.
     ensures read { result ≡ Status.ReadFault → Rose (S.faults input.old) (S.faults input.new) }
     ensures write { result ≡ Status.WriteFault → Rose (K.faults out.old) (K.faults out.new) }
     ensures long { result ≡ Status.InputTooLong → TookLimit limits.now.input (S.left input.old) }
@@ -48,7 +48,7 @@ pub fn diagnose<S: Source, K: Sink>(
         → IsTooLong result }
     ensures usage { result ≢ Status.Usage }
 
-    // No count falls, and each fault is told by its status.
+    // The counts of faults never decrease, and each new fault has its status.
     ensures read_later { S.faults input.old ≤ S.faults input.new }
     ensures write_later { K.faults out.old ≤ K.faults out.new }
     ensures read_told { result ≢ Status.ReadFault → S.faults input.new ≡ S.faults input.old }

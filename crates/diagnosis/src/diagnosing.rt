@@ -13,13 +13,13 @@ use view_scratch::scratch::scratch;
 use view_types::config::Config;
 use view_types::query::Query;
 
-/// A diagnosis that is under way.
+/// A running diagnosis.
 #[derive(Drop)]
 pub(crate) struct Diagnosing<'a> {
     pub(crate) alloc: Global,
     pub(crate) config: &'a Config,
     pub(crate) limits: Limits,
-    /// The number in the lines of the view.
+    /// The id in the lines of the view.
     pub(crate) id: SubId,
     pub(crate) query: &'a Query,
     pub(crate) store: Store,

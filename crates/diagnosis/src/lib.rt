@@ -1,8 +1,8 @@
-//! What one query shows where a recorded feed ends, told from the objects alone.
+//! The view of one query at the end of a recorded feed, computed from the objects alone.
 //!
-//! Stands on line_run for the loop, watch_events for lines, object_store for what is held, view_scratch for the view of the
-//! query, and output_fold for the lines that tell a view. `specs/Diagnosed` says what is written for an input: lines of
-//! subscriptions and requests count as blank in it.
+//! Depends on line_run for the loop, on watch_events for lines, on object_store for the objects, on view_scratch for the view of the
+//! query, and on output_fold for the lines that show a view. `specs/Diagnosed` defines what is written for an input; lines about
+//! subscriptions and requests count as blank.
 #![tactic(auto)]
 
 mod apply;

@@ -17,7 +17,7 @@ use watch_events::event::Event;
 use watch_events::line::{Line, LineFault};
 use watch_events::read::read_row;
 
-// Each of these answers why the line is refused, if it is.
+// Each function returns why the line is refused, or None.
 
 fn take_event(store: &mut Store, event: Event) -> Result<Option<Refusal>, Memory>
     requires { IsLawfulEvent event }
@@ -31,7 +31,7 @@ fn take_event(store: &mut Store, event: Event) -> Result<Option<Refusal>, Memory
     }
 }
 
-// Events are applied. Of subscriptions and requests nothing is asked but that their lines read.
+// Applies events. Lines about subscriptions and requests have no effect.
 fn take_line(store: &mut Store, line: Line) -> Result<Option<Refusal>, Memory>
     requires { IsLawfulLine line }
     ensures { IfOk result (λ refusal.
@@ -45,7 +45,7 @@ fn take_line(store: &mut Store, line: Line) -> Result<Option<Refusal>, Memory>
     }
 }
 
-// The refusal of a line that doesn't read.
+// Returns the refusal of a line that cannot be read.
 fn unread(fault: LineFault) -> Result<Option<Refusal>, Memory>
     ensures refuses { IfOk result (λ refusal. refusal ≡ Some (Refusal.Line fault)) }
     ensures told { OnOk result (fault ≢ LineFault.Memory) }
@@ -56,7 +56,7 @@ fn unread(fault: LineFault) -> Result<Option<Refusal>, Memory>
     }
 }
 
-/// Does what a row says.
+/// Processes a row. Returns why it is refused, or None.
 pub(crate) fn take_row(
     alloc: Global,
     config: &Config,

@@ -1,4 +1,4 @@
--- Who is due after any calls on a new hub. A call is told as the line that asks for it; the newest stands first.
+-- Which ids are due after any calls on a new hub. A call is given as the line that requests it; the newest call is first.
 use Rattle.std.specs.Prelude.{◌≡◌, ◌&&◌, ◌||◌, not, nat_eq, ℕ, Bool, false, List, [], ◌∷◌, if◌then◌else◌, is_some}
 use Rattle.std.specs.List.{AllByRecursion}
 use Rattle.mesh_base.specs.declared.limits.Limits.{Limits}
@@ -16,7 +16,7 @@ use Rattle.mesh_hub.specs.Calls.{called_all}
 use Rattle.mesh_hub.specs.Hub.{HubState, apply_refusal, new_refusal}
 use Rattle.mesh_hub.specs.HubAfter.{seen}
 
--- whether an id is due after a call that doesn't run out of memory, by whether it was before: what the hub's calls say of it
+-- whether an id is due after a call that does not run out of memory, given whether it was before, as the hub's contracts state it
 abbrev pub due_called : HubState → Line → ℕ → Bool → Bool
 due_called now (lines.Event event) id before = if is_some (apply_refusal now event) then before else is_touched now.config now.objects event (query_at id now.subs) || before
 due_called now (lines.Subscribe asked query) id before = if is_some (new_refusal now asked.0) then before else nat_eq id asked.0 || before
@@ -30,8 +30,8 @@ abbrev pub due_called_all : Config → Limits → List Line → ℕ → Bool
 due_called_all config limits [] id = false
 due_called_all config limits (call ∷ past) id = due_called (called_all config limits past) call id (due_called_all config limits past id)
 
--- Some program with this configuration and these limits, what it reads lawful, leads to the hub after some rows, and the same ids are
--- due looking back through them.
+-- The hub is in the state after some rows, for some program with this configuration and these limits whose rows are read lawfully, and the
+-- same ids are due looking back through the rows.
 pub record IsDueHistory (config : Config) (limits : Limits) (calls : List Line) : Type 0 where
   pub program : Program
   pub past : List MarkedRow
@@ -41,6 +41,6 @@ pub record IsDueHistory (config : Config) (limits : Limits) (calls : List Line) 
   pub leads : called_all config limits calls ≡ seen program (after program past)
   pub due : (id : ℕ) → due_called_all config limits calls id ≡ is_due program past id
 
--- So it is after any lawful calls.
+-- The same after any lawful calls.
 abbrev pub CallsAreDueHistories : Type 0
 CallsAreDueHistories = (config : Config) (limits : Limits) (calls : List Line) → AllByRecursion IsLawfulLine calls → IsDueHistory config limits calls

@@ -7,7 +7,7 @@ use Rattle.feed_history.specs.Live.{live_at}
 use Rattle.feed_history.specs.Marks.{MarkedRow}
 use Rattle.feed_history.specs.Program.{Program, reading}
 
--- A row that is accepted changes who is due as its line does, and one that is refused doesn't.
+-- An accepted row changes which ids are due as its line does, and a refused row does not.
 abbrev pub DueAfterRows : Program → Type 0
 DueAfterRows program = (past : List MarkedRow) (row : MarkedRow) (id : ℕ)
     → is_due program (row ∷ past) id ≡ (if is_some (refusal_after program past row) then is_due program past id else due_after program.config (after program past) (reading program row) id (is_due program past id))

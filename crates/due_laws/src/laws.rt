@@ -9,20 +9,20 @@ use history_laws::laws::{
     held_are_lawful, held_at_their_keys, live_is_told_by_the_last, told_at_the_last_drain,
 };
 
-/// How each accepted line changes which ids are due: a subscription adds its id, a drain and a cancellation take theirs away, and
-/// an event adds those whose query read one of its marks before it. No other line changes it.
+/// States how each accepted line changes which ids are due: a subscription adds its id, a drain and a cancellation remove theirs, and an
+/// event adds those whose query read one of its marks before it. No other line changes it.
 pub fn due_after_lines()
     ensures { (program : Program) → DueAfterRows program }
 {
     live_is_told_by_the_last();
 }
 
-/// An id that is due is live.
+/// States that an id that is due is live.
 pub fn due_are_live()
     ensures { (program : Program) → DueAreLive program }
 {}
 
-/// A live subscription that is not due is owed nothing: its view is the one at its last drain.
+/// States that a live subscription that is not due is owed nothing: its view is the one at its last drain.
 pub fn only_due_are_owed()
     ensures { (program : Program) → ReadsLawfully program → OnlyDueAreOwed program }
 {
@@ -33,14 +33,14 @@ pub fn only_due_are_owed()
     untouched_queries_stay();
 }
 
-/// A live subscription that was never drained is due.
+/// States that a live subscription that was never drained is due.
 pub fn never_drained_are_due()
     ensures { (program : Program) → ReadsLawfully program → NeverDrainedAreDue program }
 {
     only_due_are_owed();
 }
 
-/// A drain of an id that is not due sends nothing.
+/// States that a drain of an id that is not due sends nothing.
 pub fn only_due_are_sent()
     ensures { (program : Program) → ReadsLawfully program → OnlyDueAreSent program }
 {
@@ -48,7 +48,7 @@ pub fn only_due_are_sent()
     same_view_sends_nothing();
 }
 
-/// Whatever lawful calls were made on a new hub, in whatever order, the ids that are due are those of the history that leads to it.
+/// States that after any lawful calls on a new hub, in any order, the ids that are due are those of the history that gives this hub.
 pub fn calls_are_due_histories()
     ensures { CallsAreDueHistories }
 {

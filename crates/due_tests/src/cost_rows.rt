@@ -1,9 +1,9 @@
 // Rows of steps: names of lines, and how many objects each of them may look up: `MOST`, `LEAST-MOST`, or `refused`.
 //
-// The most is what the rows read that the line concerns, each of them once and over the objects after it. The least is one where a row
-// comes into use that shows something of an object.
+// The most is what the rows read that the line concerns, each once and over the objects after it. A least number is given where a row
+// comes into use that shows some part of an object.
 
-// What a row is about, and its steps on a hub that holds nothing.
+// A description of the row, and its steps on a hub without objects.
 pub const COSTS: &str =
     "a Server that is renamed in a list, so that the least is another: pod server policy policy_on_a authz cli route => 0, port_first => 1-7, drain_1 => 0, list_of_server_a => 1-8, drain_1 => 0, server => 3, drain_1 => 0
 two Servers, of which the least goes: pod server server_lesser policy policy_on_a authz_of_a cli => 0, port_first => 1-6, drain_1 => 0, server_lesser_gone => 1-8, drain_1 => 0, server_gone => 4, drain_1 => 0, server_lesser => 1-5

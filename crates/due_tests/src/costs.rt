@@ -1,4 +1,4 @@
-// How many objects each line of a row looks up.
+// The number of objects that each line of a row looks up.
 use crate::cost_rows::{AMONG_PODS, COSTS};
 use crate::due::{hub_of, line_of, take};
 use mesh_base::limits::Limits;
@@ -7,7 +7,7 @@ use std::alloc::Global;
 use std::test::Fail;
 use view_types::config::Config;
 
-// A hub that holds this many Pods.
+// Creates a hub with this number of Pods.
 fn hub_of_pods(alloc: Global, config: &Config, count: u32) -> Result<Hub, Fail> {
     let mut hub = hub_of(alloc, Limits::USUAL)?;
     for number in 0..count {
@@ -22,7 +22,7 @@ fn hub_of_pods(alloc: Global, config: &Config, count: u32) -> Result<Hub, Fail> 
     Ok(hub)
 }
 
-// Whether a line did what it may: `refused`, or look up at most `MOST` objects, or `LEAST-MOST`.
+// Whether a line had its expected result: `refused`, or at most `MOST` objects looked up, or `LEAST-MOST`.
 fn is_within(refused: bool, count: u64, allowed: &str) -> Result<bool, Fail> {
     if refused || allowed == "refused" {
         return Ok(refused && count == 0 && allowed == "refused");
@@ -31,7 +31,7 @@ fn is_within(refused: bool, count: u64, allowed: &str) -> Result<bool, Fail> {
     Ok(least.parse::<u64>()? <= count && count <= most.parse::<u64>()?)
 }
 
-// Whether the lines of a step, `NAMES => ALLOWED`, look up what they may. It tells what each of them looks up.
+// Whether the lines of a step, `NAMES => ALLOWED`, look up what they may. It appends the count of each line to `told`.
 fn go(
     alloc: Global,
     config: &Config,
@@ -50,7 +50,7 @@ fn go(
     Ok(true)
 }
 
-// The same of a row, on a hub that holds this many Pods: what it is about, and its steps.
+// The same for a row, on a hub with this number of Pods: a description, and its steps.
 fn holds(alloc: Global, pods: u32, row: &str, told: &mut String) -> Result<bool, Fail> {
     let (title, steps) = row.split_once(": ").ok_or("a row has no steps")?;
     writeln!(told, "{title}")?;
@@ -64,7 +64,7 @@ fn holds(alloc: Global, pods: u32, row: &str, told: &mut String) -> Result<bool,
     Ok(true)
 }
 
-// Whether all rows hold, up to the first that doesn't, whose last line is the last one told.
+// Whether all rows pass, up to the first that does not, whose last line is the last one appended to `told`.
 fn all_hold(alloc: Global, pods: u32, rows: &str, told: &mut String) -> Result<bool, Fail> {
     for row in rows.lines() {
         if !holds(alloc, pods, row, told)? {

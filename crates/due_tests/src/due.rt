@@ -1,4 +1,4 @@
-// Who is due after each line of a row.
+// Which ids are due after each line of a row.
 ghost use Rattle.std.specs.Prelude.{◌≤◌};
 
 use crate::lines::LINES;
@@ -31,7 +31,7 @@ pub(crate) fn line_of(word: &str) -> Result<&'static str, Fail> {
     Err(Fail::new("no line has this name"))
 }
 
-// Who is due, in the words of the rows.
+// Returns the ids that are due, in the form of the rows.
 fn due_text(alloc: Global, hub: &Hub) -> Result<String, Fail> {
     let mut text = String::new(alloc);
     let mut before = "";
@@ -46,7 +46,7 @@ fn due_text(alloc: Global, hub: &Hub) -> Result<String, Fail> {
     Ok(text)
 }
 
-// Whether a line is refused, and how many objects it looks up.
+// Returns whether a line is refused, and how many objects it looks up.
 pub(crate) fn take(
     alloc: Global,
     config: &Config,
@@ -71,7 +71,7 @@ pub(crate) fn take(
     Ok((refusal.is_some(), steps.count()))
 }
 
-// Who is due after a line, and before that whether it was refused.
+// Returns whether a line is refused, and which ids are due after it.
 fn due_after(alloc: Global, config: &Config, hub: &mut Hub, line: &str) -> Result<String, Fail> {
     let (refused, _) = take(alloc, config, hub, line)?;
     let due = due_text(alloc, hub)?;
@@ -81,7 +81,7 @@ fn due_after(alloc: Global, config: &Config, hub: &mut Hub, line: &str) -> Resul
     Ok(due)
 }
 
-// Whether each line of these names leads to the same.
+// Whether each line with these names has the same result.
 fn all_lead_to(
     alloc: Global,
     config: &Config,
@@ -98,7 +98,7 @@ fn all_lead_to(
     Ok(true)
 }
 
-// Whether steps go as they say: `names of lines => who is due`, with commas between the steps.
+// Whether steps have their results: `names of lines => ids that are due`, with commas between the steps.
 fn go(alloc: Global, config: &Config, hub: &mut Hub, steps: &str) -> Result<bool, Fail> {
     for step in steps.split(", ") {
         let (words, expected) = step.split_once(" => ").ok_or("a step has no due list")?;
@@ -109,7 +109,7 @@ fn go(alloc: Global, config: &Config, hub: &mut Hub, steps: &str) -> Result<bool
     Ok(true)
 }
 
-// A row on a hub of these limits: what it is about, and its steps.
+// Whether a row passes on a hub with these limits: a description, and its steps.
 fn holds(alloc: Global, limits: Limits, row: &str) -> Result<bool, Fail>
     requires { 1 ≤ limits.frame_addrs }
 {
@@ -119,7 +119,7 @@ fn holds(alloc: Global, limits: Limits, row: &str) -> Result<bool, Fail>
     go(alloc, &config, &mut hub, steps)
 }
 
-// A row of what concerns whom: the objects that are there before all subscriptions were drained, and the steps after that.
+// Whether a row passes: the objects that are held before all subscriptions are drained, and the steps after that.
 fn concerns(alloc: Global, row: &str) -> Result<bool, Fail> {
     let (_, case) = row.split_once(": ").ok_or("a row has no case")?;
     let (before, steps) = case.split_once(" | ").ok_or("a row has no steps")?;

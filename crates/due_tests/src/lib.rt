@@ -1,7 +1,7 @@
-//! Tests of what a line of a feed does to a hub and no output shows: which subscriptions are due after it, and how many objects it
-//! looks up. They stand apart, since a crate with tests is proved twice.
+//! Tests of effects of a feed's lines that no output shows: which subscriptions are due after a line, and how many objects it looks up.
+//! They are in a crate of their own, since a crate with tests is proved twice.
 //!
-//! Stands on feed_step for what a line does, and on mesh_hub for the hub.
+//! Depends on feed_step for the effect of a line, and on mesh_hub for the hub.
 #![tactic(auto)]
 
 #[cfg(test)]

@@ -14,19 +14,19 @@ use view_diff::batch::endpoint_batch;
 use view_types::endpoint::{EndpointRow, EndpointView};
 use view_types::message::Message;
 
-/// Subscribers that were last told the same.
+/// Subscribers that were last shown the same endpoints.
 #[derive(Drop)]
 pub struct Group<F> {
-    /// What they were last told, if they were told anything.
+    /// What they were last shown; None if they were shown nothing.
     pub(crate) pending: Option<PendingRows>,
-    /// How many they are.
+    /// The number of members.
     pub(crate) members: u64,
-    /// What was made of the messages that they are to be sent.
+    /// The kept encoding of the messages that they are due.
     pub(crate) encoding: Option<F>,
 }
 
 impl<F: Drop> Group<F> {
-    /// A group of nobody.
+    /// Creates a group without members.
     pub(crate) fn vacant() -> Group<F>
         ensures { result ≡ vacant }
     {
@@ -37,7 +37,7 @@ impl<F: Drop> Group<F> {
         }
     }
 
-    /// A group of one, who was told everything as it is now.
+    /// Creates a group with one member, which was shown the current endpoints.
     pub(crate) fn of_one(alloc: Global, exists: bool) -> Group<F>
         ensures current { is_current exists result ≡ true }
         ensures members { result.members ≡ 1 }
@@ -50,7 +50,7 @@ impl<F: Drop> Group<F> {
         }
     }
 
-    /// Whether there are members, who were told everything as it is now.
+    /// Whether there are members, and they were shown the current endpoints.
     pub(crate) fn is_current(&self, exists: bool) -> bool
         ensures { result ≡ is_current exists self.now }
     {
@@ -60,7 +60,7 @@ impl<F: Drop> Group<F> {
         }
     }
 
-    /// One member more. `Memory` comes where there are as many as can be counted.
+    /// Adds a member. Returns `Memory` if the count of members would overflow.
     pub(crate) fn enter(&mut self) -> Result<(), Memory>
         ensures ok { OnOk result (self.new ≡ one_more self.old) }
         ensures err { OnErr result (self.new ≡ self.old) }
@@ -74,8 +74,7 @@ impl<F: Drop> Group<F> {
         }
     }
 
-    /// One member less. With the last one the group goes. What was made for those who were told nothing
-    /// stays, for those who come later.
+    /// Removes a member. The group is cleared with its last member, except that the encoding for new subscribers stays, for later ones.
     pub(crate) fn leave(&mut self)
         ensures { self.new ≡ one_less self.old }
     {
@@ -88,7 +87,7 @@ impl<F: Drop> Group<F> {
         }
     }
 
-    /// Keeps what was made of the messages, if there are members.
+    /// Keeps the encoding of the messages, if there are members.
     pub(crate) fn keep(&mut self, encoding: F)
         ensures { self.new ≡ with_encoding encoding self.old }
     {
@@ -97,7 +96,7 @@ impl<F: Drop> Group<F> {
         }
     }
 
-    /// Notes addresses whose rows have changed, and keeps nothing that was made.
+    /// Notes addresses whose rows have changed, and drops the kept encoding.
     pub(crate) fn note(
         &mut self,
         alloc: Global,
@@ -113,7 +112,7 @@ impl<F: Drop> Group<F> {
         note(alloc, &mut self.pending, before)
     }
 
-    /// The messages that bring the members from what they were last told to the endpoints now.
+    /// Returns the messages that bring the members from what they were last shown to the current endpoints.
     pub(crate) fn messages(
         &self,
         alloc: Global,

@@ -19,23 +19,23 @@ use std::alloc::Global;
 use view_types::endpoint::{EndpointRow, EndpointView};
 use view_types::message::Message;
 
-/// The groups of the subscribers of a key, each known by a number. A number without members may be
-/// given to another group. `F` is what the messages of a group are encoded to.
+/// The groups of the subscribers of a key, each known by a number. A number without members may be reused. `F` is the encoding of the
+/// messages of a group.
 #[derive(Drop)]
 pub struct EndpointGroups<F> {
     alloc: Global,
-    /// By their numbers. Those in the first were told nothing yet.
+    /// The groups by their numbers. The members of the first one were shown nothing yet.
     groups: Vec<Group<F>>,
-    /// Which group was last told everything as it was.
+    /// The number of the group that was shown the current endpoints last.
     current: usize,
-    /// Memory ran out at a change.
+    /// Whether memory ran out at a change.
     spent: bool,
     ghost some: { 0 < length groups.items },
     ghost never: { is_untold (group_at groups.items 0) ≡ true },
 }
 
 impl<F: Drop> EndpointGroups<F> {
-    /// Nobody.
+    /// Creates groups without members.
     pub fn new(alloc: Global) -> Result<EndpointGroups<F>, Memory>
         ensures members { IfOk result (λ all. (n : ℕ) → members_at all.groups.items n ≡ 0) }
         ensures encoding { IfOk result (λ all. (n : ℕ) → encoding_at all.groups.items n ≡ None) }
@@ -51,8 +51,8 @@ impl<F: Drop> EndpointGroups<F> {
         })
     }
 
-    /// Adds a subscriber that was told nothing yet, and answers its group. It costs the same however
-    /// many there are. After Memory all is as before.
+    /// Adds a subscriber that was shown nothing yet. Returns the number of its group. The cost does not depend on the number of
+    /// subscribers. After `Memory` all is as before.
     pub fn join(&mut self) -> Result<u64, Memory>
         ensures ok { IfOk result (λ number.
             SetsAt number one_more self.old.groups.items self.new.groups.items) }
@@ -73,8 +73,8 @@ impl<F: Drop> EndpointGroups<F> {
         Ok(0)
     }
 
-    /// One member of the group less. With its last member a group goes; what was made for those who were
-    /// told nothing stays until the next change. It allocates nothing.
+    /// Removes a member from the group. The group is cleared with its last member, except that the encoding for new subscribers stays until
+    /// the next change. It does not allocate.
     pub fn leave(&mut self, number: u64)
         ensures left { SetsAt number one_less self.old.groups.items self.new.groups.items }
         ensures encoded { (encode : Option TheView → Option F) (now : TheView)
@@ -86,9 +86,9 @@ impl<F: Drop> EndpointGroups<F> {
         leave_at(&mut self.groups, number);
     }
 
-    /// The rows have changed at these addresses, each given with the row that stood there, or the
-    /// Service has come or gone. Each group notes the addresses, however many members it has, and
-    /// nothing that was made is kept. After Memory all are spent: each call that may give Memory does.
+    /// Records a change of the rows at these addresses, each given with the row that was there before, or that the Service was created or
+    /// deleted. Each group notes the addresses once, however many members it has, and its kept encoding is dropped. After `Memory` the
+    /// groups are spent: each call that may return `Memory` does.
     pub fn change(&mut self, before: &[(Ip, u16, Option<EndpointRow>)]) -> Result<(), Memory>
         requires { IsByAddress before.now }
         ensures members { (n : ℕ) → members_at self.new.groups.items n
@@ -110,8 +110,7 @@ impl<F: Drop> EndpointGroups<F> {
         Ok(())
     }
 
-    /// The messages that bring the members of the group from what they were last told to the endpoints
-    /// now.
+    /// Returns the messages that bring the members of the group from what they were last shown to the current endpoints.
     pub fn messages(
         &self,
         number: u64,
@@ -130,15 +129,14 @@ impl<F: Drop> EndpointGroups<F> {
         messages_at(self.alloc, self.groups.as_slice(), number, now, limits)
     }
 
-    /// What was made of the messages of the group, and kept.
+    /// Returns the kept encoding of the messages of the group.
     pub fn encoding(&self, number: u64) -> Option<&F>
         ensures { option_copied result ≡ encoding_at self.now.groups.items number }
     {
         encoding_at(self.groups.as_slice(), number)
     }
 
-    /// Keeps what was made of the messages of the group until the rows change. A number without members
-    /// keeps nothing.
+    /// Keeps the encoding of the messages of the group until the rows change. A group without members keeps none.
     pub fn keep(&mut self, number: u64, encoding: F)
         ensures kept { SetsAt number (with_encoding encoding) self.old.groups.items self.new.groups.items }
         ensures encoded { (encode : Option TheView → Option F) (now : TheView)
@@ -151,8 +149,8 @@ impl<F: Drop> EndpointGroups<F> {
         keep_at(&mut self.groups, number, encoding);
     }
 
-    /// A member of the group was told everything as it is now. It moves to the group of those that
-    /// were, whose number is given. After Memory all is as before.
+    /// Records that a member of the group was shown the current endpoints, and moves it to the group of those that were. Returns the
+    /// number of that group. After `Memory` all is as before.
     pub fn catch_up(&mut self, number: u64, exists: bool) -> Result<u64, Memory>
         ensures moved { 0 < members_at self.old.groups.items number → IfOk result (λ to.
             Moves number to self.old.groups.items self.new.groups.items) }

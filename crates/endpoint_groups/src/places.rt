@@ -1,4 +1,4 @@
-//! Groups in a list, each by its place.
+//! Groups in a list, each at its number.
 ghost use Rattle.std.specs.Prelude.{◌≡◌, ◌<◌, ◌≤◌, ℕ, IfOk, IfSome, None, OnErr, OnOk, length, true};
 ghost use Rattle.std.specs.Option.{option_copied};
 ghost use Rattle.view_diff.specs.Earlier.{IsByAddress};
@@ -16,7 +16,7 @@ use view_diff::batch::endpoint_batch;
 use view_types::endpoint::{EndpointRow, EndpointView};
 use view_types::message::Message;
 
-/// One member more at the place.
+/// Adds a member to the group at an index.
 pub fn enter_at<F: Drop>(groups: &mut Vec<Group<F>>, place: usize) -> Result<(), Memory>
     requires { place < length groups.old.items }
     ensures ok { OnOk result (SetsAt place one_more groups.old.items groups.new.items) }
@@ -26,7 +26,7 @@ pub fn enter_at<F: Drop>(groups: &mut Vec<Group<F>>, place: usize) -> Result<(),
     groups[place].enter()
 }
 
-/// One member less at the number, if there is a group.
+/// Removes a member from the group with this number, if there is one.
 pub fn leave_at<F: Drop>(groups: &mut Vec<Group<F>>, number: u64)
     ensures left { SetsAt number one_less groups.old.items groups.new.items }
     ensures len { length groups.new.items ≡ length groups.old.items }
@@ -37,7 +37,7 @@ pub fn leave_at<F: Drop>(groups: &mut Vec<Group<F>>, number: u64)
     }
 }
 
-/// Keeps at the number what was made, if there is a group.
+/// Keeps the encoding at the group with this number, if there is one.
 pub fn keep_at<F: Drop>(groups: &mut Vec<Group<F>>, number: u64, encoding: F)
     ensures kept { SetsAt number (with_encoding encoding) groups.old.items groups.new.items }
     ensures len { length groups.new.items ≡ length groups.old.items }
@@ -75,8 +75,7 @@ pub fn messages_at<F: Drop>(
     }
 }
 
-/// One member more among those that were told everything as it is now, in the current group or else in
-/// a new one.
+/// Adds a member to the group of those that were shown the current endpoints: the current one, or else a new one.
 pub fn enter_current<F: Drop>(
     alloc: Global,
     groups: &mut Vec<Group<F>>,
@@ -106,7 +105,7 @@ fn is_current_at<F: Drop>(groups: &[Group<F>], place: usize, exists: bool) -> bo
     }
 }
 
-/// Puts the group where there is none, and returns its place.
+/// Inserts the group at a place without members, and returns its index.
 fn open<F: Drop>(groups: &mut Vec<Group<F>>, group: Group<F>) -> Result<usize, Memory>
     requires { 0 < length groups.old.items }
     ensures free { IfOk result (λ to. IsFree groups.old.items to) }
@@ -126,7 +125,7 @@ fn open<F: Drop>(groups: &mut Vec<Group<F>>, group: Group<F>) -> Result<usize, M
     }
 }
 
-/// A place without members, after the first.
+/// Returns the index of a group without members, after the first.
 fn vacant_place<F>(groups: &[Group<F>]) -> Option<usize>
     ensures free { IfSome result (λ place. IsFree groups.now place) }
     ensures within { IfSome result (λ place. place < length groups.now) }
@@ -139,8 +138,7 @@ fn vacant_place<F>(groups: &[Group<F>]) -> Option<usize>
     None
 }
 
-/// Each group notes the addresses, and keeps nothing that was made. Where memory runs out some have
-/// noted them.
+/// Notes the addresses in each group, and drops the kept encodings. If memory runs out, only some groups have noted them.
 pub fn note_all<F: Drop>(
     alloc: Global,
     groups: &mut Vec<Group<F>>,

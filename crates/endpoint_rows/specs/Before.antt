@@ -1,4 +1,4 @@
--- What stood at the addresses whose rows have changed.
+-- The earlier rows at the addresses whose rows have changed.
 use Rattle.std.specs.Prelude.{◌≡◌, ◌++◌, if◌then◌else◌, find, List, Option, Some, None, IfSome}
 use Rattle.std.specs.Option.{option_to_list}
 use Rattle.row_places.specs.Rows.{row_at}
@@ -13,13 +13,13 @@ use Rattle.endpoint_rows.specs.Kept.{Pair}
 abbrev pub note_at : Pair → List Stood → Option Stood
 note_at pair notes = find (λ note. same_pair pair (address note)) notes
 
--- the note of a pair whose row differs between an old view and a new one: the row as it was, or none where none was
+-- the note of a pair whose row differs between an old and a new view: the old row, or none if there was none
 abbrev pub note_of : List EndpointRow → List EndpointRow → Pair → Option Stood
 note_of old new pair =
     if same_option same_row (row_at old pair) (row_at new pair) then None
     else Some (pair.0, pair.1, row_at old pair)
 
--- a note of the pair stands at the end of what was noted, or none, with a row of the pair, if one stood there
+-- At most one note is appended. It is for this pair, and its row, if it has one, is of this pair.
 pub record AddsNote (pair : Pair) (old new : List Stood) : Type 0 where
   pub note : Option Stood
   pub is : new ≡ old ++ option_to_list note

@@ -1,4 +1,4 @@
--- What is shown of the slices of a Service is what the Service's port has.
+-- The view of the slices of a Service has the endpoints of the Service's port.
 use Rattle.std.specs.Prelude.{◌≡◌, ℕ, List, [], Option, Some, None, option_and_then}
 use Rattle.std.specs.FinMap.{get}
 use Rattle.mesh_base.specs.declared.key.ObjKey.{ObjKey}
@@ -13,11 +13,11 @@ abbrev pub rows_in : (Slice → List EndpointRow) → Option Slice → List Endp
 rows_in rows None = []
 rows_in rows (Some slice) = rows slice
 
--- the rows that the object at a key gives at ports of the name, where it is a slice of the Service
+-- the rows that the object at a key gives at ports of the name, if it is a slice of the Service
 abbrev pub rows_held : RowFor → ObjectMap → List ℕ → List ℕ → List ℕ → ObjKey → List EndpointRow
 rows_held row held ns name port_name key = rows_in (slice_rows row port_name) (option_and_then (slice_in ns name) (get held key))
 
--- Where each slice of the Service is kept, and nothing else, the first rows of all are those of the Service at ports of the name.
+-- If each slice of the Service is kept, and nothing else, the first rows of all are those of the Service at ports of the name.
 abbrev pub SlicesMakeTheService : Type 0
 SlicesMakeTheService = (row : RowFor) (held : ObjectMap) (ns name port_name : List ℕ) (s : Slices) → Agree s
     → ((key : ObjKey) → rows_of s.by_slice key ≡ first_rows (rows_held row held ns name port_name key))

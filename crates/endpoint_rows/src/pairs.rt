@@ -19,7 +19,7 @@ use std::cmp::Ordering;
 use std::collections::BTreeMap;
 use view_types::endpoint::EndpointRow;
 
-/// Puts the pairs of rows at the end.
+/// Appends the pairs of rows to the list.
 pub(crate) fn add_pairs(pairs: &mut List<(Ip, u16)>, rows: &[EndpointRow]) -> Result<(), Memory>
     ensures { OnOk result (pairs.new ≡ pairs.old ++ map pair_of rows.now) }
 {
@@ -29,7 +29,7 @@ pub(crate) fn add_pairs(pairs: &mut List<(Ip, u16)>, rows: &[EndpointRow]) -> Re
     Ok(())
 }
 
-/// The pairs in order, each once.
+/// Sorts pairs, and removes duplicates.
 pub(crate) fn in_order(pairs: List<(Ip, u16)>) -> Result<List<(Ip, u16)>, Memory>
     ensures { IfOk result (λ ordered. ordered ≡ in_order_by pair_cmp (λ pair. pair) pairs) }
 {
@@ -54,7 +54,7 @@ fn compare_pairs(a: &(Ip, u16), b: &(Ip, u16)) -> Ordering
     }
 }
 
-/// The keys of the slices that give a pair.
+/// Returns the keys of the slices that give a pair.
 pub(crate) fn keys_at<'a>(by: &'a BTreeMap<(Ip, u16), KeyList>, pair: &(Ip, u16)) -> &'a [ObjKey]
     ensures value { result.now ≡ keys_at pair_cmp by.now pair.now }
     ensures rise { KeysRise (keys_at pair_cmp by.now pair.now) }
@@ -62,7 +62,7 @@ pub(crate) fn keys_at<'a>(by: &'a BTreeMap<(Ip, u16), KeyList>, pair: &(Ip, u16)
     by_mark::keys_at(by, pair)
 }
 
-/// Puts the key of a slice to each pair of its rows.
+/// Adds the key of a slice at each pair of its rows.
 pub(crate) fn put_keys(
     alloc: Global,
     by: &mut BTreeMap<(Ip, u16), KeyList>,
@@ -93,7 +93,7 @@ fn put_key(
     by_mark::put_one(alloc, by, &(ip, port), key)
 }
 
-/// Takes the key of a slice from each pair of its rows.
+/// Removes the key of a slice at each pair of its rows.
 pub(crate) fn take_keys(by: &mut BTreeMap<(Ip, u16), KeyList>, rows: &[EndpointRow], key: &ObjKey)
     ensures { (p : Pair) (k : ObjKey)
         → key_at pair_cmp by.new p k

@@ -48,7 +48,7 @@ impl RowList {
         }
     }
 
-    /// Rows that are in order.
+    /// Creates a list from rows that are in order.
     pub fn of(rows: List<EndpointRow>) -> RowList
         requires { IsKeyed pair_cmp pair_of (λ row. row) rows }
         ensures { result ≡ rows }
@@ -58,7 +58,7 @@ impl RowList {
         }
     }
 
-    /// Each address and port once, in order, by its first row.
+    /// Creates a list from rows in any order. Of the rows with the same address and port the first is kept.
     pub fn of_first(rows: List<EndpointRow>) -> Result<RowList, Memory>
         ensures { IfOk result (λ first. first ≡ first_rows rows) }
     {
@@ -82,14 +82,14 @@ impl RowList {
         self.rows.as_slice()
     }
 
-    /// The row at an address and port.
+    /// Returns the row at an address and port.
     pub fn at(&self, pair: &(Ip, u16)) -> Option<&EndpointRow>
         ensures { option_copied result ≡ row_at self.now pair.now }
     {
         row_at(self.rows.as_slice(), pair)
     }
 
-    /// Puts a row at its address and port, and gives the one that was there.
+    /// Inserts a row at its address and port. Returns the row that was there.
     pub fn put(&mut self, row: EndpointRow) -> Result<Option<EndpointRow>, Memory>
         ensures put { OnOk result (Replaces (pair_of row) (Some row) self.old self.new) }
         ensures was { IfOk result (λ was. was ≡ row_at self.old (pair_of row)) }
@@ -103,7 +103,7 @@ impl RowList {
         }
     }
 
-    /// Takes the row at an address and port out, and gives it.
+    /// Removes the row at an address and port, and returns it.
     pub fn take(&mut self, pair: &(Ip, u16)) -> Option<EndpointRow>
         ensures taken { Replaces pair.now None self.old self.new }
         ensures was { result ≡ row_at self.old pair.now }

@@ -1,5 +1,5 @@
 //! The rows of a Service's port.
-ghost use Rattle.std.specs.Prelude.{◌≡◌, [], IfOk, OnOk, if◌then◌else◌};
+ghost use Rattle.std.specs.Prelude.{◌≡◌, [], OnOk, if◌then◌else◌};
 ghost use Rattle.std.proofs.Props.{props};
 ghost use Rattle.mesh_base.specs.declared.key.ObjKey.{ObjKey};
 ghost use Rattle.key_lists.specs.Keys.{is_key};
@@ -19,13 +19,13 @@ use std::alloc::Global;
 use std::mem;
 use view_types::endpoint::{EndpointRow, EndpointView};
 
-/// The rows that slices give, and a view of them. Slices are put and removed one after the other, and
-/// then the view is brought up to them at once.
+/// The rows that slices give, and the view of them. Slices are put and removed one after another, and then `settle` updates the view
+/// once.
 #[derive(Drop)]
 pub struct EndpointRows {
     pub(crate) slices: Slices,
     pub(crate) view: EndpointView,
-    /// The addresses and ports of the slices that were put or removed since the view was brought up.
+    /// The addresses and ports of the slices that were put or removed since the last update of the view.
     pub(crate) touched: List<(Ip, u16)>,
     pub(crate) notes: List<(Ip, u16, Option<EndpointRow>)>,
     alloc: Global,
@@ -37,7 +37,7 @@ impl EndpointRows {
     ghost use Rattle.endpoint_rows.specs.Before.{TellsBefore};
     ghost use Rattle.endpoint_rows.specs.Kept.{Keeps, all_rows, rows_of};
 
-    /// No slice gives a row.
+    /// Creates the rows of a Service without slices.
     pub fn new(alloc: Global, exists: bool) -> EndpointRows
         ensures keeps { Keeps result }
         ensures none { (k : ObjKey) → rows_of result.slices.by_slice k ≡ [] }
@@ -55,7 +55,7 @@ impl EndpointRows {
         }
     }
 
-    /// Puts the rows of a slice, in the order of its places, in the place of those that it gave.
+    /// Replaces the rows of a slice by these, which are in the order of their places in the slice.
     pub fn put_slice(&mut self, key: ObjKey, rows: List<EndpointRow>) -> Result<(), Memory>
         ensures keeps { Keeps self.old → OnOk result (Keeps self.new) }
         ensures put { OnOk result ((k : ObjKey)
@@ -70,7 +70,7 @@ impl EndpointRows {
         self.slices.put(key, rows)
     }
 
-    /// Takes the rows of a slice out.
+    /// Removes the rows of a slice.
     pub fn take_slice(&mut self, key: &ObjKey) -> Result<(), Memory>
         ensures keeps { Keeps self.old → OnOk result (Keeps self.new) }
         ensures taken { OnOk result ((k : ObjKey)
@@ -83,7 +83,7 @@ impl EndpointRows {
         add_pairs(&mut self.touched, rows.as_slice())
     }
 
-    /// Takes the rows of all slices out. From then on the Service is there or not.
+    /// Removes the rows of all slices. The Service exists from then on, or does not, as `exists` says.
     pub fn restart(&mut self, exists: bool) -> Result<(), Memory>
         ensures keeps { Keeps self.old → OnOk result (Keeps self.new) }
         ensures none { OnOk result ((k : ObjKey) → rows_of self.new.slices.by_slice k ≡ []) }
@@ -96,7 +96,7 @@ impl EndpointRows {
         add_pairs(&mut self.touched, self.view.rows.as_slice())
     }
 
-    /// Brings the view up to what the slices give.
+    /// Updates the view to the rows of the slices.
     pub fn settle(&mut self) -> Result<(), Memory>
         ensures keeps { Keeps self.old → OnOk result (Keeps self.new) }
         ensures slices { self.new.slices ≡ self.old.slices }
@@ -116,22 +116,21 @@ impl EndpointRows {
         Ok(())
     }
 
-    /// The view as it was last brought up.
+    /// Returns the view as of the last update.
     pub fn view(&self) -> &EndpointView
         ensures { result.now ≡ self.now.view }
     {
         &self.view
     }
 
-    /// The view by itself.
+    /// Returns the view as an owned value.
     pub fn into_view(self) -> EndpointView
         ensures { result ≡ self.view }
     {
         self.view
     }
 
-    /// The addresses and ports whose rows differ since the view was brought up the time before,
-    /// each with the row that stood there.
+    /// Returns the addresses and ports whose rows the last update changed, each with the row that was there before.
     pub fn before(&self) -> &[(Ip, u16, Option<EndpointRow>)]
         ensures value { result.now ≡ self.now.notes }
         ensures by_address { IsByAddress result.now }

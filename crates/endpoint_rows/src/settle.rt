@@ -1,4 +1,4 @@
-//! What is shown, brought up to what slices give.
+//! Updates of the view to the rows of the slices.
 ghost use Rattle.std.specs.Prelude.{◌≡◌, ◌++◌, IfOk, OnOk, None, Some, filter_map};
 ghost use Rattle.std.specs.List.Sorted.{IsStrictlySortedBy};
 ghost use Rattle.std.specs.Option.{option_copied, option_to_list};
@@ -21,8 +21,8 @@ use net_cidr::ip::Ip;
 use std::alloc::Global;
 use view_types::endpoint::EndpointRow;
 
-/// Shows at each of the pairs, which rise, what the slices give there. Answers the rows that stood
-/// at those where another stands now.
+/// Updates the view at each of the pairs, which are in order, to the first row of the slices. Returns the earlier rows at the pairs where
+/// the row has changed.
 pub(crate) fn settle_all(
     slices: &Slices,
     pairs: &[(Ip, u16)],
@@ -82,8 +82,7 @@ fn same(was: &EndpointRow, now: &EndpointRow) -> bool
     was.is_same(now)
 }
 
-/// Shows a copy of the row, or none, at its address and port, and gives the row that was shown
-/// there.
+/// Sets the row at an address and port to a copy of this one, or removes it. Returns the earlier row.
 fn show(
     alloc: Global,
     rows: &mut RowList,

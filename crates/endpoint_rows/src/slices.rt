@@ -42,7 +42,7 @@ impl Slices {
         }
     }
 
-    /// The first row at an address and port, in the order of the slices' keys.
+    /// Returns the first row at an address and port, in the order of the slices' keys.
     pub(crate) fn first(&self, pair: &(Ip, u16)) -> Option<&EndpointRow>
         ensures value { Agree self.now
             → option_copied result ≡ row_at (all_rows self.now.by_slice) pair.now }
@@ -54,7 +54,7 @@ impl Slices {
         }
     }
 
-    /// Puts the rows of a slice that gives none yet.
+    /// Inserts the rows of a slice that has none yet.
     pub(crate) fn put(&mut self, key: ObjKey, rows: RowList) -> Result<(), Memory>
         ensures agree { Agree self.old → rows_of self.old.by_slice key ≡ []
             → OnOk result (Agree self.new) }
@@ -66,7 +66,7 @@ impl Slices {
         put_rows(&mut self.by_slice, key, rows)
     }
 
-    /// Takes the rows of a slice out, and gives them.
+    /// Removes the rows of a slice, and returns them.
     pub(crate) fn take(&mut self, key: &ObjKey) -> RowList
         ensures agree { Agree self.old → Agree self.new }
         ensures rows { result ≡ rows_of self.old.by_slice key.now }

@@ -19,16 +19,16 @@ use Rattle.feed_history.specs.declared.refusal.HubFault.{HubFault}
 abbrev pub endpoints_at : Config → ObjectMap → Option EndpointKey → Option EndpointView
 endpoints_at config held key = option_map (endpoint_row config held) key
 
--- a query for the endpoints of a key, whoever asks
+-- a query for the endpoints of a key, from any client
 abbrev pub query_for : EndpointKey → Query
 query_for key = Get key.ns key.name key.port (record { ns = None; node = None })
 
--- the endpoints of a key, if there is one, read a mark of a change
+-- the endpoints of a key, if there is one, read a mark of the change
 abbrev pub is_met : ObjectMap → List Mark → Option EndpointKey → Bool
 is_met held changed None = false
 is_met held changed (Some key) = meets (endpoint_reads held key) changed
 
--- The frames that bring a subscriber from the endpoints that it was shown to those now. Without a stream there are none.
+-- The frames that bring a subscriber from the endpoints that it was shown to the current ones. Without a stream there are none.
 abbrev pub frames_to : Limits → Option EndpointView → Option EndpointView → Result (List (List ℕ)) HubFault
 frames_to limits shown None = Ok []
 frames_to limits shown (Some now) = frames_within limits.message (endpoint_batch shown now limits)

@@ -23,22 +23,22 @@ use mesh_base::steps::Steps;
 use object_store::change::Change;
 use object_store::store::Store;
 
-/// The streams of endpoints that subscribers are sent, each known by the id of its subscription. After Memory nothing is known of
-/// what was shown, but the keys of the streams stay.
+/// The streams of endpoints that subscribers are sent, each under the id of its subscription. After `Memory` nothing is known of what
+/// was shown, but the keys of the streams stay.
 pub trait EndpointStreams: Drop {
-    /// The key of each stream that is open.
+    /// The key of each open stream.
     ghost key_of: { Self → ℕ → Option TheKey };
 
-    /// The endpoints that the subscriber of a stream was last shown, if it was shown any.
+    /// The endpoints that the subscriber of a stream was last shown; None if it was shown none.
     ghost shown_to: { Self → ℕ → Option EndpointView };
 
-    /// The streams show the endpoints over these objects, in frames within these limits.
+    /// The streams represent the endpoints over these objects, in frames within these limits.
     ghost stands: { Self → Config → Limits → ObjectMap → Type 0 };
 
     /// How many users the row of a key has in the index of endpoints. Rows of other kinds have none.
     ghost users: { Self → RowKey → ℕ };
 
-    /// Opens a stream under an id that has none. Its subscriber was shown nothing.
+    /// Opens a stream under an id that has none. Its subscriber was shown nothing yet.
     fn open<L>(
         &mut self,
         store: &Store,
@@ -58,7 +58,7 @@ pub trait EndpointStreams: Drop {
             + cost store.now.objects (endpoint_reads store.now.objects key) }
         ensures kept { OnErr result (Keeps (key_of self.old) (key_of self.new)) };
 
-    /// Closes the stream of an id, if it has one. It allocates nothing.
+    /// Closes the stream of an id, if it has one. It does not allocate.
     fn close(&mut self, id: u64)
         ensures keys { SetsAt id None (key_of self.old) (key_of self.new) }
         ensures shown { (config : Config) (limits : Limits) (held : ObjectMap)
@@ -67,8 +67,8 @@ pub trait EndpointStreams: Drop {
         ensures stands { (config : Config) (limits : Limits) (held : ObjectMap)
             → stands self.old config limits held → stands self.new config limits held };
 
-    /// Brings the streams up to a change of the store. Gives the ids of those whose endpoints read a mark of it; no subscriber was
-    /// shown anything.
+    /// Updates the streams after a change of the store. Returns the ids of those whose endpoints read a mark of the change. What
+    /// subscribers were shown stays as it was.
     fn follow<L>(
         &mut self,
         store: &Store,
@@ -94,8 +94,9 @@ pub trait EndpointStreams: Drop {
             (λ id. option_map query_for (key_of self.old id)) steps.old steps.new) }
         ensures keys { Keeps (key_of self.old) (key_of self.new) };
 
-    /// The frames that bring the subscriber of an id from the endpoints that it was last shown to those now. `Oversize` comes where
-    /// a message is longer than may be; it tells the first such length. An error shows nobody anything.
+    /// Returns the frames that bring the subscriber of an id from the endpoints that it was last shown to the current ones. Returns
+    /// `Oversize`, with the length of the first such message, if a message is longer than the limit. After an error, what subscribers
+    /// were shown is as before.
     fn drain(&mut self, id: u64) -> Result<List<Bytes>, HubFault>
         requires standing { (config : Config) × (limits : Limits) × (held : ObjectMap)
             × stands self.old config limits held }
@@ -111,12 +112,12 @@ pub trait EndpointStreams: Drop {
             → stands self.old config limits held → stands self.new config limits held }
         ensures keys { Keeps (key_of self.old) (key_of self.new) };
 
-    /// The rows that have users are exactly those of the keys of the streams that are open.
+    /// States that the rows that have users are exactly those of the keys of the open streams.
     ghost in_use: { (streams : Self) (config : Config) (limits : Limits) (held : ObjectMap)
         → stands streams config limits held
         → AreInUse config held (λ id. option_map query_for (key_of streams id)) (users streams) };
 
-    /// The streams stand in one way only, so that a field of a struct may say that they do.
+    /// States that `stands` is a proposition, so that a field of a struct may have it as its type.
     ghost unique: { (streams : Self) (config : Config) (limits : Limits) (held : ObjectMap)
         → IsProp (stands streams config limits held) };
 }

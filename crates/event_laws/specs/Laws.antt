@@ -1,4 +1,4 @@
--- What a watch event leaves as it was.
+-- What a watch event leaves unchanged.
 use Rattle.std.specs.Prelude.{◌≡◌, false, Some}
 use Rattle.view_types.specs.Objects.{AtKeys, ObjectMap}
 use Rattle.view_types.specs.declared.config.Config.{Config}
@@ -12,11 +12,11 @@ use Rattle.watch_events.specs.declared.event.Event.{Event}
 use Rattle.feed_history.specs.Due.{is_touched, marks_of_event}
 use Rattle.feed_history.specs.Events.{objects_after}
 
--- An event leads to the objects after it by its marks.
+-- The marks of an event account for the change of the objects.
 abbrev pub EventsLead : Type 0
 EventsLead = (held : ObjectMap) → AtKeys held → (event : Event) → IsLawfulEvent event → Leads (marks_of_event held event) held (objects_after held event)
 
--- Each object that is held after a lawful event is lawful.
+-- After a lawful event, each object that is held is lawful.
 abbrev pub EventsKeepLawful : Type 0
 EventsKeepLawful = (held : ObjectMap) → AreLawful held → (event : Event) → IsLawfulEvent event → AreLawful (objects_after held event)
 
@@ -25,7 +25,7 @@ pub record IsUnmoved (config : Config) (before after : ObjectMap) (query : Query
   pub view : view_of config after query ≡ view_of config before query
   pub reads : query_reads config after query ≡ query_reads config before query
 
--- So it is of a query that reads no mark of the event.
+-- The same for a query that reads no mark of the event.
 abbrev pub UntouchedQueriesStay : Type 0
 UntouchedQueriesStay = (config : Config) (held : ObjectMap) → AtKeys held → AreLawful held → (event : Event) → IsLawfulEvent event
     → (query : Query) → is_touched config held event (Some query) ≡ false → IsUnmoved config held (objects_after held event) query

@@ -3,8 +3,8 @@ ghost use Rattle.event_laws.specs.Laws.{EventsKeepLawful, EventsLead, UntouchedQ
 use mark_rules::laws::{changes_lead, marks_stand_once, views_stay};
 use object_store::laws::{put_by_key, relist_leads, relisted_by_key, taken_by_key};
 
-/// An event leads from the objects before it to those after it by its marks: those of the objects that it replaces, removes or
-/// brings.
+/// States that the marks of an event account for the change of the objects: they are those of the objects that it replaces, removes or
+/// adds.
 pub fn events_lead()
     ensures { EventsLead }
 {
@@ -13,7 +13,7 @@ pub fn events_lead()
     relist_leads();
 }
 
-/// After a lawful event each object held is lawful, where each was before it.
+/// States that after a lawful event each object held is lawful, if each was before it.
 pub fn events_keep_lawful()
     ensures { EventsKeepLawful }
 {
@@ -22,7 +22,7 @@ pub fn events_keep_lawful()
     relisted_by_key();
 }
 
-/// A query that reads no mark of an event has the same view after it, and reads the same.
+/// States that a query that reads no mark of an event has the same view after it, and reads the same marks.
 pub fn untouched_queries_stay()
     ensures { UntouchedQueriesStay }
 {

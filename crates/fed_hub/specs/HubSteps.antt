@@ -1,4 +1,4 @@
--- What a request, a cancellation and a drain come to.
+-- The effects of a request, a cancellation and a drain.
 use Rattle.std.specs.Prelude.{◌≡◌, ◌<◌, ◌+◌, ◌^◌, ℕ, nat_eq, List, Option, Some, None, Result, Ok, Err}
 use Rattle.mesh_base.specs.declared.sub_id.SubId.{SubId}
 use Rattle.view_types.specs.declared.query.Query.{Query}
@@ -10,12 +10,12 @@ use Rattle.fed_hub.specs.declared.hub.FedHub.{FedHub}
 abbrev pub id_at : ℕ → SubId
 id_at number = record { 0 = number }
 
--- nothing but the hub differs, and the number of requests
+-- only the hub and the number of requests may differ
 pub record Same (old new : FedHub) : Type 0 where
   pub config : new.config ≡ old.config
   pub stopped : new.stopped ≡ old.stopped
 
--- A request is accepted under the number that follows, which is then due.
+-- A request is accepted under the next number, and its subscription is due.
 pub record IsSubscribed (query : Query) (old new : FedHub) (id : SubId) : Type 0 where
   pub same : Same old new
   pub id_is : id ≡ id_at (old.requests + 1)
@@ -24,7 +24,7 @@ pub record IsSubscribed (query : Query) (old new : FedHub) (id : SubId) : Type 0
   pub state : state_of new.hub ≡ subscribed (state_of old.hub) (id_at (old.requests + 1)) query
   pub due : AlsoDue (λ n. nat_eq n (old.requests + 1)) old.hub new.hub
 
--- It is refused, which changes nothing. After 2 ^ 32 - 1 accepted requests each is refused.
+-- The request is refused, which changes nothing. After 2 ^ 32 - 1 accepted requests every request is refused.
 pub record IsTurnedAway (old new : FedHub) : Type 0 where
   pub same : Same old new
   pub requests : new.requests ≡ old.requests
@@ -43,12 +43,12 @@ pub record CancelsAt (id : ℕ) (old new : FedHub) : Type 0 where
   pub state : state_of new.hub ≡ cancelled (state_of old.hub) id
   pub due : Undue id old.hub new.hub
 
--- the frames, unless one is too long
+-- the frames, unless a message is too long
 abbrev pub frames_in : Result (List (List ℕ)) HubFault → Option (List (List ℕ))
 frames_in (Ok frames) = Some frames
 frames_in (Err fault) = None
 
--- A subscription is drained, and is not due then; if a message is too long, it ends.
+-- A subscription is drained and is then not due; if a message is too long, it ends.
 pub record DrainsAt (id : ℕ) (old new : FedHub) (answer : Option (List (List ℕ))) : Type 0 where
   pub same : Same old new
   pub requests : new.requests ≡ old.requests

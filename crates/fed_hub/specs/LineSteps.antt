@@ -1,4 +1,4 @@
--- What one line of a feed comes to.
+-- The effect of one line of a feed.
 use Rattle.std.specs.Prelude.{◌≡◌, ◌≤◌, ◌<◌, ◌+◌, ◌-◌, ◌^◌, ◌++◌, ◌∷◌, ◌||◌, ℕ, Bool, false, not, ◌&&◌, is_some, min, List, [], Option, Some, Result, Ok, Err, length}
 use Rattle.std.specs.Option.{option_to_list}
 use Rattle.line_run.specs.Rows.{Row}
@@ -25,14 +25,14 @@ use Rattle.mesh_hub.specs.declared.hub.Hub.{Hub}
 use Rattle.serve_rules.specs.FedLines.{FedRow, answer_to, held_after, is_stop, line_answer, row_answer, rows_fed, says_stop, serve_of}
 use Rattle.fed_hub.specs.declared.hub.FedHub.{FedHub}
 
--- the hub goes by this configuration and these limits, and holds what these lines lead to
+-- the hub has this configuration and these limits, and holds what is held after these lines
 pub record Holds (config : Config) (limits : Limits) (pat : Pat) (fed : List FedRow) (hub : HubState) : Type 0 where
   pub config_is : hub.config ≡ config
   pub limits_are : hub.limits ≡ limits
   pub objects : hub.objects ≡ held_after (serve_of config limits pat) fed
   pub going : hub.spent ≡ false
 
--- ---- what a line that says this comes to
+-- ---- the effect of a line by its contents
 
 abbrev pub IsItem : List ℕ → Option (List ℕ) → Type 0
 IsItem text item = item ≡ Some text
@@ -40,15 +40,15 @@ IsItem text item = item ≡ Some text
 abbrev pub HasByte : List ℕ → Type 0
 HasByte text = 0 < length text
 
--- the answers of the line after these
+-- the answers to the line after these lines
 abbrev pub answers_of : Program → ℕ → State → Option SimFault → Result Line LineFault → List (List ℕ)
 answers_of program number now met line = row_answer number (refusal_of program now met line) (line_answer program number now line)
 
--- the state that the line leads to
+-- the state after the line
 abbrev pub led_to : Program → State → Option SimFault → Result Line LineFault → State
 led_to program now met line = unless_refused (refusal_of program now met line) now (after_line program now line)
 
--- the line is an event of which a query reads a mark
+-- the line is an event of which the query reads a mark
 abbrev pub touches_line : Program → State → Result Line LineFault → Option Query → Bool
 touches_line program now (Ok (lines.Event event)) query = is_touched program.config now.objects event query
 touches_line program now (Ok lines.Blank) query = false
@@ -59,16 +59,16 @@ touches_line program now (Ok (lines.Simulate request)) query = false
 touches_line program now (Ok lines.Stop) query = false
 touches_line program now (Err fault) query = false
 
--- and it is accepted
+-- and the line is accepted
 abbrev pub touches_by : Program → State → Option SimFault → Result Line LineFault → Option Query → Bool
 touches_by program now met line query = not (is_some (refusal_of program now met line)) && touches_line program now line query
 
--- what the hub has due after a line
+-- the ids that are due in the hub after a line
 abbrev pub DueAfter : Program → State → Option SimFault → Result Line LineFault → Hub → Hub → Type 0
 DueAfter program now met line old new = (id : ℕ) → is_due new id ≡ (touches_by program now met line (query_at id (state_of old).subs) || is_due old id)
 
--- The line of this number is answered by this item, if it is, and the hub holds what it leads to. It met a fault only if it may,
--- and each fault that it met was counted.
+-- The line with this number has this answer, if it has one, and the hub holds what is held after it. The line met a fault only if it may,
+-- and each fault was counted.
 pub record Takes (program : Program) (known : PatternsNow) (now : State) (number : ℕ) (line : Result Line LineFault) (item : Option (List ℕ)) (old new : FedHub) : Type 0 where
   pub met : Option SimFault
   pub fair : MayMeetBy now (facts_in known) line met
@@ -93,8 +93,8 @@ TakesRow old new number row known item = TakesLine old new number (row_says (tex
 abbrev pub fed_row : ℕ → ℕ → Row → Option SimFault → FedRow
 fed_row link number row met = record { link = link; number = number; row = (row, met) }
 
--- A line is applied after those before it: its answer is added, the hub holds what the line leads to and keeps each subscription,
--- and a `stop` is noted. It is marked only if it met a pattern that was refused in this call.
+-- A line is applied after those before it: its answer is appended, the hub holds what is held after it and keeps each subscription, and a
+-- `stop` is recorded. The line is marked only if it met a pattern that was refused in this call.
 pub record Applies (config : Config) (limits : Limits) (pat : Pat) (known : PatternsNow) (fed : List FedRow) (link number : ℕ) (row : Row) (answers answers_now : List (List ℕ)) (old new : FedHub) : Type 0 where
   pub met : Option SimFault
   pub fair : MayBeMarked (serve_of config limits pat) (after (serve_of config limits pat) (rows_fed fed)) (facts_in known) (row, met) met

@@ -1,5 +1,5 @@
-// The answers of lines.
-ghost use Rattle.std.specs.Prelude.{◌≡◌, ◌≢◌, [], ◌++◌, ◌∷◌, IfOk, IfSome, OnOk};
+// The answers to lines.
+ghost use Rattle.std.specs.Prelude.{◌≢◌, IfOk, IfSome, OnOk};
 ghost use Rattle.feed_history.specs.Text.{refused_line};
 ghost use Rattle.feed_history.specs.VerdictText.{verdict_line};
 ghost use Rattle.feed_history.specs.declared.refusal.Refusal.TheVariants as refusals;
@@ -16,7 +16,7 @@ use std::alloc::Global;
 use view_types::verdict::Verdict;
 use watch_events::line::LineFault;
 
-/// The answer to an accepted line.
+/// Returns the answer to an accepted line.
 pub(crate) fn accepted(alloc: Global, number: u64) -> Result<Option<List<u8>>, Memory>
     ensures item { IfOk result (IsItem (ok_line number)) }
     ensures some { IfOk result (λ item. IfSome item HasByte) }
@@ -25,7 +25,7 @@ pub(crate) fn accepted(alloc: Global, number: u64) -> Result<Option<List<u8>>, M
     Ok(Some(List::from_vec(text.into_bytes())))
 }
 
-/// The answer to a refused line.
+/// Returns the answer to a refused line.
 pub(crate) fn refused(
     alloc: Global,
     number: u64,
@@ -39,7 +39,7 @@ pub(crate) fn refused(
     Ok(Some(List::from_vec(out)))
 }
 
-/// The answer to a line that was read, and that the hub refuses.
+/// Returns the answer to a line that was read and that the hub refuses.
 pub(crate) fn refused_by(
     alloc: Global,
     number: u64,
@@ -55,7 +55,7 @@ pub(crate) fn refused_by(
     }
 }
 
-/// The answer to a row that is not read.
+/// Returns the answer to a line that cannot be read.
 pub(crate) fn unread(
     alloc: Global,
     number: u64,
@@ -71,7 +71,7 @@ pub(crate) fn unread(
     }
 }
 
-/// The answer to a simulation that met a pattern that is refused.
+/// Returns the answer to a simulation that met a refused pattern.
 pub(crate) fn undecided(
     alloc: Global,
     number: u64,
@@ -87,7 +87,7 @@ pub(crate) fn undecided(
     }
 }
 
-/// The answer to a simulation of a request to a Pod of the namespace.
+/// Returns the answer to a simulation of a request to a Pod of the namespace.
 pub(crate) fn decided(
     alloc: Global,
     number: u64,

@@ -1,5 +1,5 @@
-// A hub that lines of feeds are applied to.
-ghost use Rattle.std.specs.Prelude.{◌≡◌, ◌≤◌, ℕ, List as TheList, [], false, Bool, Option as TheOption, Ok, IfOk, IfSome, OnOk};
+// A hub to which the lines of feeds are applied.
+ghost use Rattle.std.specs.Prelude.{◌≡◌, ◌≤◌, ℕ, List as TheList, false, Bool, Option as TheOption, Ok, IfOk, IfSome, OnOk};
 ghost use Rattle.std.specs.Option.{option_copied};
 ghost use Rattle.session_core.specs.Outboxes.{NoneEmpty};
 ghost use Rattle.watch_events.specs.Lawful.{IsLawfulEvent, IsLawfulLine};
@@ -31,13 +31,13 @@ use watch_events::event::Event;
 use watch_events::line::Line;
 use watch_events::read::read_row;
 
-/// A hub that lines of feeds are applied to, with the subscriptions of links.
+/// A hub to which the lines of feeds are applied, with the subscriptions of links.
 #[derive(Drop)]
 pub struct FedHub {
     alloc: Global,
     config: Config,
     hub: Hub,
-    /// The requests that were accepted. Each subscribes under its number among them.
+    /// The number of accepted requests. Each request subscribes under its number.
     requests: u32,
     /// Whether a `stop` line was accepted in this turn.
     stopped: bool,
@@ -45,7 +45,7 @@ pub struct FedHub {
 }
 
 impl FedHub {
-    /// A hub that holds nothing.
+    /// Creates a hub without objects and subscriptions.
     pub fn new(alloc: Global, config: Config, limits: Limits) -> Result<FedHub, Memory>
         requires { 1 ≤ limits.frame_addrs }
         ensures config { IfOk result (λ fed. fed.config ≡ config) }
@@ -65,7 +65,7 @@ impl FedHub {
         })
     }
 
-    /// Forgets a `stop` line of an earlier turn.
+    /// Clears the flag of a `stop` line at the beginning of a turn.
     pub fn begin_turn(&mut self)
         ensures { self.new ≡ record self.old { stopped = false } }
     {
@@ -79,7 +79,7 @@ impl FedHub {
         self.stopped
     }
 
-    /// The subscriptions that are due, in the order of their ids.
+    /// Returns the subscriptions that are due, in ascending order of their ids.
     pub fn due(&self) -> &[SubId]
         ensures each { (id : ℕ) → is_among id result.now ≡ is_due self.now.hub id }
         ensures rise { Rises result.now }
@@ -87,7 +87,7 @@ impl FedHub {
         self.hub.due()
     }
 
-    /// Subscribes to a query, under the number of its request among those accepted. None if the limit is reached.
+    /// Subscribes to a query, under the number of its request. Returns None if the limit is reached.
     pub fn subscribe(&mut self, query: Query) -> Result<Option<SubId>, Memory>
         ensures { IfOk result (SubscribesNext self.old query self.new) }
     {
@@ -111,7 +111,7 @@ impl FedHub {
         let _ = self.hub.cancel(id);
     }
 
-    /// The frames that are due to a subscription. None if one would be too long, which ends the subscription.
+    /// Returns the frames that are due to a subscription, or None if a message would be too long, which ends the subscription.
     pub fn drain(&mut self, id: SubId) -> Result<Option<List<Bytes>>, Memory>
         ensures drains { IfOk result (DrainsAt id.0 self.old self.new) }
         ensures some { IfOk result (λ answer. IfSome answer NoneEmpty) }
@@ -123,7 +123,7 @@ impl FedHub {
         }
     }
 
-    /// Applies the line of this number, and adds its answer. A row that is None is a line above the limit.
+    /// Applies the line with this number, and appends its answer. The row None is a line that is longer than the limit.
     pub fn answer<P: Patterns>(
         &mut self,
         patterns: &mut P,

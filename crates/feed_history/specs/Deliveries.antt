@@ -1,4 +1,4 @@
--- What each subscriber is sent, and what it sees who folds it.
+-- What each subscriber is sent, and the view that results from folding it.
 use Rattle.std.specs.Prelude.{◌≡◌, ◌≤◌, ℕ, ◌==◌, List, [], ◌∷◌, ◌++◌, Option, Some, None, Result, Ok, Err, if◌then◌else◌, flat_map, option_map}
 use Rattle.std.specs.FinMap.{get}
 use Rattle.mesh_base.specs.declared.key.ObjKey.{ObjKey}
@@ -21,7 +21,7 @@ use Rattle.feed_history.specs.declared.refusal.Refusal.{Refusal}
 
 -- ---- what is sent
 
--- no message is sent where one is too long
+-- no message is sent if one is too long
 abbrev pub sent_unless : Option ℕ → List Message → List Message
 sent_unless None messages = messages
 sent_unless (Some bytes) messages = []
@@ -34,7 +34,7 @@ sent_if_live program held (Some asked) = sent_unless (too_long_for program held 
 abbrev pub sent_now : Program → State → ℕ → List Message
 sent_now program now id = sent_if_live program now.objects (asked_at id now.subs)
 
--- those that a row sends to the subscriber of an id
+-- the messages that a row sends to the subscriber of an id
 abbrev pub sent_by : Program → State → Option Refusal → Result Line LineFault → ℕ → List Message
 sent_by program now (Some refusal) line id = []
 sent_by program now None (Ok (lines.Drain asked)) id = if asked.0 == id then sent_now program now id else []
@@ -51,13 +51,13 @@ abbrev pub sent_to : Program → List MarkedRow → ℕ → List Message
 sent_to program [] id = []
 sent_to program (row ∷ past) id = sent_to program past id ++ sent_by program (after program past) (refusal_after program past row) (reading program row) id
 
--- and by the end of the input too
+-- the same, with those sent at the end of the input
 abbrev pub sent_in_all : Program → List MarkedRow → ℕ → List Message
 sent_in_all program past id = sent_to program past id ++ sent_now program (after program past) id
 
--- ---- what is seen
+-- ---- what is shown
 
--- nothing is shown where a message is too long
+-- no view is shown if a message is too long
 abbrev pub shown_unless : Option ℕ → View → Option View
 shown_unless None view = Some view
 shown_unless (Some bytes) view = None
@@ -66,32 +66,32 @@ abbrev pub shown_if_live : Program → ObjectMap → Option Asked → Option Vie
 shown_if_live program held None = None
 shown_if_live program held (Some asked) = shown_unless (too_long_for program held asked) (view_of program.config held asked.query)
 
--- what a row shows the subscriber of an id, if it is an accepted drain of the id: the view over what is held
+-- the view that a row shows the subscriber of an id, if it is an accepted drain of the id: the view over the objects held
 abbrev pub shown_by : Program → State → Result Line LineFault → ℕ → Option View
 shown_by program now (Ok (lines.Drain asked)) id = if asked.0 == id then shown_if_live program now.objects (asked_at id now.subs) else None
 shown_by program now line id = None
 
--- the view that the last drain of an id showed its subscriber, looking back through the rows, if one did
+-- the view that the last drain of an id showed its subscriber, looking back through the rows, if there was one
 abbrev pub last_shown : Program → List MarkedRow → ℕ → Option View
 last_shown program [] id = None
 last_shown program (row ∷ past) id =
     last_told (refusal_after program past row) (option_map Some (shown_by program (after program past) (reading program row) id)) (last_shown program past id)
 
--- Whoever folds what it was sent sees what its last drain showed it, also once its subscription has ended, by a cancellation or
--- by a message that is too long.
+-- Folding what a subscriber was sent gives the view that its last drain showed it, also after its subscription has ended by a
+-- cancellation or by a message that is too long.
 abbrev pub FoldsToWhatWasShown : Program → Type 0
 FoldsToWhatWasShown program = 1 ≤ program.limits.frame_addrs → (past : List MarkedRow) (id : ℕ) → fold (sent_to program past id) ≡ last_shown program past id
 
--- A live subscriber that folds what it was sent sees the view over what was held when it was last drained, or none.
+-- Folding what a live subscriber was sent gives the view over the objects held at its last drain, or no view.
 abbrev pub FoldsToLastShown : Program → Type 0
 FoldsToLastShown program = 1 ≤ program.limits.frame_addrs → (past : List MarkedRow) (id : ℕ) (asked : Asked) → asked_at id (after program past).subs ≡ Some asked
     → fold (sent_to program past id) ≡ view_before program.config asked.query asked.told
 
--- A live subscriber is owed nothing: its view is what it was last shown.
+-- A live subscriber is owed nothing: its view is the one that it was last shown.
 abbrev pub IsOwedNothing : Program → State → Asked → Type 0
 IsOwedNothing program now asked = view_before program.config asked.query asked.told ≡ Some (view_of program.config now.objects asked.query)
 
--- Whenever a live subscriber is owed nothing, folding what it was sent gives the view that filters over what is held give.
+-- Whenever a live subscriber is owed nothing, folding what it was sent gives the view defined by filters over the objects held.
 abbrev pub FoldsToView : Program → Type 0
 FoldsToView program = 1 ≤ program.limits.frame_addrs → (past : List MarkedRow) (id : ℕ) (asked : Asked) → asked_at id (after program past).subs ≡ Some asked
     → IsOwedNothing program (after program past) asked → fold (sent_to program past id) ≡ Some (view_of program.config (after program past).objects asked.query)
@@ -100,12 +100,12 @@ FoldsToView program = 1 ≤ program.limits.frame_addrs → (past : List MarkedRo
 abbrev pub IsDrained : Program → List MarkedRow → ℕ → Asked → Type 0
 IsDrained program past id asked = (asked_at id (after program past).subs ≡ Some asked) × (too_long_for program (after program past).objects asked ≡ None)
 
--- So it is at the end of the input.
+-- The same at the end of the input.
 abbrev pub EndFoldsToView : Program → Type 0
 EndFoldsToView program = 1 ≤ program.limits.frame_addrs → (past : List MarkedRow) (id : ℕ) (asked : Asked) → IsDrained program past id asked
     → fold (sent_in_all program past id) ≡ Some (view_of program.config (after program past).objects asked.query)
 
--- Where two lists of rows end in the same objects, one query ends in the same view after both.
+-- If two lists of rows give the same objects, a query has the same view after both.
 abbrev pub SameObjectsSameView : Program → Type 0
 SameObjectsSameView program = 1 ≤ program.limits.frame_addrs → (past other : List MarkedRow)
     → ((key : ObjKey) → get (after program past).objects key ≡ get (after program other).objects key)
@@ -114,16 +114,16 @@ SameObjectsSameView program = 1 ≤ program.limits.frame_addrs → (past other :
 
 -- ---- what is written
 
--- the frames of messages, each in a line of its own
+-- the frames of messages, each on a line of its own
 abbrev pub frame_lines : ℕ → List Message → List ℕ
 frame_lines id messages = flat_map (frame_line id) (frames_of messages)
 
--- An accepted drain that meets no message that is too long writes what it sends.
+-- An accepted drain without a message that is too long writes what it sends.
 abbrev pub DrainWritesWhatIsSent : Program → Type 0
 DrainWritesWhatIsSent program = (past : List MarkedRow) (row : MarkedRow) (asked : Asked) → refusal_after program past row ≡ None → reading program row ≡ Ok (lines.Drain asked.id)
     → IsDrained program past asked.id.0 asked → piece_of program past row ≡ frame_lines asked.id.0 (sent_by program (after program past) None (reading program row) asked.id.0)
 
--- And so does the end.
+-- So does the end of the input.
 abbrev pub EndWritesWhatIsSent : Program → Type 0
 EndWritesWhatIsSent program = (past : List MarkedRow) (asked : Asked) → IsDrained program past asked.id.0 asked
     → sub_lines program (after program past).objects asked ≡ frame_lines asked.id.0 (sent_now program (after program past) asked.id.0)

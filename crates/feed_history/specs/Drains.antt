@@ -1,4 +1,4 @@
--- What a subscriber is sent when it is drained: the frames of its messages, or none where a message is too long.
+-- What a subscriber is sent when it is drained: the frames of its messages, or none if a message is too long.
 use Rattle.std.specs.Prelude.{◌≡◌, ℕ, Bool, true, false, List, [], ◌∷◌, Option, Some, None, Result, Ok, Err, nat_lt, length, map, find}
 use Rattle.view_types.specs.declared.message.Message.{Message}
 use Rattle.proxy_proto.specs.Messages.{canonical}
@@ -6,7 +6,7 @@ use Rattle.proto_wire.specs.Frames.{frame_of}
 use Rattle.feed_history.specs.declared.refusal.HubFault.{HubFault}
 use Rattle.feed_history.specs.declared.refusal.HubFault.TheVariants.{Memory, Full, TooManySubs, IdOrder, NoSuchId, Oversize}
 
--- the frame of a message, unless it is longer than may be
+-- the frame of a message, unless it is longer than the limit
 abbrev pub frame_unless : Bool → List ℕ → Result (List ℕ) HubFault
 frame_unless false bytes = Ok (frame_of bytes)
 frame_unless true bytes = Err (Oversize (length bytes))
@@ -14,7 +14,7 @@ frame_unless true bytes = Err (Oversize (length bytes))
 abbrev pub frame_within : ℕ → Message → Result (List ℕ) HubFault
 frame_within limit message = frame_unless (nat_lt limit (length (canonical message))) (canonical message)
 
--- the length of the first message that is longer than may be
+-- the length of the first message that is longer than the limit
 abbrev pub too_long : ℕ → List Message → Option ℕ
 too_long limit messages = find (λ n. nat_lt limit n) (map (λ message. length (canonical message)) messages)
 
@@ -25,11 +25,11 @@ abbrev pub frames_unless : Option ℕ → List Message → Result (List (List �
 frames_unless None messages = Ok (frames_of messages)
 frames_unless (Some bytes) messages = Err (Oversize bytes)
 
--- the frames of messages, each of at most so many bytes
+-- the frames of messages, each of at most this many bytes
 abbrev pub frames_within : ℕ → List Message → Result (List (List ℕ)) HubFault
 frames_within limit messages = frames_unless (too_long limit messages) messages
 
--- Who was sent its messages goes on, and who was to be sent one that is too long ends.
+-- A subscription whose messages were sent continues; one with a message that is too long ends.
 abbrev pub unless_too_long : {S : Type 0} → Option ℕ → S → List S
 unless_too_long None sub = sub ∷ []
 unless_too_long (Some bytes) sub = []

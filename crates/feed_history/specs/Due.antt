@@ -1,5 +1,5 @@
--- Which subscriptions are due: one that was never drained, and one for which an accepted event since its last drain had a mark
--- that its query read before the event.
+-- Which subscriptions are due: those that were never drained, and those whose query read, before an accepted event since their last
+-- drain, a mark of the event.
 use Rattle.std.specs.Prelude.{◌++◌, ◌||◌, ℕ, ◌==◌, Bool, true, false, List, [], ◌∷◌, Option, Some, None, Result, Ok, Err, if◌then◌else◌}
 use Rattle.std.specs.FinMap.{get}
 use Rattle.std.specs.Option.{option_to_list}
@@ -24,7 +24,7 @@ use Rattle.feed_history.specs.Program.{Program, reading}
 
 -- ---- the marks of an event
 
--- the objects that an event replaces, removes or brings; a list replaces all of its kind
+-- the objects that an event replaces, removes or adds; a list replaces all of its kind
 abbrev pub objects_changed : ObjectMap → Event → List Object
 objects_changed held (Set object) = object ∷ option_to_list (get held (key_of object))
 objects_changed held (Delete key) = option_to_list (get held key)
@@ -34,14 +34,14 @@ objects_changed held Bookmark = []
 abbrev pub marks_of_event : ObjectMap → Event → List Mark
 marks_of_event held event = marks_of_all (objects_changed held event)
 
--- the query reads a mark of the event, where these objects are held before it
+-- the query reads a mark of the event, with these objects held before it
 abbrev pub is_touched : Config → ObjectMap → Event → Option Query → Bool
 is_touched config held event None = false
 is_touched config held event (Some query) = meets (query_reads config held query) (marks_of_event held event)
 
--- ---- who is due
+-- ---- which are due
 
--- what a row tells of whether an id is due, if it tells anything of it
+-- whether an id is due after a row that decides it; None if the row does not concern the id
 abbrev pub due_by : Program → List MarkedRow → Result Line LineFault → ℕ → Option Bool
 due_by program past (Ok (lines.Subscribe asked query)) id = if asked.0 == id then Some true else None
 due_by program past (Ok (lines.Drain asked)) id = if asked.0 == id then Some false else None
@@ -57,7 +57,7 @@ abbrev pub is_due : Program → List MarkedRow → ℕ → Bool
 is_due program [] id = false
 is_due program (row ∷ past) id = last_told (refusal_after program past row) (due_by program past (reading program row) id) (is_due program past id)
 
--- whether an id is due after an accepted line, by whether it was before
+-- whether an id is due after an accepted line, given whether it was due before
 abbrev pub due_after : Config → State → Result Line LineFault → ℕ → Bool → Bool
 due_after config now (Ok (lines.Subscribe asked query)) id before = (asked.0 == id) || before
 due_after config now (Ok (lines.Drain asked)) id before = if asked.0 == id then false else before

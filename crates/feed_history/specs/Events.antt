@@ -1,4 +1,4 @@
--- What a watch event does to the objects held, and when it is refused.
+-- The effect of a watch event on the objects held, and when it is refused.
 use Rattle.std.specs.Prelude.{ℕ, Option, Some, None, if◌then◌else◌}
 use Rattle.std.specs.FinMap as map
 use Rattle.view_types.specs.Objects.{ObjectMap, key_of}
@@ -9,7 +9,7 @@ use Rattle.watch_events.specs.declared.event.Event.TheVariants.{Set, Delete, Rel
 use Rattle.feed_history.specs.declared.refusal.HubFault.{HubFault}
 use Rattle.feed_history.specs.declared.refusal.HubFault.TheVariants.{Full}
 
--- A set is refused where its key is new and there is no room, and a list where more objects would be held than may be.
+-- A set is refused if its key is new and there is no room for it; a list is refused if there would be more objects than the limit.
 abbrev pub event_refusal : ℕ → ObjectMap → Event → Option HubFault
 event_refusal limit held (Set object) = if lacks_room held limit (key_of object) then Some (Full (map.len held)) else None
 event_refusal limit held (Delete key) = None

@@ -1,12 +1,11 @@
--- What a list of marked rows leads to: the objects held, the live subscriptions and the greatest accepted id.
+-- The state after a list of marked rows: the objects held, the live subscriptions and the greatest accepted id.
 --
--- The list has the newest row first. What a row leads to is told by what the rows before it led to: there the row is
--- refused and changes nothing, or it does what it says. That is how a program goes on from row to row. Of a
--- subscription it tells what was held when it was last drained, and no view. How the same looks from a row backwards is
--- proved of it: the last accepted row that speaks of a key tells what is held there (`LookBack`), the last accepted row
--- that speaks of an id tells whether a query is live under it, and which (`Live`), and what was held at its last drain is
--- what was held at the row of its last accepted drain (`Told`); live ids ascend, and the greatest accepted id is the
--- greatest of those of all accepted subscriptions.
+-- The list has the newest row first. The effect of a row is defined from the state after the rows before it: the row is refused and
+-- changes nothing, or has its effect. So a program goes on from row to row. For a subscription, the state has the objects that were
+-- held when it was last drained, and no view. Looking back is proved of this: the last accepted row about a key decides what is held
+-- under it (`LookBack`); the last accepted row about an id decides whether a query is live under it, and which (`Live`); the objects
+-- held at the last drain of an id are those held at the row of its last accepted drain (`LastDrain`); live ids ascend, and the greatest
+-- accepted id is the greatest of the ids of all accepted subscriptions.
 use Rattle.std.specs.Prelude.{ℕ, List, [], ◌∷◌, ◌++◌, length, if◌then◌else◌, Option, Some, None, Result, Ok, Err, option_map, flat_map, map}
 use Rattle.std.specs.FinMap.{empty}
 use Rattle.mesh_base.specs.declared.sub_id.SubId.{SubId}
@@ -28,7 +27,7 @@ use Rattle.feed_history.specs.declared.refusal.HubFault.{HubFault}
 use Rattle.feed_history.specs.declared.refusal.Refusal.{Refusal}
 use Rattle.feed_history.specs.declared.refusal.Refusal.TheVariants as refusals
 
--- a live subscription: its query, and what was held when it was last drained, if it was
+-- a live subscription: its query, and the objects held when it was last drained, if it was
 pub record Asked : Type 0 where
   pub id : SubId
   pub query : Query
@@ -54,21 +53,21 @@ asked_at id subs = at_id id_of id subs
 
 -- ---- drains
 
--- the messages from the view over what was held at the last drain to the view over what is held
+-- the messages from the view over the objects held at the last drain to the view over the objects held
 abbrev pub messages_due : Program → ObjectMap → Asked → List Message
 messages_due program held asked = batch (view_before program.config asked.query asked.told) (view_of program.config held asked.query) program.limits
 
--- the length of the first of them that is too long
+-- the length of the first of these messages that is too long
 abbrev pub too_long_for : Program → ObjectMap → Asked → Option ℕ
 too_long_for program held asked = too_long program.limits.message (messages_due program held asked)
 
--- what stands in the place of a subscription once it was drained where this is held
+-- the subscription after a drain over these objects, or none if it has ended
 abbrev pub told_now : Program → ObjectMap → Asked → List Asked
 told_now program held asked = unless_too_long (too_long_for program held asked) (record asked { told = Some held })
 
 -- ---- rows
 
--- why what a line says can't be done in a state
+-- why a line is refused in a state by the hub
 abbrev pub hub_refusal : Program → State → Line → Option HubFault
 hub_refusal program now lines.Blank = None
 hub_refusal program now (lines.Event event) = event_refusal program.limits.objects now.objects event
@@ -78,7 +77,7 @@ hub_refusal program now (lines.Drain id) = unknown_refusal id.0 (asked_at id.0 n
 hub_refusal program now (lines.Simulate request) = None
 hub_refusal program now lines.Stop = None
 
--- A simulation is refused for the fault that it met, and each other line by what it asks for.
+-- A simulation is refused for the fault that it met, and any other line by the hub.
 abbrev pub line_refusal : Program → State → Option SimFault → Line → Option Refusal
 line_refusal program now met (lines.Simulate request) = option_map refusals.Sim met
 line_refusal program now met lines.Blank = None
@@ -88,12 +87,12 @@ line_refusal program now met (lines.Cancel id) = option_map refusals.Hub (hub_re
 line_refusal program now met (lines.Drain id) = option_map refusals.Hub (hub_refusal program now (lines.Drain id))
 line_refusal program now met lines.Stop = None
 
--- Why a line is refused: it doesn't read, it has no place in the program, or what it says can't be done.
+-- Why a line is refused: it cannot be read, it has no place in the program, or its effect is refused.
 abbrev pub refusal_of : Program → State → Option SimFault → Result Line LineFault → Option Refusal
 refusal_of program now met (Err fault) = Some (refusals.Line fault)
 refusal_of program now met (Ok line) = if program.has_place line then line_refusal program now met line else Some refusals.NotHere
 
--- what an accepted line leads to
+-- the state after an accepted line
 abbrev pub after_line : Program → State → Result Line LineFault → State
 after_line program now (Err fault) = now
 after_line program now (Ok lines.Blank) = now
@@ -108,11 +107,11 @@ after_line program now (Ok lines.Stop) = now
 abbrev pub row_refusal : Program → State → MarkedRow → Option Refusal
 row_refusal program now row = refusal_of program now row.1 (reading program row)
 
--- what a row leads to
+-- the state after a row
 abbrev pub step : Program → State → MarkedRow → State
 step program now row = unless_refused (row_refusal program now row) now (after_line program now (reading program row))
 
--- what the rows lead to
+-- the state after the rows
 abbrev pub after : Program → List MarkedRow → State
 after program [] = nothing
 after program (row ∷ past) = step program (after program past) row
@@ -121,6 +120,6 @@ after program (row ∷ past) = step program (after program past) row
 abbrev pub refusal_after : Program → List MarkedRow → MarkedRow → Option Refusal
 refusal_after program past row = row_refusal program (after program past) row
 
--- what the end of the input leads to: each live subscription is drained
+-- the state after the end of the input, at which each live subscription is drained
 abbrev pub after_end : Program → State → State
 after_end program now = record now { subs = flat_map (told_now program now.objects) now.subs }

@@ -10,8 +10,8 @@ use Rattle.feed_history.specs.MarkCauses.{AreFair}
 use Rattle.feed_history.specs.Marks.{AreFew, MarkedRow, rows_in}
 use Rattle.feed_history.specs.Program.{Program}
 
--- What is known of patterns over some time: which match and which are refused, where that is told, and how often one had
--- been refused before and has been by now.
+-- What is known of patterns over some time: which match and which are refused, if that is known, and the counts of refusals before and
+-- now.
 pub record PatternsNow : Type 0 where
   pub tells : Option Pat
   pub refuses : Option (List ℕ → Bool)
@@ -29,7 +29,7 @@ facts_in known = record { tells = known.tells; refuses = known.refuses }
 abbrev pub known_over : {S : Type 0} → Ghosts S → S → S → PatternsNow
 known_over P old new = known_of (P.tells old) (P.refuses old) (P.refusals old) (P.refusals new)
 
--- the patterns tell what they told, and the count of refusals hasn't fallen
+-- what is known of the patterns stays the same, and the count of refusals has not decreased
 pub record GoOn (tells tells_now : Option Pat) (refuses refuses_now : Option (List ℕ → Bool)) (before now : ℕ) : Type 0 where
   pub same_tells : tells_now ≡ tells
   pub same_refuses : refuses_now ≡ refuses
@@ -50,7 +50,7 @@ goes_on_further on further = record {
   later = let was = on.later in omega (arith, was, further.later);
 }
 
--- The rows are marked where simulations met a pattern that was refused: few are, and each may have met one.
+-- The rows, marked where simulations met a refused pattern: there are few marks, and each marked row may have met its fault.
 pub record AreMarked (program : Program) (known : PatternsNow) (rows : List Row) (marked : List MarkedRow) : Type 0 where
   pub rows_are : rows_in marked ≡ rows
   pub few : AreFew marked known.before known.now

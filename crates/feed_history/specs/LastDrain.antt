@@ -1,4 +1,4 @@
--- What was held when a subscription was last drained is what was held at the row of its last accepted drain.
+-- The objects held when a subscription was last drained are those held at the row of its last accepted drain.
 use Rattle.std.specs.Prelude.{◌≡◌, ℕ, ◌==◌, List, [], ◌∷◌, Option, Some, None, Result, Ok, Err, if◌then◌else◌, option_map}
 use Rattle.watch_events.specs.declared.line.Line.{Line}
 use Rattle.watch_events.specs.declared.line.Line.TheVariants as lines
@@ -8,7 +8,7 @@ use Rattle.feed_history.specs.LookBack.{last_told}
 use Rattle.feed_history.specs.Marks.{MarkedRow}
 use Rattle.feed_history.specs.Program.{Program, reading}
 
--- What the last of these rows tells of the drains of an id, if it speaks of them: the last is this row, or there is none yet.
+-- If the last of these rows concerns the drains of an id: it is the last drain, or there is none yet.
 abbrev pub drain_in : List MarkedRow → Result Line LineFault → ℕ → Option (Option (List MarkedRow))
 drain_in rows (Ok (lines.Drain asked)) id = if asked.0 == id then Some (Some rows) else None
 drain_in rows (Ok (lines.Subscribe asked query)) id = if asked.0 == id then Some None else None

@@ -1,5 +1,5 @@
--- What holds of all that is held and asked for: each object is as its reader gives it and stands at its own key, and so is each
--- live query as its reader gives it.
+-- All objects held and all live queries are lawful: each object is as its reader returns it and is held under its own key, and each
+-- query is as its reader returns it.
 use Rattle.std.specs.Prelude.{◌≡◌, ℕ, List, Some, Ok}
 use Rattle.std.specs.FinMap.{get}
 use Rattle.mesh_base.specs.declared.key.ObjKey.{ObjKey}
@@ -14,7 +14,7 @@ use Rattle.feed_history.specs.Live.{query_at}
 use Rattle.feed_history.specs.Marks.{MarkedRow}
 use Rattle.feed_history.specs.Program.{Program}
 
--- What the lines of a program say is lawful.
+-- The contents of each line that the program reads are lawful.
 abbrev pub ReadsLawfully : Program → Type 0
 ReadsLawfully program = (bytes : List ℕ) (line : Line) → program.reads bytes ≡ Ok line → IsLawfulLine line
 

@@ -1,4 +1,4 @@
--- How long the messages are that are too long. A line tells the length of one, as a number of 64 bits.
+-- The lengths of messages that are too long. An output line has such a length, as a number of 64 bits.
 use Rattle.std.specs.Prelude.{◌<◌, ◌^◌, List, [], ◌∷◌, Option, Some, None, Result, Ok, Err, IfSome}
 use Rattle.std.specs.List.{AllByRecursion}
 use Rattle.view_types.specs.Objects.{ObjectMap}
@@ -10,11 +10,11 @@ use Rattle.feed_history.specs.Marks.{MarkedRow}
 use Rattle.feed_history.specs.Program.{Program, reading}
 use Rattle.feed_history.specs.declared.refusal.Refusal.{Refusal}
 
--- The first message due to a subscription that is too long, if one is, has a length below 2 ^ 64.
+-- The length of the first message due to a subscription that is too long, if there is one, is below 2 ^ 64.
 abbrev pub HasLength : Program → ObjectMap → Asked → Type 0
 HasLength program held asked = IfSome (too_long_for program held asked) (λ bytes. bytes < 2 ^ 64)
 
--- So it is of the subscription that an accepted row drains,
+-- The same for the subscription that an accepted row drains,
 abbrev pub RowHasLength : Program → State → Option Refusal → Result Line LineFault → Type 0
 RowHasLength program now (Some refusal) line = Unit {0}
 RowHasLength program now None (Ok (lines.Drain id)) = IfSome (asked_at id.0 now.subs) (HasLength program now.objects)
@@ -30,11 +30,11 @@ abbrev pub RowsHaveLengths : Program → List MarkedRow → Type 0
 RowsHaveLengths program [] = Unit {0}
 RowsHaveLengths program (row ∷ past) = RowHasLength program (after program past) (refusal_after program past row) (reading program row) × RowsHaveLengths program past
 
--- and of all that are live at the end.
+-- and for all subscriptions that are live at the end.
 abbrev pub EndHasLengths : Program → State → Type 0
 EndHasLengths program now = AllByRecursion (HasLength program now.objects) now.subs
 
--- the lengths that the output of the rows tells
+-- the lengths in the output of the rows
 pub record LengthsFit (program : Program) (past : List MarkedRow) : Type 0 where
   pub rows : RowsHaveLengths program past
   pub end : EndHasLengths program (after program past)

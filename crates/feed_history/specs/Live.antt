@@ -1,5 +1,5 @@
--- Which query is live under an id is told by the last accepted row that speaks of the id. Live ids ascend, and the
--- greatest accepted id is the greatest of those of all accepted subscriptions.
+-- The last accepted row about an id decides which query is live under it. Live ids ascend, and the greatest accepted id is the greatest
+-- of the ids of all accepted subscriptions.
 use Rattle.std.specs.Prelude.{◌≡◌, ◌<◌, ℕ, ◌==◌, ◌&&◌, Bool, List, [], ◌∷◌, ◌++◌, Option, Some, None, Result, Ok, Err, if◌then◌else◌, is_some, max, option_and_then, option_map}
 use Rattle.std.specs.List.{AllByRecursion}
 use Rattle.view_types.specs.declared.query.Query.{Query}
@@ -16,8 +16,7 @@ use Rattle.feed_history.specs.LookBack.{last_told}
 abbrev pub meets_too_long : Program → State → ℕ → Bool
 meets_too_long program now id = is_some (option_and_then (too_long_for program now.objects) (asked_at id now.subs))
 
--- What a row tells of an id, if it speaks of it: that a query is live under it, or none. A drain ends the id where a message
--- is too long.
+-- If the row is about the id: the query that is live under it afterwards, or none. A drain ends the id if a message is too long.
 abbrev pub asked_by : Program → State → Result Line LineFault → ℕ → Option (Option Query)
 asked_by program now (Ok (lines.Subscribe asked query)) id = if asked.0 == id then Some (Some query) else None
 asked_by program now (Ok (lines.Cancel asked)) id = if asked.0 == id then Some None else None
@@ -48,7 +47,7 @@ Ascend (sub ∷ subs) = AllByRecursion (λ (later : Asked). sub.id.0 < later.id.
 abbrev pub LiveIdsAscend : Program → Type 0
 LiveIdsAscend program = (past : List MarkedRow) → Ascend (after program past).subs
 
--- the ids under which rows that were accepted subscribe
+-- the ids of the subscriptions in accepted rows
 abbrev pub id_accepted : Option Refusal → Result Line LineFault → List ℕ
 id_accepted (Some refusal) line = []
 id_accepted None (Ok (lines.Subscribe id query)) = id.0 ∷ []

@@ -1,4 +1,4 @@
--- What is held at a key is told by the last accepted row that speaks of it.
+-- The last accepted row about a key decides what is held under it.
 use Rattle.std.specs.Prelude.{◌≡◌, List, [], ◌∷◌, ◌++◌, Option, Some, None, Result, Ok, Err, if◌then◌else◌}
 use Rattle.std.specs.Ordering.{eq_by_cmp}
 use Rattle.std.specs.FinMap.{get}
@@ -16,7 +16,7 @@ use Rattle.feed_history.specs.Program.{Program, reading}
 use Rattle.feed_history.specs.declared.refusal.Refusal.{Refusal}
 use Rattle.feed_history.specs.History.{refusal_after, after}
 
--- What a row tells of a key, if it speaks of it: that an object is held there, or none. A list speaks of all keys of its kind.
+-- If the row is about the key: the object that is held under it afterwards, or none. A list is about all keys of its kind.
 abbrev pub told_by : Result Line LineFault → ObjKey → Option (Option Object)
 told_by (Ok (lines.Event (Set object))) key = if eq_by_cmp key_cmp key (key_of object) then Some (Some object) else None
 told_by (Ok (lines.Event (Delete gone))) key = if eq_by_cmp key_cmp key gone then Some None else None
@@ -30,13 +30,13 @@ told_by (Ok (lines.Simulate request)) key = None
 told_by (Ok lines.Stop) key = None
 told_by (Err fault) key = None
 
--- what a row tells, where it is accepted and speaks of the matter; else what was told before
+-- what a row decides, if it is accepted and decides anything; otherwise what was decided before
 abbrev pub last_told : {A : Type 0} → Option Refusal → Option A → A → A
 last_told (Some refusal) told before = before
 last_told None None before = before
 last_told None (Some told) before = told
 
--- the object at a key, looking back through the rows
+-- the object under a key, looking back through the rows
 abbrev pub held_at : Program → List MarkedRow → ObjKey → Option Object
 held_at program [] key = None
 held_at program (row ∷ past) key = last_told (refusal_after program past row) (told_by (reading program row) key) (held_at program past key)
@@ -44,7 +44,7 @@ held_at program (row ∷ past) key = last_told (refusal_after program past row) 
 abbrev pub IsToldByTheLast : Program → Type 0
 IsToldByTheLast program = (past : List MarkedRow) (key : ObjKey) → get (after program past).objects key ≡ held_at program past key
 
--- A refused row leads to nothing: what comes after it, however many rows, leads where it leads without it.
+-- A refused row has no effect: after any later rows, the state is the same without it.
 abbrev pub RefusedChangesNothing : Program → Type 0
 RefusedChangesNothing program = (past : List MarkedRow) (row : MarkedRow) (refusal : Refusal) → refusal_after program past row ≡ Some refusal
     → (later : List MarkedRow) → after program (later ++ row ∷ past) ≡ after program (later ++ past)

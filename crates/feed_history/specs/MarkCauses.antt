@@ -1,4 +1,4 @@
--- Which rows may be marked: simulations, with a fault that they may meet where the rows before them lead.
+-- Which rows may be marked: simulations, with a fault that they may meet in the state after the rows before them.
 use Rattle.std.specs.Prelude.{◌≡◌, ◌⊎◌, List, [], ◌∷◌, Option, Some, None, Result, Ok}
 use Rattle.view_types.specs.declared.request.Request.{Request}
 use Rattle.watch_events.specs.declared.line.Line.{Line}
@@ -31,11 +31,11 @@ abbrev pub NoneSimulates : Program → List MarkedRow → Type 0
 NoneSimulates program [] = Unit {0}
 NoneSimulates program (row ∷ past) = ((request : Request) → reading program row ≡ Ok (lines.Simulate request) → ⊥) × NoneSimulates program past
 
--- where a row simulates a request, it is told which patterns match, and the program goes by that
+-- if a row simulates a request, it is known which patterns match, and the program uses that
 abbrev pub IsTold : Program → Option Pat → List MarkedRow → Type 0
 IsTold program tells past = (tells ≡ Some program.matches) ⊎ NoneSimulates program past
 
--- ---- the same of what a row says
+-- ---- the same for the contents of a row
 
 -- the line simulates a request, which may meet the fault
 pub record MeetsBy (now : State) (facts : PatternFacts) (line : Result Line LineFault) (fault : SimFault) : Type 0 where
@@ -47,6 +47,6 @@ abbrev pub MayMeetBy : State → PatternFacts → Result Line LineFault → Opti
 MayMeetBy now facts line None = Unit {0}
 MayMeetBy now facts line (Some fault) = MeetsBy now facts line fault
 
--- where the line simulates a request, it is told which patterns match, and the program goes by that
+-- if the line simulates a request, it is known which patterns match, and the program uses that
 abbrev pub IsToldFor : Program → Option Pat → Result Line LineFault → Type 0
 IsToldFor program tells line = (tells ≡ Some program.matches) ⊎ ((request : Request) → line ≡ Ok (lines.Simulate request) → ⊥)

@@ -1,5 +1,5 @@
--- The rows of an input, marked where they are simulations that met a pattern that is refused. Which pattern is met is not defined by
--- the input alone, and so each history is told of marked rows; a refusal of patterns bounds how many are marked.
+-- The rows of an input, marked if they are simulations that met a refused pattern. The input alone does not decide which refused pattern
+-- is met, so each history is defined for marked rows. The count of refusals bounds how many rows are marked.
 use Rattle.std.specs.Prelude.{◌+◌, ◌-◌, ◌^◌, ◌≤◌, ℕ, List, [], ◌∷◌, Option, Some, None, map, min}
 use Rattle.line_run.specs.Rows.{Row}
 use Rattle.request_sim.specs.declared.fault.SimFault.{SimFault}
@@ -23,6 +23,6 @@ abbrev pub marks : List MarkedRow → ℕ
 marks [] = 0
 marks (row ∷ past) = mark row.1 + marks past
 
--- at most as many are marked as the count of refusals rose from before to now; it stands still at the end of its type
+-- at most as many rows are marked as the count of refusals rose by; the count stops at the end of its type
 abbrev pub AreFew : List MarkedRow → ℕ → ℕ → Type 0
 AreFew marked before now = min (marks marked + before) (2 ^ 64 - 1) ≤ now

@@ -1,4 +1,4 @@
--- That the rows of a view are in order is a fact in one way only, which a field of a struct has to be.
+-- That the rows of a view are in order is a proposition, as the type of a struct's field must be.
 use Rattle.std.specs.Prelude.{Option, Some, map}
 use Rattle.std.specs.Coded.{Coded-set, Unit-prop, coded_list}
 use Rattle.std.specs.List.Sorted.{IsStrictlySortedBy-prop}

@@ -1,4 +1,4 @@
--- What is written for a list of rows: the piece of each row, and at the end what each live subscription is sent.
+-- The output for a list of rows: the piece of each row, and at the end what each live subscription is sent.
 use Rattle.std.specs.Prelude.{ℕ, ◌+◌, Bool, false, ◌||◌, List, [], ◌∷◌, ◌++◌, length, Option, Some, None, Result, Ok, Err, is_some}
 use Rattle.std.specs.List.{flat_map}
 use Rattle.view_types.specs.Objects.{ObjectMap}
@@ -17,7 +17,7 @@ use Rattle.feed_history.specs.declared.refusal.Refusal.{Refusal}
 
 -- ---- what a subscription is sent
 
--- each frame in a line of its own, or one line that tells how long a message is
+-- each frame on a line of its own, or one line with the length of a message that is too long
 abbrev pub lines_by : (List ℕ → List ℕ) → ℕ → List Message → Option ℕ → List ℕ
 lines_by line id messages None = flat_map line (frames_of messages)
 lines_by line id messages (Some bytes) = oversize_line id bytes
@@ -28,7 +28,7 @@ lines_unless id = lines_by (frame_line id) id
 abbrev pub message_lines : ℕ → ℕ → List Message → List ℕ
 message_lines limit id messages = lines_unless id messages (too_long limit messages)
 
--- what is written of the drain of a subscription, where these objects are held
+-- the output of a drain of a subscription over these objects
 abbrev pub sub_lines : Program → ObjectMap → Asked → List ℕ
 sub_lines program held asked = message_lines program.limits.message asked.id.0 (messages_due program held asked)
 
@@ -36,17 +36,17 @@ abbrev pub lines_if_live : Program → ObjectMap → Option Asked → List ℕ
 lines_if_live program held None = []
 lines_if_live program held (Some asked) = sub_lines program held asked
 
--- what is written of the drain of an id
+-- the output of a drain of an id
 abbrev pub drain_lines : Program → State → ℕ → List ℕ
 drain_lines program now id = lines_if_live program now.objects (asked_at id now.subs)
 
--- what is written of the drains at the end, in order of the ids
+-- the output of the drains at the end, in order of the ids
 abbrev pub end_lines : Program → State → List ℕ
 end_lines program now = flat_map (sub_lines program now.objects) now.subs
 
--- ---- what is written for rows
+-- ---- the output for rows
 
--- what an accepted line of this number writes
+-- the output of an accepted line with this number
 abbrev pub line_text : Program → ℕ → State → Result Line LineFault → List ℕ
 line_text program number now (Ok (lines.Drain id)) = drain_lines program now id.0
 line_text program number now (Ok (lines.Subscribe id query)) = []
@@ -57,7 +57,7 @@ line_text program number now (Ok (lines.Simulate request)) = verdict_line number
 line_text program number now (Ok lines.Stop) = []
 line_text program number now (Err fault) = []
 
--- the piece of the row of this number: a refused one's fault, or what an accepted one writes
+-- the piece of the row with this number: the fault of a refused row, or the output of an accepted one
 abbrev pub row_piece : ℕ → Option Refusal → List ℕ → List ℕ
 row_piece number None text = text
 row_piece number (Some refusal) text = refused_line number refusal
@@ -68,7 +68,7 @@ piece_at program number now row = row_piece number (row_refusal program now row)
 abbrev pub piece_of : Program → List MarkedRow → MarkedRow → List ℕ
 piece_of program past row = piece_at program (length past + 1) (after program past) row
 
--- the pieces of the rows in their order, where a row's piece is told by the rows before it and the row
+-- the pieces of the rows in their order; a piece is defined by the row and the rows before it
 abbrev pub pieces : (List MarkedRow → MarkedRow → List ℕ) → List MarkedRow → List ℕ
 pieces piece [] = []
 pieces piece (row ∷ past) = pieces piece past ++ piece past row
@@ -81,6 +81,6 @@ abbrev pub refused_after : Program → List MarkedRow → Bool
 refused_after program [] = false
 refused_after program (row ∷ past) = refused_after program past || is_some (refusal_after program past row)
 
--- the output of rows
+-- the output for rows
 abbrev pub output_after : Program → List MarkedRow → List ℕ
 output_after program past = written_after program past ++ end_lines program (after program past)

@@ -1,5 +1,5 @@
--- What a program makes of the rows of its input. Programs differ in the lines that they read and accept; what their
--- rows lead to is the same history.
+-- A program reads the rows of an input. Programs differ in the lines that they can read and accept; the effect of the rows is the same
+-- history.
 use Rattle.std.specs.Prelude.{ℕ, Bool, true, false, List, Result}
 use Rattle.mesh_base.specs.declared.limits.Limits.{Limits}
 use Rattle.view_types.specs.declared.config.Config.{Config}
@@ -12,19 +12,19 @@ use Rattle.feed_history.specs.Marks.{MarkedRow}
 
 pub record Program : Type 0 where
   pub config : Config
-  -- what a line says, or why it doesn't read
+  -- the contents of a line, or why it cannot be read
   pub reads : List ℕ → Result Line LineFault
-  -- the line has its place in this program
+  -- the line has a place in this program
   pub has_place : Line → Bool
   pub limits : Limits
   -- which patterns match which strings
   pub matches : Pat
 
--- what a row says, or why it doesn't read
+-- the contents of a row, or why it cannot be read
 abbrev pub reading : Program → MarkedRow → Result Line LineFault
 reading program row = row_says program.reads row.0
 
--- A replay ends with its input alone.
+-- Only the end of its input ends a replay, so `stop` has no place in it.
 abbrev pub has_place_in_replay : Line → Bool
 has_place_in_replay lines.Blank = true
 has_place_in_replay (lines.Event event) = true

@@ -1,4 +1,4 @@
--- How a refusal is written.
+-- The text of a refusal.
 use Rattle.std.specs.Prelude.{ℕ, List, [], ◌++◌, codes}
 use Rattle.std.specs.Fmt.{decimal}
 use Rattle.watch_events.specs.FaultText.{line_fault_text}

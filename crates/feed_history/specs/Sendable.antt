@@ -1,4 +1,4 @@
--- Each message that is sent can be read again, and says what was sent.
+-- Each message that is sent can be read back as itself.
 use Rattle.std.specs.Prelude.{◌≡◌, ◌<◌, ◌^◌, ℕ, List, Ok, IsUtf8}
 use Rattle.std.specs.List.{AllByRecursion}
 use Rattle.view_types.specs.declared.config.Config.{Config}
@@ -11,17 +11,17 @@ use Rattle.feed_history.specs.Marks.{MarkedRow}
 use Rattle.feed_history.specs.Program.{Program}
 use Rattle.feed_history.specs.Deliveries.{sent_now}
 
--- the strings of the configuration that identities and full names have are in UTF-8
+-- the strings of the configuration that are part of identities and full names are UTF-8
 pub record IsLawfulConfig (config : Config) : Type 0 where
   pub cluster_domain : IsUtf8 config.cluster_domain
   pub control_ns : IsUtf8 config.control_ns
   pub trust_domain : IsUtf8 config.trust_domain
 
--- a limit on messages that its type has
+-- the limit on messages fits its type
 abbrev pub HasLimit : Program → Type 0
 HasLimit program = program.limits.message < 2 ^ 32
 
--- Each message that a drain sends, after any rows and at the end, can be read again.
+-- Each message that a drain sends, after any rows and at the end, can be read back.
 abbrev pub MessagesAreSendable : Program → Type 0
 MessagesAreSendable program = IsLawfulConfig program.config → HasLimit program → (past : List MarkedRow) (id : ℕ)
     → AllByRecursion IsSendable (sent_now program (after program past) id)

@@ -1,11 +1,11 @@
--- The lines that are written.
+-- The lines of the output.
 use Rattle.std.specs.Prelude.{ℕ, List, ◌++◌, codes}
 use Rattle.std.specs.Fmt.{decimal}
 use Rattle.hex.specs.Hex.{encode_lower}
 use Rattle.feed_history.specs.declared.refusal.Refusal.{Refusal}
 use Rattle.feed_history.specs.RefusalText.{refusal_text}
 
--- `refused <line> <fault>`, of a fault that is written so
+-- `refused <line> <fault>`, with the text of the fault
 abbrev pub fault_line : ℕ → List ℕ → List ℕ
 fault_line number fault = codes "refused " ++ (decimal number ++ (codes " " ++ (fault ++ codes "\n")))
 
@@ -16,11 +16,11 @@ refused_line number refusal = fault_line number (refusal_text refusal)
 abbrev pub hex_line : List ℕ → ℕ → List ℕ → List ℕ
 hex_line word id frame = word ++ (codes " " ++ (decimal id ++ (codes " " ++ (encode_lower frame ++ codes "\n"))))
 
--- a frame that is sent
+-- the line of a frame that is sent
 abbrev pub frame_line : ℕ → List ℕ → List ℕ
 frame_line id frame = hex_line (codes "frame") id frame
 
--- a frame of a whole view
+-- the line of a frame of a whole view
 abbrev pub view_line : ℕ → List ℕ → List ℕ
 view_line id frame = hex_line (codes "view") id frame
 

@@ -1,4 +1,4 @@
--- How a verdict is written.
+-- The text of a verdict.
 use Rattle.std.specs.Prelude.{ℕ, List, ◌++◌, codes}
 use Rattle.std.specs.Fmt.{decimal}
 use Rattle.view_types.specs.declared.policy.Policy.{Policy}
@@ -22,7 +22,7 @@ abbrev pub kind_text : AuthzKind → List ℕ
 kind_text ServerAuthorization = codes "ServerAuthorization"
 kind_text AuthorizationPolicy = codes "AuthorizationPolicy"
 
--- An authorization stands in the namespace of the request's Pod.
+-- An authorization is named with the namespace of the request's Pod.
 abbrev pub decider_text : List ℕ → Decider → List ℕ
 decider_text ns (Authz kind name) = kind_text kind ++ (codes " " ++ (ns ++ (codes "/" ++ name)))
 decider_text ns (Default policy) = codes "default " ++ policy_text policy

@@ -8,7 +8,7 @@ use proxy_proto::writing::write_message;
 use std::alloc::Global;
 use view_types::message::Message;
 
-// The frame of a message, unless it is longer than may be.
+// Returns the frame of a message, unless the message is longer than the limit.
 fn frame_within(alloc: Global, limit: u32, message: &Message) -> Result<Bytes, HubFault>
     ensures { IsOrMemory (frame_within limit message.now) result }
 {
@@ -24,7 +24,7 @@ fn frame_within(alloc: Global, limit: u32, message: &Message) -> Result<Bytes, H
     }
 }
 
-/// The frames of messages, or the length of the first that is longer than may be.
+/// Returns the frames of messages, or the length of the first message that is longer than the limit.
 pub fn frames_within(
     alloc: Global,
     limit: u32,

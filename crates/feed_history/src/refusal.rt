@@ -7,19 +7,19 @@ use request_sim::fault::SimFault;
 use std::fmt;
 use watch_events::line::LineFault;
 
-/// Why a call on what is held and asked for did nothing.
+/// Why a call on the objects and subscriptions changed nothing.
 #[derive(Clone, Copy, Debug, PartialEq, Eq)]
 pub enum HubFault {
     Memory,
-    /// The object's key is new, and as many objects are held as may be.
+    /// The object's key is new, and the limit on objects is reached. `held` is the number of objects held.
     Full { held: u32 },
-    /// As many subscriptions are live as may be.
+    /// The limit on live subscriptions is reached. `live` is their number.
     TooManySubs { live: u32 },
-    /// The id isn't above the greatest id that was accepted, which is `last`.
+    /// The id is not above `last`, the greatest accepted id.
     IdOrder { last: u32 },
     /// No subscription is live under the id.
     NoSuchId { id: u32 },
-    /// A message is longer than may be. Its subscription has ended.
+    /// A message is longer than the limit; `bytes` is its length. Its subscription has ended.
     Oversize { bytes: u64 },
 }
 
@@ -38,13 +38,13 @@ impl From<memory::Memory> for HubFault {
 /// Why a line is refused.
 #[derive(Debug, Drop)]
 pub enum Refusal {
-    /// It doesn't read.
+    /// It cannot be read.
     Line(LineFault),
-    /// What it says can't be done.
+    /// Its effect on the objects and subscriptions is refused.
     Hub(HubFault),
     /// It has no place in this program.
     NotHere,
-    /// It simulates a request, and met a pattern that is refused.
+    /// It simulates a request, and met a regular expression that is refused.
     Sim(SimFault),
 }
 

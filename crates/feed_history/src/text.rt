@@ -13,14 +13,14 @@ use std::alloc::{AllocError, Global};
 use std::fmt::Display;
 use view_types::verdict::Verdict;
 
-/// How a refusal is written. Out of memory and a message that is too long have no text here, and give the empty one.
+/// Returns the text of a refusal. For out of memory and for a message that is too long it is empty.
 pub fn text_of(alloc: Global, refusal: &Refusal) -> Result<Text, Memory>
     ensures { IfOk result (λ text. text ≡ refusal_text refusal.now) }
 {
     Ok(Text::from_string(format!(in alloc; "{refusal}")?)?)
 }
 
-/// Writes `refused <line> <fault>`.
+/// Appends `refused <line> <fault>`.
 pub fn push_refused<F: Display>(
     alloc: Global,
     out: &mut Vec<u8>,
@@ -34,7 +34,7 @@ pub fn push_refused<F: Display>(
     out.extend_from_slice(text.as_bytes())
 }
 
-/// Writes `oversize <id> <bytes>`.
+/// Appends `oversize <id> <bytes>`.
 pub fn push_oversize(
     alloc: Global,
     out: &mut Vec<u8>,
@@ -47,7 +47,7 @@ pub fn push_oversize(
     out.extend_from_slice(text.as_bytes())
 }
 
-/// Writes `verdict <line> <text>`, of a request to a Pod of the namespace.
+/// Appends `verdict <line> <text>`, for a request to a Pod of the namespace.
 pub fn push_verdict(
     alloc: Global,
     out: &mut Vec<u8>,
@@ -65,7 +65,7 @@ pub fn push_verdict(
     out.extend_from_slice(text.as_bytes())
 }
 
-// Writes `<word> <id> <hex>`.
+// Appends `<word> <id> <hex>`.
 fn push_hex(
     alloc: Global,
     out: &mut Vec<u8>,
@@ -80,7 +80,7 @@ fn push_hex(
     out.extend_from_slice(text.as_bytes())
 }
 
-/// Writes `<word> <id> <hex>` for each frame.
+/// Appends `<word> <id> <hex>` for each frame.
 pub fn push_frames(
     alloc: Global,
     out: &mut Vec<u8>,

@@ -6,14 +6,14 @@ use view_types::policy::Policy;
 use view_types::server_view::AuthzKind;
 use view_types::verdict::{Decider, Verdict};
 
-/// Shows what comes of a request to a Pod of the namespace.
+/// Formats the verdict on a request to a Pod of the namespace.
 #[derive(Clone, Copy)]
 pub struct ShownVerdict<'a> {
     pub ns: &'a str,
     pub verdict: &'a Verdict,
 }
 
-// Shows who decided on a request to a Pod of the namespace.
+// Formats what decided on a request to a Pod of the namespace.
 #[derive(Clone, Copy)]
 struct ShownDecider<'a> {
     ns: &'a str,

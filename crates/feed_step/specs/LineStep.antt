@@ -1,4 +1,4 @@
--- What a step of a replay comes to, by what the machine holds and by its replies.
+-- The effect of a step of a replay, by the machine's state and by its replies.
 use Rattle.std.specs.Prelude.{◌≡◌, ◌≤◌, ◌<◌, ◌+◌, ◌-◌, ◌^◌, ℕ, List, [], ◌∷◌, ◌++◌, Option, Some, None, Result, IfSome, is_some, min, option_map}
 use Rattle.mesh_base.specs.declared.sub_id.SubId.{SubId}
 use Rattle.view_types.specs.declared.request.Request.{Request}
@@ -36,12 +36,12 @@ use Rattle.feed_step.specs.declared.drain.Drained.TheVariants.{Sent, Ended, Undr
 
 -- ---- one call of the machine
 
--- an accepted line's text is added, a refused one's isn't
+-- the text of an accepted line; a refused line has none
 abbrev pub text_unless : Option Refusal → List ℕ → List ℕ
 text_unless None text = text
 text_unless (Some refusal) text = []
 
--- the refusal that a fault is
+-- the refusal for a fault
 abbrev pub IsRefusalBy : HubFault → Option Refusal → Type 0
 IsRefusalBy faults.Memory refusal = ⊥
 IsRefusalBy (faults.Full held) refusal = refusal ≡ Some (refusals.Hub (faults.Full held))
@@ -50,31 +50,31 @@ IsRefusalBy (faults.IdOrder last) refusal = refusal ≡ Some (refusals.Hub (faul
 IsRefusalBy (faults.NoSuchId id) refusal = refusal ≡ Some (refusals.Hub (faults.NoSuchId id))
 IsRefusalBy (faults.Oversize bytes) refusal = refusal ≡ Some (refusals.Hub (faults.Oversize bytes))
 
--- a call was refused for its cause, or done, and led here
+-- the call was refused, for its cause, or done, and this is the state after it
 pub record Makes (fault : Option HubFault) (after : HubState) (refusal : Option Refusal) (new : HubState) : Type 0 where
   pub refusal_is : refusal ≡ option_map refusals.Hub fault
   pub state : new ≡ after
 
--- the machine gave one reply more: it refuses the line, or the text of it is written
+-- the machine added one reply, which refuses the line or whose text was written
 pub record Replied (text : Reply → List ℕ) (refusal : Option Refusal) (out out_new : List ℕ) (old new : List Reply) : Type 0 where
   pub reply : Reply
   pub adds : new ≡ old ++ reply ∷ []
   pub refuses : refusal ≡ refusal_in reply
   pub texts : out_new ≡ out ++ text reply
 
--- the machine gave none, and refused nothing
+-- the machine added no reply, and the line was accepted
 pub record Unreplied (refusal : Option Refusal) (old new : List Reply) : Type 0 where
   pub none : new ≡ old
   pub accepts : refusal ≡ None
 
--- the ids that live, where a call that may change them was refused or not
+-- the live ids after a call that may change them unless it is refused
 abbrev pub live_unless : Option Refusal → List ℕ → List ℕ → List ℕ
 live_unless None live live_new = live_new
 live_unless (Some refusal) live live_new = live
 
 -- ---- a drain
 
--- what is written of a drain of an id under which this stands
+-- the lines written for a drain of an id with this subscription, or none
 abbrev pub drained_lines : HubState → ℕ → Option LiveSubscription → List ℕ
 drained_lines now id None = []
 drained_lines now id (Some sub) = message_lines now.limits.message id (messages_for now sub)
@@ -83,7 +83,7 @@ abbrev pub drained_unless : Option ℕ → Drained
 drained_unless None = Sent
 drained_unless (Some bytes) = Ended
 
--- what comes of it
+-- the outcome of such a drain
 abbrev pub drained_as : HubState → ℕ → Option LiveSubscription → Drained
 drained_as now id None = Undrained (faults.NoSuchId id)
 drained_as now id (Some sub) = drained_unless (too_long now.limits.message (messages_for now sub))
@@ -104,13 +104,13 @@ drain_refusal Sent = None
 drain_refusal Ended = None
 drain_refusal (Undrained fault) = Some (refusals.Hub fault)
 
--- the ids that live after it
+-- the live ids after a drain
 abbrev pub live_drained : ℕ → Drained → List ℕ → List ℕ
 live_drained id Sent live = live
 live_drained id Ended live = in_place (λ other. other) id ended live
 live_drained id (Undrained fault) live = live
 
--- what comes of a drain that a fault ended
+-- the outcome of a drain that a fault ended
 abbrev pub IsUndrained : ℕ → HubFault → List ℕ → List ℕ → Drained → Type 0
 IsUndrained id faults.Memory out out_new outcome = ⊥
 IsUndrained id (faults.Oversize bytes) out out_new outcome = (outcome ≡ Ended) × (out_new ≡ out ++ oversize_line id bytes) × (bytes < 2 ^ 64)
@@ -121,7 +121,7 @@ IsUndrained id (faults.NoSuchId unknown) out out_new outcome = (outcome ≡ Undr
 
 -- ---- a simulation
 
--- the refusal of one that met this fault
+-- the refusal of a simulation that met this fault
 abbrev pub IsRefusalFor : SimFault → Option Refusal → Type 0
 IsRefusalFor sim.Memory refusal = ⊥
 IsRefusalFor (sim.Pattern route rule item) refusal = refusal ≡ Some (refusals.Sim (sim.Pattern route rule item))
@@ -131,7 +131,7 @@ abbrev pub IsMetIfAny : HubState → PatternFacts → Request → Option SimFaul
 IsMetIfAny now facts request None = Unit {0}
 IsMetIfAny now facts request (Some fault) = IsMet now.objects facts request fault
 
--- It was refused for a fault that it met, or its verdict is written; and the machine rests.
+-- The simulation was refused for a fault that it met, or its verdict was written; the machine is unchanged.
 pub record IsSimulated (known : PatternsNow) (number : ℕ) (request : Request) (refusal : Option Refusal) (out out_new : List ℕ) (old new : HubState) : Type 0 where
   pub met : Option SimFault
   pub counted : min (mark met + known.before) (2 ^ 64 - 1) ≤ known.now
@@ -147,17 +147,17 @@ abbrev pub IsTold : LineFault → Type 0
 IsTold line_faults.Memory = ⊥
 IsTold _ = Unit {0}
 
--- the refusal of a line that doesn't read
+-- the refusal of a line that cannot be read
 pub record IsUnread (fault : LineFault) (refusal : Option Refusal) : Type 0 where
   pub refuses : refusal ≡ Some (refusals.Line fault)
   pub told : IsTold fault
 
--- the state that a refused or accepted line leads to
+-- the state after a line that was refused or accepted
 abbrev pub led_to : Program → State → Option Refusal → Result Line LineFault → State
 led_to program now refusal line = unless_refused {A = Refusal} refusal now (after_line program now line)
 
--- The line of this number is refused for its cause or done, its text is added, and the machine stands where the line leads. A length
--- that the text tells fits its type.
+-- The line with this number was refused, for its cause, or accepted; its text was appended, and the machine's state is that after the
+-- line. A length in the text fits its type.
 pub record TakesByState (program : Program) (known : PatternsNow) (number : ℕ) (line : Result Line LineFault) (refusal : Option Refusal) (live_new : List ℕ) (out out_new : List ℕ) (now : State) (new : HubState) : Type 0 where
   pub met : Option SimFault
   pub counted : min (mark met + known.before) (2 ^ 64 - 1) ≤ known.now
@@ -168,12 +168,12 @@ pub record TakesByState (program : Program) (known : PatternsNow) (number : ℕ)
   pub live_ids : live_new ≡ ids_of (led_to program now refusal line).subs
   pub text : IsToldFor program known.tells line → out_new ≡ out ++ text_unless refusal (line_text program number now line)
 
--- So it is wherever the machine stood where a history leads.
+-- The same for any history whose state the machine had.
 abbrev pub TakesFrom : Program → PatternsNow → ℕ → Result Line LineFault → Option Refusal → List ℕ → List ℕ → List ℕ → List ℕ → HubState → HubState → Type 0
 TakesFrom program known number line refusal live live_new out out_new old new =
     (now : State) → old ≡ seen program now → live ≡ ids_of now.subs → TakesByState program known number line refusal live_new out out_new now new
 
--- The replies that were added are those of the line of this number.
+-- The added replies are those to the line with this number.
 pub record TakesByReplies (number : ℕ) (line : Result Line LineFault) (refusal : Option Refusal) (out out_new : List ℕ) (old new : List Reply) : Type 0 where
   pub mine : List Reply
   pub adds : new ≡ old ++ mine

@@ -1,5 +1,5 @@
--- What is written for lines beside the replies of a machine that tells them: the lines are walked one by one, and each that
--- says something to the machine takes the next reply.
+-- The output for lines and the replies of a machine: the lines are processed one by one, and each that calls the machine uses up the next
+-- reply.
 use Rattle.std.specs.Prelude.{ℕ, ◌+◌, Bool, false, List, [], ◌∷◌, Option, Some, None, Result, Ok, Err, if◌then◌else◌, flat_map, is_some, map}
 use Rattle.std.specs.List.{list_any}
 use Rattle.mesh_base.specs.declared.limits.Limits.{Limits}
@@ -18,12 +18,12 @@ use Rattle.mesh_hub.specs.declared.machine.Reply.TheVariants as replies
 use Rattle.feed_history.specs.declared.refusal.Refusal.{Refusal}
 use Rattle.feed_history.specs.declared.refusal.Refusal.TheVariants as refusals
 
--- what is written for a line or for the end, and whether it is a refusal
+-- the output for a line or for the end, and whether it is a refusal
 pub record Saying : Type 0 where
   pub text : List ℕ
   pub refused : Bool
 
--- why a reply refuses its line, if it does
+-- the refusal of the line by a reply, if it refuses it
 abbrev pub refusal_in : Reply → Option Refusal
 refusal_in (replies.Refused fault) = Some (refusals.Hub fault)
 refusal_in (replies.Pattern fault) = Some (refusals.Sim fault)
@@ -32,7 +32,7 @@ refusal_in (replies.Frames id frames) = None
 refusal_in (replies.TooBig id bytes) = None
 refusal_in (replies.Verdict found) = None
 
--- What a reply that refuses nothing writes. A verdict is written for a line that simulates a request alone.
+-- The text of a reply that is no refusal. A verdict has text only for a line that simulates a request.
 abbrev pub reply_text : Reply → List ℕ
 reply_text replies.Done = []
 reply_text (replies.Refused fault) = []
@@ -41,7 +41,7 @@ reply_text (replies.TooBig id bytes) = oversize_line id.0 bytes
 reply_text (replies.Verdict found) = []
 reply_text (replies.Pattern fault) = []
 
--- What it writes for the line of this number, which simulates a request to a Pod in this namespace.
+-- The text of a reply to the line with this number, which simulates a request to a Pod in this namespace.
 abbrev pub sim_text : ℕ → List ℕ → Reply → List ℕ
 sim_text number ns (replies.Verdict found) = verdict_line number ns found
 sim_text number ns replies.Done = reply_text replies.Done
@@ -53,11 +53,11 @@ sim_text number ns (replies.Pattern fault) = reply_text (replies.Pattern fault)
 abbrev pub saying : ℕ → Option Refusal → List ℕ → Saying
 saying number refusal text = record { text = row_piece number refusal text; refused = is_some refusal }
 
--- a reply that is left behind the last line: only frames and messages that are too long are written
+-- a reply that is left after the last line: only frames and `oversize` lines are written
 abbrev pub saying_left : Reply → Saying
 saying_left reply = record { text = reply_text reply; refused = false }
 
--- A line that says something to the machine takes the next reply; where none is left, the text ends before the line.
+-- A line that calls the machine uses up the next reply. If no reply is left, the output ends before the line.
 abbrev pub with_reply : (Reply → List ℕ) → ℕ → List Reply → (List Reply → List Saying) → List Saying
 with_reply text number [] more = []
 with_reply text number (reply ∷ left) more = saying number (refusal_in reply) (text reply) ∷ more left
@@ -71,12 +71,12 @@ said_by_line number (lines.Cancel id) left more = more left
 said_by_line number lines.Blank left more = more left
 said_by_line number lines.Stop left more = more left
 
--- A line that doesn't read or has no place is refused, and takes no reply.
+-- A line that cannot be read or has no place is refused, and uses up no reply.
 abbrev pub said_by : ℕ → Result Line LineFault → List Reply → (List Reply → List Saying) → List Saying
 said_by number (Err fault) left more = saying number (Some (refusals.Line fault)) [] ∷ more left
 said_by number (Ok line) left more = if has_place_in_replay line then said_by_line number line left more else saying number (Some refusals.NotHere) [] ∷ more left
 
--- what is said from the row of this number on, the oldest first
+-- the output from the row with this number on, the oldest row first
 abbrev pub said_from : Config → ℕ → List Row → List Reply → List Saying
 said_from config number [] left = map saying_left left
 said_from config number (row ∷ rows) left = said_by number (row_says (text_line config) row) left (said_from config (number + 1) rows)

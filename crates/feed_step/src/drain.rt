@@ -11,18 +11,18 @@ use mesh_base::sub_id::SubId;
 use mesh_hub::machine::Machine;
 use std::alloc::Global;
 
-/// What came of a drain.
+/// The outcome of a drain.
 #[derive(Drop)]
 pub enum Drained {
-    /// Its frames were written.
+    /// The frames were written.
     Sent,
-    /// A message is too long. How long was written, and the subscription has ended.
+    /// A message is too long. Its length was written, and the subscription has ended.
     Ended,
     /// Nothing was written.
     Undrained(HubFault),
 }
 
-// What came of a drain that a fault ended.
+// Returns the outcome of a drain that a fault ended.
 fn undrained(
     alloc: Global,
     id: SubId,
@@ -41,7 +41,7 @@ fn undrained(
     }
 }
 
-/// Drains an id, and writes its frames, or how long a message is that is too long.
+/// Drains an id and writes its frames, or the length of a message that is too long.
 #[tactic(auto, using(feed_history::proofs::Optional::grows_extends))]
 pub fn drain<H: Machine>(
     writer: &mut FrameWriter,

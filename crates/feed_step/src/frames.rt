@@ -7,8 +7,7 @@ use bytes::Bytes;
 use mesh_base::list::List;
 use std::alloc::{AllocError, Global};
 
-/// What frames are written with. The hex of the last one is kept, since subscribers that stand
-/// alike are sent the same frames.
+/// A writer of frames. It keeps the hex of the last frame, since subscribers that were last shown the same are sent the same frames.
 #[derive(Drop)]
 pub struct FrameWriter {
     pub alloc: Global,
@@ -18,7 +17,7 @@ pub struct FrameWriter {
 }
 
 impl FrameWriter {
-    /// No frame was written.
+    /// Creates a writer that has written no frame.
     #[tactic(auto, unfolding(hex::specs::Hex::encode_with))]
     pub fn new(alloc: Global) -> FrameWriter {
         FrameWriter {
@@ -28,7 +27,7 @@ impl FrameWriter {
         }
     }
 
-    // Makes this frame the last one.
+    // Records this frame as the last one.
     fn keep(&mut self, frame: &Bytes) -> Result<(), AllocError>
         ensures { OnOk result (self.new.last ≡ frame.now) }
     {
@@ -45,7 +44,7 @@ impl FrameWriter {
         Ok(())
     }
 
-    // The hex of a frame.
+    // Returns the hex of a frame.
     fn hex(&mut self, frame: &Bytes) -> Result<&str, AllocError>
         ensures { IfOk result (λ hex. hex.now ≡ encode_lower frame.now) }
     {
@@ -54,7 +53,7 @@ impl FrameWriter {
     }
 }
 
-// Writes `frame <id> <hex>`.
+// Appends `frame <id> <hex>`.
 fn push_frame(
     writer: &mut FrameWriter,
     out: &mut Vec<u8>,
@@ -70,7 +69,7 @@ fn push_frame(
     Ok(out.push(b'\n')?)
 }
 
-/// Writes `frame <id> <hex>` for each frame.
+/// Appends `frame <id> <hex>` for each frame.
 pub(crate) fn push_frames(
     writer: &mut FrameWriter,
     out: &mut Vec<u8>,

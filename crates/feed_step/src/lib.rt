@@ -1,8 +1,8 @@
-//! One line of a feed: what a machine is told by it, and what is written for it.
+//! One line of a feed: its call of the machine, and its output.
 //!
-//! Stands on watch_events for what lines say, feed_history for what they lead to and how it is written, and mesh_hub for the
-//! machine. `take_row` does what a row says; its contract cites `specs/LineStep`, by what the machine holds, and
-//! `specs/Transcript`, by its replies. `drain` sends one subscription what it is due, also at the end of the input.
+//! Depends on watch_events for the contents of lines, on feed_history for their effects and their output, and on mesh_hub for the
+//! machine. `take_row` processes a row; its contract cites `specs/LineStep`, for the machine's state, and `specs/Transcript`, for its
+//! replies. `drain` sends one subscription what it is due, also at the end of the input.
 #![tactic(auto)]
 
 pub mod drain;

@@ -12,7 +12,7 @@ fn first_of(ids: &[u32], id: u32) -> Option<usize>
     ids.iter().position(|other| *other == id)
 }
 
-// Where an id stands.
+// Returns the index of an id.
 fn place_of(ids: &[u32], id: u32) -> Option<usize>
     ensures { MatchOption result (in_place (λ other. other) id ended ids.now ≡ ids.now)
         (StandsAt (λ other. other) id ids.now) }
@@ -20,7 +20,7 @@ fn place_of(ids: &[u32], id: u32) -> Option<usize>
     first_of(ids, id)
 }
 
-/// Takes an id out of those that live, which are each there once.
+/// Removes an id from the live ids, each of which occurs once.
 pub(crate) fn take_out(alloc: Global, live: &mut List<u32>, id: u32)
     ensures { live.new ≡ in_place (λ other. other) id ended live.old }
 {

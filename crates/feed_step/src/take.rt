@@ -33,7 +33,7 @@ use watch_events::event::Event;
 use watch_events::line::{Line, LineFault};
 use watch_events::read::read_row;
 
-// The refusal that a fault is.
+// Returns the refusal for a fault.
 fn refusal_by(fault: HubFault) -> Result<Option<Refusal>, Memory>
     ensures { IfOk result (IsRefusalBy fault) }
 {
@@ -43,7 +43,7 @@ fn refusal_by(fault: HubFault) -> Result<Option<Refusal>, Memory>
     }
 }
 
-// Each of these answers why the line is refused, if it is.
+// Each function returns why the line is refused, or None.
 
 #[tactic(auto, using(feed_history::proofs::Optional::grows_extends))]
 fn apply<H: Machine, L>(
@@ -111,7 +111,7 @@ fn cancel<H: Machine>(
     }
 }
 
-// Takes an id out of those that live where its drain has ended it.
+// Removes an id from the live ids if its drain has ended it.
 fn settle(alloc: Global, live: &mut List<u32>, id: SubId, outcome: Drained) -> Option<Refusal>
     ensures refusal { result ≡ drain_refusal outcome }
     ensures live { live.new ≡ live_drained id.0 outcome live.old }
@@ -126,7 +126,7 @@ fn settle(alloc: Global, live: &mut List<u32>, id: SubId, outcome: Drained) -> O
     }
 }
 
-// The refusal of a simulation that met a fault.
+// Returns the refusal of a simulation that met a fault.
 fn refusal_for(fault: SimFault) -> Result<Option<Refusal>, Memory>
     ensures { IfOk result (IsRefusalFor fault) }
 {
@@ -136,7 +136,7 @@ fn refusal_for(fault: SimFault) -> Result<Option<Refusal>, Memory>
     }
 }
 
-// Writes what comes of a request, or answers why its line, which has this number, is refused.
+// Writes the verdict on a request, or returns why its line, which has this number, is refused.
 #[tactic(auto, using(feed_history::proofs::Optional::grows_extends))]
 fn simulate<H: Machine, P: Patterns, L>(
     alloc: Global,
@@ -210,7 +210,7 @@ fn take_line<H: Machine, P: Patterns, L>(
     }
 }
 
-// The refusal of a line that doesn't read.
+// Returns the refusal of a line that cannot be read.
 fn unread(fault: LineFault) -> Result<Option<Refusal>, Memory>
     ensures { IfOk result (IsUnread fault) }
 {
@@ -220,7 +220,7 @@ fn unread(fault: LineFault) -> Result<Option<Refusal>, Memory>
     }
 }
 
-/// Does what the row of this number says, and answers why it is refused, if it is.
+/// Processes the row with this number. Returns why it is refused, or None.
 #[tactic(auto, using(feed_history::proofs::Optional::extends_same))]
 pub fn take_row<H: Machine, P: Patterns, L>(
     writer: &mut FrameWriter,

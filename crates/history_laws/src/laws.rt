@@ -14,7 +14,7 @@ ghost use Rattle.feed_history.specs.LastDrain.{IsToldAtLastDrain};
 use batch_laws::laws::messages_fold;
 use watch_events::laws::lines_are_lawful;
 
-/// What the lines of a replay say is lawful.
+/// States that the contents of the lines that a replay reads are lawful.
 pub fn replays_read_lawfully()
     ensures { (config : Config) (limits : Limits) (pat : Pat)
         → ReadsLawfully (replay_of config limits pat) }
@@ -22,128 +22,128 @@ pub fn replays_read_lawfully()
     lines_are_lawful();
 }
 
-/// What is held at a key is told by the last accepted line that speaks of it.
+/// States that the last accepted line about a key decides what is held under it.
 pub fn held_is_told_by_the_last()
     ensures { (program : Program) → ReadsLawfully program → IsToldByTheLast program }
 {}
 
-/// A refused line changes neither what is held nor what is live, nor what any later line leads to.
+/// States that a refused line changes neither the objects held nor the live subscriptions nor the effect of any later line.
 pub fn refused_changes_nothing()
     ensures { (program : Program) → RefusedChangesNothing program }
 {}
 
-/// Which query is live under an id is told by the last accepted line that speaks of it.
+/// States that the last accepted line about an id decides which query is live under it.
 pub fn live_is_told_by_the_last()
     ensures { (program : Program) → IsLiveByTheLast program }
 {}
 
-/// Live ids ascend.
+/// States that live ids ascend.
 pub fn live_ids_ascend()
     ensures { (program : Program) → LiveIdsAscend program }
 {}
 
-/// The greatest accepted id is the greatest of those of all accepted subscriptions.
+/// States that the greatest accepted id is the greatest of the ids of all accepted subscriptions.
 pub fn the_last_id_is_the_greatest()
     ensures { (program : Program) → LastIsGreatest program }
 {}
 
-/// What was held when a subscription was last drained is what was held at the row of its last accepted drain.
+/// States that the objects held when a subscription was last drained are those held at the row of its last accepted drain.
 pub fn told_at_the_last_drain()
     ensures { (program : Program) → IsToldAtLastDrain program }
 {}
 
-/// Each object that is held is as its reader gives it.
+/// States that each object that is held is as its reader returns it.
 pub fn held_are_lawful()
     ensures { (program : Program) → ReadsLawfully program → HeldAreLawful program }
 {}
 
-/// Each object that is held stands at its own key.
+/// States that each object is held under its own key.
 pub fn held_at_their_keys()
     ensures { (program : Program) → HeldAtKeys program }
 {}
 
-/// Each live query is as its reader gives it.
+/// States that each live query is as its reader returns it.
 pub fn queries_are_lawful()
     ensures { (program : Program) → ReadsLawfully program → QueriesAreLawful program }
 {}
 
-/// The strings of the configuration of a run that is told nothing are in UTF-8.
+/// States that the strings of the default configuration are UTF-8.
 pub fn usual_config_is_lawful()
     ensures { IsLawfulConfig usual_config }
 {}
 
-/// Each message that is sent can be read again: its numbers are of their types and its strings in UTF-8.
+/// States that each message that is sent can be read back: its numbers fit their types and its strings are UTF-8.
 pub fn messages_are_sendable()
     ensures { (program : Program) → ReadsLawfully program → MessagesAreSendable program }
 {}
 
-/// What is written of each message that is sent says that message.
+/// States that the encoding of each message that is sent is read back as the message.
 pub fn messages_read_back()
     ensures { (program : Program) → ReadsLawfully program → MessagesReadBack program }
 {}
 
-/// A live subscriber that folds what it was sent sees the view over what was held when it was last drained.
+/// States that folding what a live subscriber was sent gives the view over the objects held when it was last drained.
 pub fn what_is_sent_folds_to_the_last_shown()
     ensures { (program : Program) → FoldsToLastShown program }
 {
     messages_fold();
 }
 
-/// Whoever folds what it was sent, live or not, sees what its last drain showed it.
+/// States that folding what a subscriber was sent, live or not, gives the view that its last drain showed it.
 pub fn what_is_sent_folds_to_what_was_shown()
     ensures { (program : Program) → FoldsToWhatWasShown program }
 {
     messages_fold();
 }
 
-/// Whenever a live subscriber is owed nothing, folding what it was sent gives the view that filters over the objects then
-/// held give.
+/// States that whenever a live subscriber is owed nothing, folding what it was sent gives the view defined by filters over the objects
+/// then held.
 pub fn what_is_sent_folds_to_the_view()
     ensures { (program : Program) → FoldsToView program }
 {
     messages_fold();
 }
 
-/// So it is at the end of the input, where each live subscription is drained.
+/// States the same at the end of the input, where each live subscription is drained.
 pub fn at_the_end_it_folds_to_the_view()
     ensures { (program : Program) → EndFoldsToView program }
 {
     messages_fold();
 }
 
-/// Inputs that end in the same objects end in the same view of the same query.
+/// States that after inputs that give the same objects, a query has the same view.
 pub fn same_objects_same_view()
     ensures { (program : Program) → SameObjectsSameView program }
 {
     messages_fold();
 }
 
-/// A drain writes the frames of what it sends.
+/// States that a drain writes the frames of what it sends.
 pub fn a_drain_writes_what_is_sent()
     ensures { (program : Program) → DrainWritesWhatIsSent program }
 {}
 
-/// So does the end.
+/// States the same for the end of the input.
 pub fn the_end_writes_what_is_sent()
     ensures { (program : Program) → EndWritesWhatIsSent program }
 {}
 
-/// What lines lead to doesn't depend on which simulations met a pattern that is refused.
+/// States that the effect of lines does not depend on which simulations met a refused pattern.
 pub fn marks_change_nothing()
     ensures { (program : Program) → MarksChangeNothing program }
 {}
 
-/// Where the count of refused patterns didn't rise, no simulation met one.
+/// States that if the count of refused patterns did not rise, no simulation met one.
 pub fn unrisen_marks_none()
     ensures { UnrisenMarksNone }
 {}
 
-/// A line that simulates a request leads nowhere.
+/// States that a line that simulates a request does not change the state.
 pub fn simulations_change_nothing()
     ensures { (program : Program) → SimulationsChangeNothing program }
 {}
 
-/// What is written of a simulated request is what the written policy says of it, over the objects that are then held.
+/// States that the verdict that is written for a simulated request is that of the written policy over the objects then held.
 pub fn verdicts_are_the_written_policys()
     ensures { (program : Program) → VerdictsArePolicys program }
 {}

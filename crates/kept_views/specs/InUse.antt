@@ -1,4 +1,4 @@
--- The rows that have users in one of three parts.
+-- The rows that have users in one of the three parts.
 use Rattle.std.proofs.Common.{◌≡◌, ◌+◌, ◌<◌, ◌⊎◌, inl, inr, ℕ, zero, suc, Option, Some, None, refl, subst, arith}
 use Rattle.std.specs.List.{Contains}
 use Rattle.std.specs.Option.{option_or}
@@ -12,13 +12,13 @@ use Rattle.row_views.proofs.InUse.{none_there}
 use Rattle.row_views.proofs.Truncated.{map_truncated}
 use Rattle.kept_views.specs.Parts.{AreApart, PartsStand, first_of}
 
--- one of two numbers is above 0 where their sum is
+-- if a sum is above 0, one of its two numbers is
 some_of : (n m : ℕ) → 0 < n + m → (0 < n) ⊎ (0 < m)
 some_of zero m some = inr (omega (arith, some))
 some_of (suc n) m some = inl (omega arith)
 
 module _ (config : Config) (held : ObjectMap) where
-  -- ---- the rows of a query that is asked in one of two parts
+  -- ---- the rows of a query that is open in one of two parts
 
   pub in_first : (key : RowKey) (first second : Option Query) → Contains (rows_at config held first) key → Contains (rows_at config held (option_or first second)) key
   in_first key None second of = absurd (none_there of)

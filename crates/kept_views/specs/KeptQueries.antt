@@ -1,4 +1,4 @@
--- Which queries are kept: all but those of endpoints, each as the part for its kind keeps it.
+-- The queries whose views are kept: all but those for endpoints, each as the part for its kind keeps it.
 use Rattle.std.specs.Prelude.{Option, None}
 use Rattle.view_types.specs.declared.query.Query.{Query}
 use Rattle.view_types.specs.declared.query.Query.TheVariants.{Get, Profile, Port, Traffic, PortRows}

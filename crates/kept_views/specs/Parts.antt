@@ -1,11 +1,11 @@
--- Views that are kept in three parts.
+-- Views that are kept in three parts: profiles, ports of Pods, outbound policies.
 use Rattle.std.specs.Prelude.{◌≡◌, ℕ, Option, Some, None}
 use Rattle.std.specs.Coded.{codes}
 use Rattle.std.specs.Option.{option_or}
 use Rattle.view_types.specs.contracts.query.Query as the_query
 use Rattle.view_types.specs.declared.query.Query.{Query}
 
--- what the first part has, or else the second, or else the third
+-- the first of three values that is there
 abbrev pub first_of : {X : Type 0} → Option X → Option X → Option X → Option X
 first_of first second third = option_or first (option_or second third)
 
@@ -13,7 +13,7 @@ first_of first second third = option_or first (option_or second third)
 abbrev pub AreApart : (ℕ → Option Query) → (ℕ → Option Query) → Type 0
 AreApart asked others = (id : ℕ) (query : Query) → asked id ≡ Some query → others id ≡ None
 
--- Each part stands, and an id is open in one of them at most.
+-- Each part is in order, and an id is open in at most one of them.
 pub record PartsStand (Profiles Ports Outbound : Type 0) (of_profiles of_ports of_outbound : ℕ → Option Query) : Type 0 where
   pub profiles : Profiles
   pub ports : Ports

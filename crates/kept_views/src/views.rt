@@ -1,4 +1,4 @@
-// The views of the queries that subscribers ask for, each in the part for its kind.
+// The views of the open queries, each in the part for its kind.
 ghost use Rattle.std.specs.Prelude.{◌≡◌, ◌++◌, IfOk};
 
 use inbound_views::views::InboundViews;
@@ -15,7 +15,7 @@ use view_types::config::Config;
 use view_types::query::Query;
 use view_types::view::View;
 
-/// The views of all queries but those of endpoints. An id is open in one of the parts at most.
+/// The views of all queries except those for endpoints. An id is open in at most one of the three parts.
 #[derive(Drop)]
 pub struct KeptViews {
     profiles: ProfileViews,
@@ -27,7 +27,7 @@ impl KeptViews {
     ghost use Rattle.std.specs.Prelude.{◌≡◌, ℕ, None, IfOk};
     ghost use Rattle.view_types.specs.Objects.{ObjectMap};
 
-    /// No views, under a configuration.
+    /// Creates an empty set of views. The configuration applies to all of them.
     pub fn new(alloc: Global, config: &Config) -> Result<KeptViews, Memory>
         ensures queries { IfOk result (λ views. (id : ℕ)
             → ⟦<KeptViews as QueryViews>⟧.query_of views id ≡ None) }
@@ -149,7 +149,7 @@ impl QueryViews for KeptViews {
         (outbound_in_use s.outbound config held stands.outbound) };
 }
 
-// The ids of one list, and then those of another.
+// The ids of the first list, followed by those of the second.
 fn joined(ids: List<u64>, others: List<u64>) -> Result<List<u64>, Memory>
     ensures { IfOk result (λ all. all ≡ ids ++ others) }
 {

@@ -1,4 +1,4 @@
--- The group of each id, and how many ids each group has.
+-- The group of each id, and the number of ids in each group.
 use Rattle.std.specs.Prelude.{◌≡◌, ◌+◌, ℕ, nat_eq, List, Option, Some, None, if◌then◌else◌, option_map}
 use Rattle.std.specs.BTreeMap as tree
 use Rattle.std.specs.BTreeMap.{BTreeMap}
@@ -17,26 +17,26 @@ group_of members id = tree.get nat_cmp members id
 abbrev pub count_in : ℕ → BTreeMap ℕ ℕ → ℕ
 count_in n members = sum_by (λ k. one_if (nat_eq n k)) (tree.values members)
 
--- one, if it is the group
+-- 1 if it is the group, and otherwise 0
 abbrev pub count_if : ℕ → Option ℕ → ℕ
 count_if n number = unwrap_or (option_map (λ k. one_if (nat_eq n k)) number) 0
 
--- the id has this group, or none, and each other id what it had
+-- the group of the id becomes this one, or none; those of other ids stay
 pub record SetsMember (id : ℕ) (number : Option ℕ) (old new : BTreeMap ℕ ℕ) : Type 0 where
   pub at : (n : ℕ) → group_of new n ≡ (if nat_eq n id then number else group_of old n)
   pub counts : (n : ℕ) → count_in n new + count_if n (group_of old id) ≡ count_in n old + count_if n number
 
 module _ {F : Type 0} where
-  -- each group has as many members as ids have it
+  -- the member count of each group is the number of ids that have it
   abbrev pub AreCounted : List (Group F) → BTreeMap ℕ ℕ → Type 0
   AreCounted groups members = (n : ℕ) → members_at groups n ≡ count_in n members
 
-  -- what a group was last shown by the endpoints now; without a group that is nothing
+  -- what a group was last shown, given the current endpoints; without a group, nothing
   abbrev pub shown_in : List (Group F) → EndpointView → Option ℕ → Option EndpointView
   shown_in groups now None = None
   shown_in groups now (Some n) = shown_at groups n now
 
-  -- what was made of the messages of a group, and kept
+  -- the kept encoding of the messages of a group
   abbrev pub encoding_in : List (Group F) → Option ℕ → Option F
   encoding_in groups None = None
   encoding_in groups (Some n) = encoding_at groups n

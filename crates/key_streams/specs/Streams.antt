@@ -10,28 +10,28 @@ module _ {F : Type 0} where
   abbrev pub has_stream : KeyStreams F → ℕ → Bool
   has_stream streams id = is_some (group_of streams.members id)
 
-  -- what the subscriber of an id was last shown by the endpoints now, if it was shown anything
+  -- what the subscriber of an id was last shown, given the current endpoints; None if it was shown nothing
   abbrev pub shown_for : KeyStreams F → ℕ → EndpointView → Option EndpointView
   shown_for streams id now = shown_in streams.groups.groups.items now (group_of streams.members id)
 
-  -- what is kept as the encoding of the messages of an id, if anything is
+  -- the kept encoding of the messages of an id, if there is one
   abbrev pub encoding_for : KeyStreams F → ℕ → Option F
   encoding_for streams id = encoding_in streams.groups.groups.items (group_of streams.members id)
 
-  -- what is kept as the encoding of messages to the endpoints now is that, by what was last shown
+  -- each kept encoding is that of the messages from what was last shown to the current endpoints
   abbrev pub AreRight : (Option EndpointView → Option F) → EndpointView → KeyStreams F → Type 0
   AreRight encode now streams = AreEncoded encode now streams.groups.groups.items
 
-  -- ---- what changes
+  -- ---- changes
 
-  -- each id has a stream where it had one
+  -- the same ids have a stream
   abbrev pub HasSame : KeyStreams F → KeyStreams F → Type 0
   HasSame old new = (id : ℕ) → has_stream new id ≡ has_stream old id
 
-  -- by the endpoints now, each subscriber was last shown what it was
+  -- given the current endpoints, what each subscriber was last shown stays the same
   abbrev pub ShowSame : EndpointView → KeyStreams F → KeyStreams F → Type 0
   ShowSame now old new = (id : ℕ) → shown_for new id now ≡ shown_for old id now
 
-  -- by the endpoints now, the subscriber of the id was last shown this, and each other what it was
+  -- given the current endpoints, the subscriber of the id was last shown this; for all others it stays the same
   abbrev pub SetsShown : EndpointView → ℕ → Option EndpointView → KeyStreams F → KeyStreams F → Type 0
   SetsShown now id shown old new = (n : ℕ) → shown_for new n now ≡ (if nat_eq n id then shown else shown_for old n now)

@@ -14,7 +14,7 @@ pub fn number_of(members: &BTreeMap<u64, u64>, id: u64) -> Option<u64>
     members.get(&id).copied()
 }
 
-/// Gives the id this group.
+/// Sets the group of an id.
 pub fn put(members: &mut BTreeMap<u64, u64>, id: u64, number: u64) -> Result<(), Memory>
     ensures put { OnOk result (SetsMember id (Some number) members.old members.new) }
     ensures err { OnErr result (IsUnchanged members.old members.new) }
@@ -23,7 +23,7 @@ pub fn put(members: &mut BTreeMap<u64, u64>, id: u64, number: u64) -> Result<(),
     Ok(())
 }
 
-/// Gives an id that has a group another one.
+/// Changes the group of an id that has one.
 pub fn change(members: &mut BTreeMap<u64, u64>, id: u64, number: u64)
     requires { is_some (group_of members.old id) ≡ true }
     ensures { SetsMember id (Some number) members.old members.new }
@@ -42,7 +42,7 @@ pub fn take(members: &mut BTreeMap<u64, u64>, id: u64) -> Option<u64>
     members.remove(&id)
 }
 
-/// Puts all ids behind those of the list.
+/// Appends all ids to the list.
 pub fn add_ids(members: &BTreeMap<u64, u64>, ids: &mut List<u64>) -> Result<(), Memory>
     ensures { OnOk result ((n : ℕ) → list_any (nat_eq n) ids.new
         ≡ (list_any (nat_eq n) ids.old || is_some (group_of members.now n))) }

@@ -12,7 +12,7 @@ use view_diff::batch::endpoint_batch;
 use view_types::endpoint::{EndpointRow, EndpointView};
 use view_types::message::Message;
 
-/// The streams of one key. `F` is what the messages of a stream are encoded to.
+/// The streams of one key. `F` is the encoding of the messages of a stream.
 #[derive(Drop)]
 pub struct KeyStreams<F> {
     groups: EndpointGroups<F>,
@@ -31,7 +31,7 @@ impl<F: Drop> KeyStreams<F> {
     ghost use Rattle.view_types.specs.declared.endpoint.EndpointView.{EndpointView as TheView};
     ghost use Rattle.key_streams.specs.Streams.{AreRight, HasSame, SetsShown, ShowSame, encoding_for, has_stream, shown_for};
 
-    /// No streams.
+    /// Creates an empty set of streams.
     pub fn new(alloc: Global) -> Result<KeyStreams<F>, Memory>
         ensures none { IfOk result (λ streams. (id : ℕ) → has_stream streams id ≡ false) }
         ensures right { IfOk result (λ streams. (encode : Option TheView → Option F) (now : TheView)
@@ -51,7 +51,7 @@ impl<F: Drop> KeyStreams<F> {
         self.members.is_empty()
     }
 
-    /// Opens a stream under an id, unless it has one. Its subscriber was shown nothing.
+    /// Opens a stream under an id, unless it has one. Its subscriber was shown nothing yet.
     pub fn join(&mut self, id: u64) -> Result<(), Memory>
         ensures open { OnOk result ((n : ℕ)
             → has_stream self.new n ≡ (nat_eq n id || has_stream self.old n)) }
@@ -89,7 +89,7 @@ impl<F: Drop> KeyStreams<F> {
         Ok(())
     }
 
-    /// Closes the stream of an id, if it has one. It allocates nothing.
+    /// Closes the stream of an id, if it has one. It does not allocate.
     pub fn leave(&mut self, id: u64)
         ensures open { (n : ℕ)
             → has_stream self.new n ≡ (not (nat_eq n id) && has_stream self.old n) }
@@ -103,9 +103,8 @@ impl<F: Drop> KeyStreams<F> {
         self.groups.leave(number);
     }
 
-    /// The rows have changed at these addresses, each given with the row that stood there, or the
-    /// Service has come or gone. Nothing that was encoded is kept. After Memory nothing is known of
-    /// what was shown.
+    /// Records a change of the rows at these addresses, each given with the row that was there before, or that the Service was created or
+    /// deleted. The kept encodings are dropped. After `Memory` nothing is known of what was shown.
     pub fn change(&mut self, before: &[(Ip, u16, Option<EndpointRow>)]) -> Result<(), Memory>
         requires { IsByAddress before.now }
         ensures open { HasSame self.old self.new }
@@ -117,8 +116,8 @@ impl<F: Drop> KeyStreams<F> {
         self.groups.change(before)
     }
 
-    /// The messages that bring the subscriber of an id from what it was last shown to the endpoints
-    /// now. One that has no stream was shown nothing.
+    /// Returns the messages that bring the subscriber of an id from what it was last shown to the current endpoints. A subscriber
+    /// without a stream was shown nothing.
     pub fn messages(
         &self,
         alloc: Global,
@@ -137,7 +136,7 @@ impl<F: Drop> KeyStreams<F> {
         }
     }
 
-    /// What the messages of a stream are encoded to, if that was kept for one that was shown the same.
+    /// Returns the kept encoding of a stream's messages, if one was kept for a stream that was last shown the same.
     pub fn encoding(&self, id: u64) -> Option<&F>
         ensures kept { option_copied result ≡ encoding_for self.now id }
         ensures right { (encode : Option TheView → Option F) (now : TheView)
@@ -150,8 +149,7 @@ impl<F: Drop> KeyStreams<F> {
         }
     }
 
-    /// Keeps what the messages of a stream are encoded to until the rows change, for all that were
-    /// shown the same.
+    /// Keeps the encoding of a stream's messages until the rows change, for all streams that were last shown the same.
     pub fn keep(&mut self, id: u64, encoding: F)
         ensures kept { has_stream self.old id ≡ true → encoding_for self.new id ≡ Some encoding }
         ensures open { HasSame self.old self.new }
@@ -166,7 +164,7 @@ impl<F: Drop> KeyStreams<F> {
         self.groups.keep(number, encoding);
     }
 
-    /// The subscriber of an id, if it has a stream, was shown everything as it is now.
+    /// Records that the subscriber of an id, if it has a stream, was shown the current endpoints.
     pub fn catch_up(&mut self, id: u64, exists: bool) -> Result<(), Memory>
         ensures open { HasSame self.old self.new }
         ensures shown { has_stream self.old id ≡ true → OnOk result ((now : TheView) → IsOrderly now
@@ -185,7 +183,7 @@ impl<F: Drop> KeyStreams<F> {
         Ok(())
     }
 
-    /// Puts the ids of all streams behind those of the list.
+    /// Appends the ids of all streams to the list.
     pub fn add_ids(&self, ids: &mut List<u64>) -> Result<(), Memory>
         ensures { OnOk result ((n : ℕ) → list_any (nat_eq n) ids.new
             ≡ (list_any (nat_eq n) ids.old || has_stream self.now n)) }

@@ -1,4 +1,4 @@
--- What an open link may do, by what it is, its session, and what is known of its peer.
+-- What an open link may do, given its role, its session, and what is known of its peer.
 use Rattle.std.specs.Prelude.{ℕ, nat_eq, Bool, true, false, not, ◌&&◌, ◌||◌, List, [], ◌∷◌}
 use Rattle.link_sessions.specs.declared.link.Link.{Link}
 use Rattle.link_sessions.specs.declared.link.Role.{Role}
@@ -14,7 +14,7 @@ is_opening roles.Opening = true
 is_opening roles.Feed = false
 is_opening (roles.Subscriber id) = false
 
--- it is sent the frames of the subscription with this id
+-- the link is sent the frames of the subscription with this id
 abbrev pub is_subscriber : ℕ → Role → Bool
 is_subscriber id roles.Opening = false
 is_subscriber id roles.Feed = false
@@ -32,10 +32,10 @@ is_to_read link = link.readable && (not link.ended && (not (is_feed link.role) |
 abbrev pub is_to_write : Link → Bool
 is_to_write link = link.writable && not (is_written link.session.outbox)
 
--- a drain of its subscription has its turn, if the subscription is due
+-- the link may be drained, if its subscription is due
 abbrev pub is_to_drain : Link → Bool
 is_to_drain link = link.writable && is_written link.session.outbox
 
--- its input goes on, or answers of a feed are left to write
+-- its input has not ended, or answers of a feed are left to write
 abbrev pub stays_open : Link → Bool
 stays_open link = not link.ended || (is_feed link.role && not (is_written link.session.outbox))

@@ -1,4 +1,4 @@
--- What finds open links agrees with them.
+-- The sets and maps that find open links agree with the list of links.
 use Rattle.std.specs.Prelude.{◌≡◌, ◌≢◌, ℕ, Bool, true, false, Some}
 use Rattle.std.specs.BTreeMap.{get}
 use Rattle.std.specs.BTreeSet.{contains}
@@ -8,7 +8,7 @@ use Rattle.link_sessions.specs.Roles.{is_subscriber, is_to_read, is_to_write}
 use Rattle.link_sessions.specs.declared.link.Link.{Link}
 use Rattle.link_sessions.specs.declared.open_links.OpenLinks.{OpenLinks}
 
--- it is sent the frames of the subscription with this id
+-- the link is sent the frames of the subscription with this id
 abbrev pub subscribes : ℕ → Link → Bool
 subscribes id link = is_subscriber id link.role
 
@@ -16,19 +16,19 @@ subscribes id link = is_subscriber id link.role
 abbrev pub IsUnknown : ℕ → Entries → Type 0
 IsUnknown id entries = (n : ℕ) → passes_at (subscribes id) entries n ≡ false
 
--- Each subscriber is found by its id, and nothing else is; feeds are counted.
+-- Each subscriber is found by its id, and nothing else is found; the count of feeds is right.
 pub record AreFound (kept : OpenLinks) : Type 0 where
   pub found : (id n : ℕ) → get nat_cmp kept.by_sub id ≡ Some n → passes_at (subscribes id) (entries_of kept) n ≡ true
   pub there : (id n : ℕ) → passes_at (subscribes id) (entries_of kept) n ≡ true → get nat_cmp kept.by_sub id ≡ Some n
   pub feeds_are : kept.feeds ≡ feeds_in (entries_of kept)
 
--- The links of all numbers but this one are found by the sets of those that may be read and written.
+-- For all numbers except this one, the links that may be read and written are in the sets.
 pub record IsSettledBut (number : ℕ) (kept : OpenLinks) : Type 0 where
   pub reads : (n : ℕ) → n ≢ number → contains nat_cmp kept.to_read n ≡ passes_at is_to_read (entries_of kept) n
   pub writes : (n : ℕ) → n ≢ number → contains nat_cmp kept.to_write n ≡ passes_at is_to_write (entries_of kept) n
   pub found : AreFound kept
 
--- All of them are.
+-- For all numbers, they are.
 pub record IsSettled (kept : OpenLinks) : Type 0 where
   pub reads : (n : ℕ) → contains nat_cmp kept.to_read n ≡ passes_at is_to_read (entries_of kept) n
   pub writes : (n : ℕ) → contains nat_cmp kept.to_write n ≡ passes_at is_to_write (entries_of kept) n

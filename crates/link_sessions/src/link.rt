@@ -11,12 +11,12 @@ use session_core::link::Session;
 use std::alloc::Global;
 use view_types::config::Config;
 
-/// What a link is, by the bytes that came.
+/// The role of a link, by the bytes that were read from it.
 #[derive(Clone, Copy, Debug, PartialEq, Eq)]
 pub enum Role {
-    /// Its path or its request is not whole.
+    /// Its path or its request is not complete.
     Opening,
-    /// It feeds lines.
+    /// It is a feed.
     Feed,
     /// It is sent the frames of a subscription.
     Subscriber(SubId),
@@ -27,16 +27,16 @@ pub enum Role {
 pub struct Link {
     pub session: Session,
     pub role: Role,
-    /// Whether a read may return something else than Pending.
+    /// Whether a read may return something other than Pending.
     pub readable: bool,
-    /// Whether a write may return something else than Pending.
+    /// Whether a write may return something other than Pending.
     pub writable: bool,
     /// Whether the peer sends nothing more.
     pub ended: bool,
 }
 
 impl Link {
-    /// A new link, whose bytes have not come.
+    /// Creates a link from which no byte was read yet.
     pub fn new(alloc: Global, config: &Config, limits: &Limits) -> Result<Link, Memory>
         ensures stands { IfOk result (λ link.
             Stands config.now limits.now given_first link.session) }
@@ -62,7 +62,7 @@ impl Link {
         self.session.head().is_empty()
     }
 
-    /// Whether it feeds lines.
+    /// Whether the link is a feed.
     pub fn is_feed(&self) -> bool
         ensures { result ≡ is_feed self.now.role }
     {
@@ -72,28 +72,28 @@ impl Link {
         }
     }
 
-    /// Whether a read has its turn. A feed is not read while answers are left to write.
+    /// Whether the link may be read. A feed is not read while answers are left to write.
     pub fn is_to_read(&self) -> bool
         ensures { result ≡ is_to_read self.now }
     {
         self.readable && !self.ended && (!self.is_feed() || self.is_written())
     }
 
-    /// Whether a write has its turn.
+    /// Whether the link may be written.
     pub fn is_to_write(&self) -> bool
         ensures { result ≡ is_to_write self.now }
     {
         self.writable && !self.is_written()
     }
 
-    /// Whether a drain has its turn, if the subscription is due.
+    /// Whether the link may be drained, if its subscription is due.
     pub fn is_to_drain(&self) -> bool
         ensures { result ≡ is_to_drain self.now }
     {
         self.writable && self.is_written()
     }
 
-    /// Whether the link stays open: its input goes on, or answers of a feed are left to write.
+    /// Whether the link stays open: its input has not ended, or answers of a feed are left to write.
     pub fn stays_open(&self) -> bool
         ensures { result ≡ stays_open self.now }
     {

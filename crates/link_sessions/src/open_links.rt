@@ -1,7 +1,7 @@
-// The open links of a server, and which of them have their turn.
-ghost use Rattle.std.specs.Prelude.{◌≡◌, ◌≤◌, ◌&&◌, ◌||◌, ◌<◌, ◌-◌, ◌^◌, [], true, is_some, length, nat_lt, option_map, if◌then◌else◌, IfSome, OnOk};
+// The open links of a server, and which of them may be read, written or drained.
+ghost use Rattle.std.specs.Prelude.{◌≡◌, ◌≤◌, ◌&&◌, ◌||◌, ◌<◌, ◌-◌, [], true, is_some, length, nat_lt, option_map, if◌then◌else◌, IfSome, OnOk};
 ghost use Rattle.session_core.specs.Outboxes.{NoneEmpty, head};
-ghost use Rattle.link_sessions.specs.Entries.{Feeds, Leaves, changed, filled, entries_of, feeds_in, link_at, opened, outbox_at, passes_at, stays, without, wrote_of};
+ghost use Rattle.link_sessions.specs.Entries.{Feeds, Leaves, changed, filled, entries_of, link_at, opened, outbox_at, passes_at, stays, without, wrote_of};
 ghost use Rattle.link_sessions.specs.Roles.{is_opening, is_to_drain, is_to_read, is_to_write};
 ghost use Rattle.link_sessions.specs.Sets.{IsAnyOf, IsFirstFrom, IsOneOf};
 ghost use Rattle.link_sessions.specs.Settled.{IsSettled, IsSettledBut, IsUnknown, subscribes};
@@ -16,8 +16,8 @@ use session_core::session::{Ask, SessionFault};
 use std::alloc::Global;
 use std::collections::{BTreeMap, BTreeSet};
 
-/// The open links by their numbers, with the numbers of those that may be read and written. After out of memory they are not
-/// used any more.
+/// The open links by their numbers, with the numbers of those that may be read and written. After out of memory they are no longer
+/// used.
 #[derive(Drop)]
 pub struct OpenLinks {
     by_number: BTreeMap<u32, Link>,
@@ -112,7 +112,7 @@ fn wrote_at(by_number: &mut BTreeMap<u32, Link>, number: u32, n: usize)
 }
 
 impl OpenLinks {
-    /// No links.
+    /// Creates an empty set of links.
     pub fn new(alloc: Global) -> OpenLinks
         ensures entries { entries_of result ≡ [] }
         ensures settled { IsSettled result }
@@ -126,7 +126,7 @@ impl OpenLinks {
         }
     }
 
-    /// The number of links.
+    /// Returns the number of links.
     pub fn len(&self) -> usize
         ensures { result ≡ length (entries_of self.now) }
     {
@@ -141,7 +141,7 @@ impl OpenLinks {
         !self.to_read.is_empty() || !self.to_write.is_empty()
     }
 
-    /// The first link from a number on.
+    /// Returns the first link from a number on.
     pub fn first_from(&self, from: u32) -> Option<u32>
         ensures { IsFirstFrom (λ n. is_some (link_at n (entries_of self.now))) from result }
     {
@@ -149,7 +149,7 @@ impl OpenLinks {
         Some(*number)
     }
 
-    /// The first link from a number on that may be read.
+    /// Returns the first link from a number on that may be read.
     #[tactic(auto, using(crate::proofs::Work::first_later))]
     pub fn first_to_read(&self, from: u32) -> Option<u32>
         ensures first { IsSettled self.now
@@ -159,7 +159,7 @@ impl OpenLinks {
         first_from(&self.to_read, from)
     }
 
-    /// The first link from a number on that may be written.
+    /// Returns the first link from a number on that may be written.
     #[tactic(auto, using(crate::proofs::Work::first_later))]
     pub fn first_to_write(&self, from: u32) -> Option<u32>
         ensures first { IsSettled self.now
@@ -169,7 +169,7 @@ impl OpenLinks {
         first_from(&self.to_write, from)
     }
 
-    /// The link of a subscription, if a drain has its turn.
+    /// Returns the link of a subscription, if it may be drained.
     pub fn to_drain(&self, id: SubId) -> Option<u32>
         ensures { IsSettled self.now → IsOneOf (passes_at (λ link.
             subscribes id.0 link && is_to_drain link) (entries_of self.now)) result }
@@ -183,14 +183,14 @@ impl OpenLinks {
         }
     }
 
-    /// What a link is.
+    /// Returns the role of a link.
     pub fn role(&self, number: u32) -> Option<Role>
         ensures { result ≡ option_map (λ link. link.role) (link_at number (entries_of self.now)) }
     {
         Some(self.by_number.get(&number)?.role)
     }
 
-    /// Opens a link. Does nothing if a link with the number is open.
+    /// Opens a link. It does nothing if a link with the number is open.
     pub fn open(&mut self, number: u32, link: Link) -> Result<(), Memory>
         requires { link.role ≡ Role.Opening }
         ensures entries { OnOk result (entries_of self.new
@@ -204,7 +204,7 @@ impl OpenLinks {
         self.settle(number)
     }
 
-    /// Notes whether a read may return something else than Pending.
+    /// Records whether a read may return something other than Pending.
     pub fn set_readable(&mut self, number: u32, readable: bool) -> Result<(), Memory>
         ensures entries { OnOk result (entries_of self.new
             ≡ changed number (λ link. record link { readable = readable }) (entries_of self.old)) }
@@ -214,7 +214,7 @@ impl OpenLinks {
         self.settle(number)
     }
 
-    /// Notes whether a write may return something else than Pending.
+    /// Records whether a write may return something other than Pending.
     pub fn set_writable(&mut self, number: u32, writable: bool) -> Result<(), Memory>
         ensures entries { OnOk result (entries_of self.new
             ≡ changed number (λ link. record link { writable = writable }) (entries_of self.old)) }
@@ -224,7 +224,8 @@ impl OpenLinks {
         self.settle(number)
     }
 
-    /// Gives the session of a link a piece of its bytes, and returns what it asks for. The link is settled by `put`, or closed.
+    /// Passes a piece of a link's bytes to its session, and returns the requests in it. The caller must then call `put`, which settles the
+    /// link, or close it.
     pub fn feed(&mut self, number: u32, piece: &[u8]) -> Result<List<Ask>, SessionFault>
         ensures entries { Feeds number piece.now (entries_of self.old) result
             (entries_of self.new) }
@@ -233,7 +234,7 @@ impl OpenLinks {
         feed_at(&mut self.by_number, number, piece)
     }
 
-    /// Lets a link feed lines, unless so many do as may. Returns whether it does.
+    /// Makes a link a feed, unless the limit on feeds is reached. Returns whether it did.
     pub fn begin_feed(&mut self, number: u32, limit: u32) -> bool
         ensures admits { result ≡ nat_lt self.old.feeds limit }
         ensures entries { entries_of self.new ≡ (if result
@@ -250,7 +251,7 @@ impl OpenLinks {
         true
     }
 
-    /// Lets a link be sent the frames of a subscription, which no other link is sent.
+    /// Makes a link the subscriber of a subscription that no other link has.
     pub fn begin_sub(&mut self, number: u32, id: SubId) -> Result<(), Memory>
         ensures entries { OnOk result (entries_of self.new
             ≡ changed number (λ link. record link { role = Role.Subscriber id })
@@ -265,7 +266,7 @@ impl OpenLinks {
         Ok(())
     }
 
-    /// Notes that the peer of a link sends nothing more.
+    /// Records that the peer of a link sends nothing more.
     pub fn end(&mut self, number: u32)
         ensures entries { entries_of self.new
             ≡ changed number (λ link. record link { ended = true }) (entries_of self.old) }
@@ -285,7 +286,7 @@ impl OpenLinks {
         self.settle(number)
     }
 
-    /// What is to be written next on a link.
+    /// Returns the bytes to be written next on a link.
     pub fn head(&self, number: u32) -> &[u8]
         ensures { result.now ≡ head (outbox_at number (entries_of self.now)) }
     {
@@ -295,7 +296,7 @@ impl OpenLinks {
         }
     }
 
-    /// Notes that so many bytes of the head were written.
+    /// Records that this number of bytes of the head were written.
     pub fn wrote(&mut self, number: u32, n: usize) -> Result<(), Memory>
         requires { n ≤ length (head (outbox_at number (entries_of self.old))) }
         ensures entries { OnOk result (entries_of self.new
@@ -316,7 +317,7 @@ impl OpenLinks {
         }
     }
 
-    /// Lets go of a link, and returns what it was.
+    /// Removes a link, and returns its role.
     pub fn close(&mut self, number: u32) -> Option<Role>
         ensures role { result ≡ option_map (λ link. link.role)
             (link_at number (entries_of self.old)) }
@@ -338,7 +339,7 @@ impl OpenLinks {
         Some(role)
     }
 
-    // Notes whether a link may be read and written.
+    // Updates the sets of links that may be read and written.
     fn settle(&mut self, number: u32) -> Result<(), Memory>
         ensures entries { OnOk result (entries_of self.new ≡ entries_of self.old) }
         ensures settled { OnOk result (IsSettledBut number self.old → IsSettled self.new) }
@@ -348,7 +349,7 @@ impl OpenLinks {
         set_member(&mut self.to_write, number, writes)
     }
 
-    // Whether a link may be read, and whether it may be written.
+    // Returns whether a link may be read, and whether it may be written.
     fn turns(&self, number: u32) -> (bool, bool)
         ensures reads { result.0 ≡ passes_at is_to_read (entries_of self.now) number }
         ensures writes { result.1 ≡ passes_at is_to_write (entries_of self.now) number }

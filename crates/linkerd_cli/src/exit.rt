@@ -6,14 +6,14 @@ use line_run::Status;
 use serve_core::serve::ServeStatus;
 use std::process::ExitCode;
 
-/// The exit status of the process.
+/// Returns the exit status of the process.
 pub(crate) fn exit_code(status: Status) -> ExitCode
     ensures { exit_status result ≡ code_of status }
 {
     ExitCode::from(status.code())
 }
 
-/// The exit status of the process, where it was to serve links.
+/// Returns the exit status of the process for a server that has ended.
 pub(crate) fn server_code(status: ServeStatus) -> ExitCode
     ensures stopped { status ≡ ServeStatus.Stopped → exit_status result ≡ 0 }
     ensures memory { status ≡ ServeStatus.Memory → exit_status result ≡ 3 }

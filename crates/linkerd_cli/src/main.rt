@@ -1,9 +1,9 @@
 //! The program: the destination and policy controllers of a Linkerd 2 control plane, over a recorded feed or over links.
 //!
-//! Stands on command_run for what a command does, on serve_core for a server, on mesh_outside for standard input and output, on
-//! mio_edge for sockets, on regex_patterns for the regular expressions of routes, and on run_report and link_report for what standard error is told.
-//! `main` hands the words to `command_run::top::top`, whose contract is that of the program, and runs the server that it configures
-//! by `serve_core::serve::serve_top`.
+//! Depends on command_run for the commands, on serve_core for a server, on mesh_outside for standard input and output, on mio_edge for
+//! sockets, on regex_patterns for the regular expressions of routes, and on run_report and link_report for what is written to standard
+//! error. `main` passes the words of the command line to `command_run::top::top`, whose contract is that of the program. If they ask
+//! for a server, `main` runs it with `serve_core::serve::serve_top`.
 #![tactic(auto)]
 
 ghost use Rattle.std.specs.Prelude.{◌≤◌};
@@ -36,12 +36,12 @@ use std::io::{IsTerminal, Stderr};
 use std::process::ExitCode;
 use view_types::config::Config;
 
-// A hub that holds nothing.
+// Creates a hub without objects and subscriptions, under the default configuration and limits.
 fn new_hub(alloc: Global) -> Result<Hub, Memory> {
     Hub::new(alloc, Config::usual(alloc)?, Limits::usual())
 }
 
-// The terminal that progress is shown on. Where the input is typed, there is none: its lines stand on the screen themselves.
+// The terminal for the progress of a run. There is none if the input is typed at a terminal, which then shows the typed lines.
 fn screen(rt: &HostRuntime) -> Option<Stderr> {
     if rt.stdin().is_terminal() || !rt.stderr().is_terminal() {
         return None;
@@ -58,7 +58,7 @@ fn progress<'a>(
     Some(Progress::new(rt, start, command, screen(rt)?))
 }
 
-// The same terminal, where the output goes there, too.
+// The same terminal, if the output goes to a terminal, too.
 fn output_screen(rt: &HostRuntime) -> Option<Stderr> {
     if rt.stdout().is_terminal() {
         screen(rt)
@@ -67,7 +67,7 @@ fn output_screen(rt: &HostRuntime) -> Option<Stderr> {
     }
 }
 
-// The terminal that shows what goes over the links of a server.
+// The terminal that shows the traffic on the links of a server.
 fn link_screen(rt: &HostRuntime, start: StartTime) -> Option<LinkScreen<&HostRuntime, Stderr>> {
     if rt.stderr().is_terminal() {
         Some(LinkScreen::new(rt.alloc(), rt, start, rt.stderr()))
@@ -76,7 +76,7 @@ fn link_screen(rt: &HostRuntime, start: StartTime) -> Option<LinkScreen<&HostRun
     }
 }
 
-// The objects that a hub holds, by their kinds.
+// Counts the objects in a hub by their kinds.
 fn held_in(hub: &Hub) -> HeldObjects {
     let mut held = HeldObjects::NONE;
     for object in hub.store().all() {
@@ -85,7 +85,7 @@ fn held_in(hub: &Hub) -> HeldObjects {
     held
 }
 
-// Tells standard error how the program ended.
+// Writes to standard error how the program ended.
 fn tell(
     rt: &HostRuntime,
     status: Status,
@@ -107,13 +107,13 @@ fn tell_usage(rt: &HostRuntime, words: WrongWords<'_>) -> Status {
     Status::Usage
 }
 
-// Finds what is wrong with words that are no command.
+// Writes to standard error what is wrong with words that are no command.
 fn tell_wrong(rt: &HostRuntime, words: &[Text]) -> Status {
     let reader = Reader { alloc: rt.alloc() };
     tell_usage(rt, WrongWords::of(rt.alloc(), words, &reader))
 }
 
-// Does what the words of the command line ask for, but for serving, and tells standard error of it.
+// Runs the command of the words, except for `serve`, and reports to standard error.
 fn run<'a>(rt: &'a HostRuntime, start: StartTime, words: &'a [Text], last: &'a LastError) -> Outcome
     ensures { ServesBy result (λ server. 1 ≤ server.limits.frame_addrs) }
 {

@@ -18,7 +18,7 @@ fn tell<R: Eprint>(rt: &R, note: ServerNote<'_>) {
     let _ = eprint!(rt; "{note}");
 }
 
-// Tells standard error how the server ended.
+// Writes to standard error how the server ended, and returns the exit status.
 fn ended<R: Eprint>(rt: &R, status: ServeStatus) -> ExitCode {
     tell(
         rt,
@@ -31,8 +31,8 @@ fn ended<R: Eprint>(rt: &R, status: ServeStatus) -> ExitCode {
     server_code(status)
 }
 
-/// Listens, and serves the links that are opened until a feed stops the server. Standard error is told where it listens and how it
-/// ended, and the screen, if there is one, what goes over the links.
+/// Listens on the configured address, and serves links until a feed stops the server or it fails. Writes to standard error where it
+/// listens and how it ended, and shows the traffic on the screen, if there is one.
 pub(crate) fn serve<R: Net + Wait + Eprint + AllocGlobal, C: Clock + Drop, W: Write + Drop>(
     rt: &R,
     server: &ServeConfig,

@@ -1,5 +1,5 @@
--- What any list of calls on a new hub leads to, and that a history leads there too. A call is told as the line that asks for it; the
--- newest stands first.
+-- The state after any list of calls on a new hub, which is also the state after some history of feed lines. A call is given as the
+-- line that requests it; the newest call is first.
 use Rattle.std.specs.Prelude.{◌≡◌, List, [], ◌∷◌}
 use Rattle.std.specs.List.{AllByRecursion}
 use Rattle.mesh_base.specs.declared.limits.Limits.{Limits}
@@ -14,7 +14,7 @@ use Rattle.feed_history.specs.Program.{Program}
 use Rattle.mesh_hub.specs.Hub.{HubState, applied, cancelled, drained, fresh, subscribed}
 use Rattle.mesh_hub.specs.HubAfter.{seen}
 
--- what a call leads to that doesn't run out of memory
+-- the state after a call that does not run out of memory
 abbrev pub called : HubState → Line → HubState
 called now (lines.Event event) = applied now event
 called now (lines.Subscribe id query) = subscribed now id query
@@ -28,7 +28,7 @@ abbrev pub called_all : Config → Limits → List Line → HubState
 called_all config limits [] = fresh config limits
 called_all config limits (call ∷ past) = called (called_all config limits past) call
 
--- Some program with this configuration and these limits, what it reads lawful, stands here after some rows.
+-- This is the state after some rows, for some program with this configuration and these limits whose rows are read lawfully.
 pub record IsHistory (config : Config) (limits : Limits) (state : HubState) : Type 0 where
   pub program : Program
   pub past : List MarkedRow
@@ -37,6 +37,6 @@ pub record IsHistory (config : Config) (limits : Limits) (state : HubState) : Ty
   pub lawfully : ReadsLawfully program
   pub leads : state ≡ seen program (after program past)
 
--- Whatever lawful calls were made on a new hub, in whatever order, it stands where a history leads.
+-- After any lawful calls on a new hub, in any order, the state is that after some history.
 abbrev pub CallsAreHistories : Type 0
 CallsAreHistories = (config : Config) (limits : Limits) (calls : List Line) → AllByRecursion IsLawfulLine calls → IsHistory config limits (called_all config limits calls)

@@ -1,4 +1,4 @@
--- What a watch event changes of a store.
+-- The effect of a watch event on a store.
 use Rattle.std.specs.Prelude.{◌≡◌, Bool, true, false, Some, None}
 use Rattle.mark_rules.specs.Changes.{Leads}
 use Rattle.object_store.specs.Held.{Held}
@@ -11,7 +11,7 @@ use Rattle.feed_history.specs.Events.{event_refusal, objects_after}
 use Rattle.feed_history.specs.declared.refusal.HubFault.{HubFault}
 use Rattle.feed_history.specs.declared.refusal.HubFault.TheVariants.{Memory, Full}
 
--- The objects are those after the event, which isn't refused. The marks are the event's, and the change leads to the objects by them.
+-- The objects are those after the event, which is not refused. The marks are the event's, and account for the change of the objects.
 pub record Changes (old new : Held) (event : Event) (change : Change) : Type 0 where
   pub objects : new.objects ≡ objects_after old.objects event
   pub marks : change.marks ≡ marks_of_event old.objects event
@@ -21,7 +21,7 @@ pub record Changes (old new : Held) (event : Event) (change : Change) : Type 0 w
   pub went : new.spent ≡ false → old.spent ≡ false
   pub limit : new.limit ≡ old.limit
 
--- a refusal leaves the store as it was, unless it spends it
+-- at its limit the store refuses the event and stays as it was; if memory runs out, it is spent
 abbrev pub Refuses : Held → Held → Event → StoreFault → Type 0
 Refuses old new event store.Memory = (new.limit ≡ old.limit) × (new.spent ≡ true)
 Refuses old new event (store.Full held) = (event_refusal old.limit old.objects event ≡ Some (Full held)) × (new ≡ old)

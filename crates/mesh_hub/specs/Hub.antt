@@ -1,4 +1,4 @@
--- What a hub shows of itself, and what its calls come to.
+-- The state of a hub as contracts see it, and the effect of its calls.
 use Rattle.std.specs.Prelude.{◌≡◌, ℕ, Bool, true, false, List, [], ◌∷◌, ◌++◌, Option, Some, None, Result, Ok, Err, is_some, length, map}
 use Rattle.std.specs.FinMap.{empty}
 use Rattle.mesh_base.specs.declared.limits.Limits.{Limits}
@@ -26,8 +26,8 @@ use Rattle.feed_history.specs.declared.refusal.HubFault.{HubFault}
 use Rattle.feed_history.specs.declared.refusal.HubFault.TheVariants.{Memory, Full, TooManySubs, IdOrder, NoSuchId, Oversize}
 use Rattle.feed_history.specs.declared.refusal.NoSuchId.{NoSuchId as NotLive}
 
--- The objects held, the live subscriptions in the order of their ids, each with the view that it was last shown, and
--- the greatest accepted id. Once it was out of memory, a hub is spent.
+-- The objects held; the live subscriptions in the order of their ids, each with the view that it was last shown; and the greatest
+-- accepted id. A hub is spent once it was out of memory.
 pub record HubState : Type 0 where
   pub config : Config
   pub limits : Limits
@@ -39,23 +39,23 @@ pub record HubState : Type 0 where
 abbrev pub state_of : Hub → HubState
 state_of hub = record { config = hub.config; limits = hub.limits; objects = hub.store.objects; subs = live_in hub.spent hub.subscribers; last = hub.last; spent = hub.spent }
 
--- nothing is held or asked for
+-- no objects and no subscriptions
 abbrev pub fresh : Config → Limits → HubState
 fresh config limits = record { config = config; limits = limits; objects = empty; subs = []; last = None; spent = false }
 
--- ---- what a call comes to
+-- ---- the result of a call
 
--- a subscription, whatever it was shown
+-- the id and the query of a subscription
 abbrev pub asked_in : LiveSubscription → SubId × Query
 asked_in sub = (sub.id, sub.query)
 
--- It was out of memory: the hub is spent, and lets go of no subscription. It no longer tells which endpoints were shown.
+-- The hub ran out of memory and is spent. Its subscriptions stay, but which endpoints they were shown is no longer known.
 pub record Spends (old new : HubState) : Type 0 where
   pub spent : new.spent ≡ true
   pub subs : map asked_in new.subs ≡ map asked_in old.subs
   pub last : new.last ≡ old.last
 
--- The call answers this and leads here. A spent hub can't.
+-- The call returns `expected`, and the state becomes `after`. The hub was not spent.
 pub record Goes {T : Type 0} (old : HubState) (expected : Result T HubFault) (after : HubState) (result : Result T HubFault) (new : HubState) : Type 0 where
   pub going : old.spent ≡ false
   pub answer : result ≡ expected
@@ -70,7 +70,7 @@ Answers old answer after (Err (IdOrder last)) new = Goes old answer after (Err (
 Answers old answer after (Err (NoSuchId id)) new = Goes old answer after (Err (NoSuchId id)) new
 Answers old answer after (Err (Oversize bytes)) new = Goes old answer after (Err (Oversize bytes)) new
 
--- what a call answers that is refused or not
+-- the result of a call, given its refusal if there is one
 abbrev pub answer_of : Option HubFault → Result (Unit {0}) HubFault
 answer_of None = Ok tt
 answer_of (Some fault) = Err fault
@@ -99,16 +99,16 @@ cancel_answer None = Err (record {})
 abbrev pub cancelled : HubState → ℕ → HubState
 cancelled now id = record now { subs = in_place id_of id ended now.subs }
 
--- A cancellation takes no memory, and a spent hub does it too.
+-- A cancellation needs no memory, and works on a spent hub, too.
 pub record Cancels (id : ℕ) (old : HubState) (result : Result (Unit {0}) NotLive) (new : HubState) : Type 0 where
   pub answer : result ≡ cancel_answer (sub_at id old.subs)
   pub state : new ≡ cancelled old id
 
--- the messages from the view that a subscriber was last shown to that of the objects held
+-- the messages from the view that a subscriber was last shown to the view over the objects held
 abbrev pub messages_for : HubState → LiveSubscription → List Message
 messages_for now sub = batch sub.shown (view_of now.config now.objects sub.query) now.limits
 
--- what a drain answers
+-- the result of a drain
 abbrev pub frames_for : HubState → ℕ → Option LiveSubscription → Result (List (List ℕ)) HubFault
 frames_for now id None = Err (NoSuchId id)
 frames_for now id (Some sub) = frames_within now.limits.message (messages_for now sub)
@@ -116,7 +116,7 @@ frames_for now id (Some sub) = frames_within now.limits.message (messages_for no
 abbrev pub frames_at : HubState → ℕ → Result (List (List ℕ)) HubFault
 frames_at now id = frames_for now id (sub_at id now.subs)
 
--- what stands in the place of a subscription once it was drained
+-- the subscription after a drain, or none if a message was too long
 abbrev pub shown_now : HubState → LiveSubscription → List LiveSubscription
 shown_now now sub = unless_too_long (too_long now.limits.message (messages_for now sub)) (record sub { shown = Some (view_of now.config now.objects sub.query) })
 
@@ -125,7 +125,7 @@ drained now id = record now { subs = in_place id_of id (shown_now now) now.subs 
 
 -- ---- simulations
 
--- The hub stays as it is.
+-- The hub was not spent, and stays as it is.
 pub record Rests (old : HubState) (new : HubState) : Type 0 where
   pub going : old.spent ≡ false
   pub same : new ≡ old
@@ -135,7 +135,7 @@ RestsUnlessMemory old (Ok value) new = Rests old new
 RestsUnlessMemory old (Err (sim.Pattern route rule item)) new = Rests old new
 RestsUnlessMemory old (Err sim.Memory) new = Spends old new
 
--- A simulation answers what comes of the request, or meets a pattern that is refused, and changes nothing. A spent hub can't.
+-- A simulation returns the verdict on the request, or meets a refused pattern, and changes nothing. A spent hub returns Memory.
 pub record Simulates (facts : PatternFacts) (request : Request) (result : Result Verdict SimFault) (old new : HubState) : Type 0 where
   pub answer : Simulated old.config old.objects facts request result
   pub state : RestsUnlessMemory old result new

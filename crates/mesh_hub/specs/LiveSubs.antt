@@ -1,4 +1,4 @@
--- The live subscriptions of a hub, with the streams of those that ask for endpoints, and the kept views of the others.
+-- The live subscriptions of a hub, with the streams of those to endpoints and the kept views of the others.
 use Rattle.std.specs.Prelude.{Bool, true, false, List}
 use Rattle.mesh_base.specs.declared.limits.Limits.{Limits}
 use Rattle.view_types.specs.Objects.{ObjectMap}
@@ -14,12 +14,12 @@ use Rattle.subscriptions.specs.Standing.{AllStand}
 use Rattle.subscriptions.specs.Unique.{AllStand-prop}
 use Rattle.subscriptions.specs.declared.subscribers.Subscribers.{Subscribers}
 
--- Each with the view that it was last shown. Once memory ran out, it isn't known which endpoints were shown.
+-- Each with the view that it was last shown. Once memory ran out, which endpoints were shown is not known.
 abbrev pub live_in : Bool → Subscribers SharedEndpoints KeptViews → List LiveSubscription
 live_in false all = subs_of (ghosts.shown_to all.endpoints) all.live.subs
 live_in true all = all.live.subs
 
--- They stand for the objects held.
+-- They are in the state that belongs to the objects held.
 abbrev pub Stand : Config → Limits → ObjectMap → Subscribers SharedEndpoints KeptViews → Type 0
 Stand config limits held all = AllStand ghosts.key_of ghosts.shown_to ghosts.stands views.kept_query views.query_of views.stands config limits held all
 

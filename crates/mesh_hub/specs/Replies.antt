@@ -1,4 +1,4 @@
--- What a call adds to the replies of a machine that tells them, and what a call may answer at all.
+-- The replies that a call adds to a machine's list of replies, and the results that a call may return.
 use Rattle.std.specs.Prelude.{◌≡◌, ℕ, List, [], ◌∷◌, Result, Ok, Err}
 use Rattle.mesh_base.specs.declared.sub_id.SubId.{SubId}
 use Rattle.view_types.specs.declared.verdict.Verdict.{Verdict}
@@ -9,7 +9,7 @@ use Rattle.feed_history.specs.declared.refusal.HubFault.TheVariants.{Memory, Ful
 use Rattle.mesh_hub.specs.declared.machine.Reply.{Reply}
 use Rattle.mesh_hub.specs.declared.machine.Reply.TheVariants as replies
 
--- the reply of a call that applies an event or subscribes, or nothing where memory ran out
+-- the reply of a call that applies an event or subscribes; none if memory ran out
 abbrev pub done_reply : Result (Unit {0}) HubFault → List Reply
 done_reply (Ok done) = replies.Done ∷ []
 done_reply (Err Memory) = []
@@ -19,7 +19,7 @@ done_reply (Err (IdOrder last)) = replies.Refused (IdOrder last) ∷ []
 done_reply (Err (NoSuchId id)) = replies.Refused (NoSuchId id) ∷ []
 done_reply (Err (Oversize bytes)) = replies.Refused (Oversize bytes) ∷ []
 
--- that of a drain
+-- the reply of a drain
 abbrev pub drain_reply : SubId → Result (List (List ℕ)) HubFault → List Reply
 drain_reply id (Ok frames) = replies.Frames id frames ∷ []
 drain_reply id (Err (Oversize bytes)) = replies.TooBig id bytes ∷ []
@@ -29,13 +29,13 @@ drain_reply id (Err (TooManySubs live)) = replies.Refused (TooManySubs live) ∷
 drain_reply id (Err (IdOrder last)) = replies.Refused (IdOrder last) ∷ []
 drain_reply id (Err (NoSuchId unknown)) = replies.Refused (NoSuchId unknown) ∷ []
 
--- that of a simulation
+-- the reply of a simulation
 abbrev pub sim_reply : Result Verdict SimFault → List Reply
 sim_reply (Ok found) = replies.Verdict found ∷ []
 sim_reply (Err (sim.Pattern route rule item)) = replies.Pattern (sim.Pattern route rule item) ∷ []
 sim_reply (Err sim.Memory) = []
 
--- ---- the faults that a call may answer
+-- ---- the faults that a call may return
 
 abbrev pub MayApply : Result (Unit {0}) HubFault → Type 0
 MayApply (Ok done) = Unit {0}

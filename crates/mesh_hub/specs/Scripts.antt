@@ -1,4 +1,4 @@
--- What a script of replies answers: the next reply, where it is a possible answer of the call, and else that memory ran out.
+-- The results of a script of replies: a call returns the next reply if that is a possible result of the call, and otherwise Memory.
 use Rattle.std.specs.Prelude.{◌≡◌, ◌+◌, ◌-◌, ◌^◌, ◌==◌, ℕ, List, Option, Some, None, Result, Ok, Err, slice_get, if◌then◌else◌}
 use Rattle.mesh_base.specs.declared.sub_id.SubId.{SubId}
 use Rattle.view_types.specs.declared.verdict.Verdict.{Verdict}
@@ -9,7 +9,7 @@ use Rattle.feed_history.specs.declared.refusal.HubFault.TheVariants.{Memory, Ful
 use Rattle.mesh_hub.specs.declared.machine.Reply.{Reply}
 use Rattle.mesh_hub.specs.declared.machine.Reply.TheVariants as replies
 
--- the reply that comes next, if there is one and it can be counted
+-- the next reply, if there is one and the count of replies does not overflow
 abbrev pub next_reply : List Reply → ℕ → Option Reply
 next_reply script given = if given == 2 ^ 32 - 1 then None else slice_get script given
 
@@ -39,7 +39,7 @@ abbrev pub IsVerdictOrMemory : Result Verdict SimFault → Result Verdict SimFau
 IsVerdictOrMemory answer (Err sim.Memory) = Unit {0}
 IsVerdictOrMemory answer result = result ≡ answer
 
--- how many replies were given, after a call that answered so
+-- how many replies were used after a call with this result
 abbrev pub given_after : {T : Type 0} → Result T HubFault → ℕ → ℕ
 given_after (Err Memory) given = given
 given_after _ given = given + 1

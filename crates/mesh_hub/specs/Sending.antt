@@ -1,4 +1,4 @@
--- What a subscription is due: the view that it is to see, and the frames that bring it there.
+-- What a subscription is due: a new view, and the frames that bring its subscriber to it.
 use Rattle.std.specs.Prelude.{◌≡◌, ℕ, List, Some, Result, Ok, Err}
 use Rattle.view_types.specs.declared.view.View.{View}
 use Rattle.view_rules.specs.Fold.{IsOrderlyIfShown}
@@ -9,7 +9,7 @@ use Rattle.mesh_hub.specs.Hub.{HubState, messages_for}
 use Rattle.subscriptions.specs.Live.{LiveSubscription, id_of, shown_in_place}
 use Rattle.feed_history.specs.declared.refusal.HubFault.{HubFault}
 
--- the view that a subscriber is to see, and the frames of its messages, none of which is too long
+-- the view that the subscriber is to be shown, and the frames of its messages, none of which is too long
 pub record IsDue (now : HubState) (sub : LiveSubscription) (seen : View) (sent : List (List ℕ)) : Type 0 where
   pub frames : Ok sent ≡ frames_within now.limits.message (messages_for now sub)
   pub view : seen ≡ view_of now.config now.objects sub.query
@@ -19,15 +19,14 @@ abbrev pub IsDueOrTooLong : HubState → LiveSubscription → Result (View × Li
 IsDueOrTooLong now sub (Ok due) = IsDue now sub due.0 due.1
 IsDueOrTooLong now sub (Err fault) = IsOrMemory (frames_within now.limits.message (messages_for now sub)) (Err fault)
 
--- ---- what is sent
+-- ---- sending
 
--- where the hub stands once a subscription was sent its frames, or none
+-- the state after a subscription was sent its frames, or none
 abbrev pub sent : HubState → ℕ → LiveSubscription → Result (List (List ℕ)) HubFault → HubState
 sent now id sub (Ok frames) = record now { subs = in_place id_of id (shown_in_place (view_of now.config now.objects sub.query)) now.subs }
 sent now id sub (Err fault) = now
 
--- The subscription is sent its messages and was shown its view, or one of them is too long and the hub is as before. That is so
--- also without memory.
+-- The subscriber is sent its messages and is shown its view; or one of them is too long, or memory ran out, and the hub is as before.
 pub record IsSent (now : HubState) (id : ℕ) (sub : LiveSubscription) (result : Result (List (List ℕ)) HubFault) (new : HubState) : Type 0 where
   pub answer : IsOrMemory (frames_within now.limits.message (messages_for now sub)) result
   pub state : new ≡ sent now id sub result

@@ -1,4 +1,4 @@
-// The objects held, and what a watch event changes of them.
+// The objects held, and how a watch event changes them.
 ghost use Rattle.std.specs.Prelude.{◌≡◌, ◌||◌, [], false, IfErr, IfOk};
 ghost use Rattle.std.specs.FinMap as map;
 ghost use Rattle.view_types.specs.Objects.{AtKeys};
@@ -15,12 +15,12 @@ use std::alloc::Global;
 use std::marker::Model;
 use watch_events::event::Event;
 
-/// A store whose objects are as their readers give them. Contracts see it as the store.
+/// A store whose objects are all as their readers return them. Contracts see it as the store.
 pub struct LawfulStore {
     store: Store,
 }
 
-/// Written by hand, as that of `Store`.
+/// Written by hand, like that of `Store`.
 impl Drop for LawfulStore {
     fn drop(self) {
         let LawfulStore { store: _store } = self;
@@ -50,7 +50,7 @@ impl LawfulStore {
         }
     }
 
-    /// The store, which can't be changed but by events.
+    /// Returns the store. Only events change it.
     pub fn get(&self) -> &Store
         ensures value { result.now ≡ self.now }
         ensures lawful { self.now.spent ≡ false → AreLawful self.now.objects }
@@ -60,7 +60,7 @@ impl LawfulStore {
         &self.store
     }
 
-    /// Changes the objects as the event says. `Full` comes where more would be held than may be.
+    /// Applies a watch event. Returns `Full` if there would be more objects than the limit.
     pub fn change(&mut self, alloc: Global, event: Event) -> Result<Change, StoreFault>
         requires { IsLawfulEvent event }
         ensures ok { IfOk result (Changes self.old self.new event) }
@@ -95,7 +95,7 @@ fn no_change(alloc: Global) -> Change
     }
 }
 
-/// The fault of a hub for that of its store. Without memory the hub is spent.
+/// Converts a fault of the store to a fault of the hub. If memory ran out, it marks the hub as spent.
 pub fn fault_of(spent: &mut bool, fault: StoreFault) -> HubFault
     ensures fault { result ≡ hub_fault fault }
     ensures spent { spent.new ≡ (spends fault || spent.old) }

@@ -1,4 +1,4 @@
-ghost use Rattle.std.specs.Prelude.{◌≡◌, ◌≤◌, ◌&&◌, ◌||◌, not, nat_eq, ℕ, false, true, None, Ok, IfOk, OnErr, OnOk, Some};
+ghost use Rattle.std.specs.Prelude.{◌≡◌, ◌≤◌, nat_eq, ℕ, false, true, None, Ok, IfOk, OnErr, OnOk, Some};
 ghost use Rattle.view_types.specs.declared.query.Query.TheVariants.{Port};
 ghost use Rattle.view_types.specs.declared.view.View.TheVariants.{Server};
 ghost use Rattle.view_rules.specs.Batch.{batch};
@@ -54,9 +54,9 @@ pub struct Hub {
     limits: Limits,
     store: LawfulStore,
     subscribers: Subscribers<SharedEndpoints, KeptViews>,
-    /// The greatest id that was accepted.
+    /// The greatest accepted id.
     last: Option<u32>,
-    /// Memory ran out once.
+    /// Whether memory ran out once.
     spent: bool,
     ghost some_addresses: { 1 ≤ limits.frame_addrs },
     ghost room: { store.limit ≡ limits.objects },
@@ -65,7 +65,7 @@ pub struct Hub {
     ghost stands: { spent ≡ false → Stand config limits store.objects subscribers } by { Prim.hlevel (Stand-prop) },
 }
 
-/// Written by hand, so that a crate that drops a hub needs no proof of what is in it.
+/// Written by hand, so that a crate that drops a hub needs no proof about its contents.
 impl Drop for Hub {
     fn drop(self) {
         let Hub {
@@ -90,7 +90,7 @@ impl Hub {
     ghost use Rattle.row_views.specs.InUse.{AreInUse};
     ghost use Rattle.watch_events.specs.Lawful.{IsLawfulEvent};
 
-    /// Nothing is held or asked for.
+    /// Creates a hub without objects and subscriptions.
     pub fn new(alloc: Global, config: Config, limits: Limits) -> Result<Hub, Memory>
         requires { 1 ≤ limits.frame_addrs }
         ensures state { IfOk result (λ hub. state_of hub ≡ fresh config limits) }
@@ -109,8 +109,8 @@ impl Hub {
         })
     }
 
-    /// Does what a watch event says. `Full` comes where more objects would be held than may be. Those subscriptions become due
-    /// whose queries read a mark of the event before it.
+    /// Applies a watch event. The subscriptions whose queries read a mark of the event before it become due. Returns `Full` if there
+    /// would be more objects than the limit.
     pub fn apply<L>(&mut self, event: Event, steps: &mut Steps<L>) -> Result<(), HubFault>
         requires { IsLawfulEvent event }
         ensures answers { Answers (state_of self.old)
@@ -139,8 +139,8 @@ impl Hub {
         }
     }
 
-    /// Makes a subscription live. `IdOrder` comes where the id isn't above the greatest accepted one, and then
-    /// `TooManySubs` where as many are live as may be.
+    /// Adds a subscription. Returns `IdOrder` if the id is not above the greatest accepted one, and otherwise `TooManySubs` if as many
+    /// subscriptions are live as the limit allows.
     pub fn subscribe<L>(
         &mut self,
         id: SubId,
@@ -170,7 +170,7 @@ impl Hub {
         self.make_live(id, query, steps)
     }
 
-    /// Ends a live subscription. It allocates nothing, and a spent hub does it too.
+    /// Ends a live subscription. It does not allocate, and works on a spent hub, too.
     pub fn cancel(&mut self, id: SubId) -> Result<(), NoSuchId>
         ensures state { Cancels id.0 (state_of self.old) result (state_of self.new) }
         ensures due { Undue id.0 self.old self.new }
@@ -182,9 +182,9 @@ impl Hub {
         }
     }
 
-    /// The frames that bring a subscriber from the view that it was last shown to that of what is held now. `NoSuchId`
-    /// comes where the id isn't live, and `Oversize` where a message is longer than may be; it tells the first such
-    /// length, and the subscription has ended. For an id that isn't due there are none: that allocates nothing.
+    /// Returns the frames that bring a subscriber from the view that it was last shown to the view over the objects held. For an id that
+    /// is not due there are none, and nothing is allocated. Returns `NoSuchId` if the id is not live, and `Oversize`, with the length of
+    /// the first such message, if a message is longer than the limit; the subscription has then ended.
     pub fn drain(&mut self, id: SubId) -> Result<List<Bytes>, HubFault>
         ensures answers { Answers (state_of self.old) (frames_at (state_of self.old) id.0)
             (drained (state_of self.old) id.0) result (state_of self.new) }
@@ -215,8 +215,8 @@ impl Hub {
         }
     }
 
-    /// The live subscriptions that were never drained, or whose queries read a mark of an event since their last drain, in the
-    /// order of their ids. After Memory there are none.
+    /// Returns the live subscriptions that were never drained, or whose queries read a mark of an event since their last drain, in
+    /// ascending order of their ids. Once memory ran out, there are none.
     pub fn due(&self) -> &[SubId]
         ensures each { (id : ℕ) → is_among id result.now ≡ is_due self.now id }
         ensures rise { Rises result.now }
@@ -227,8 +227,8 @@ impl Hub {
         self.subscribers.due()
     }
 
-    /// What comes of a request to a port of a Pod, by the policy that is held. It changes no view and no subscription. `Pattern` comes
-    /// only where a pattern was refused in this call.
+    /// Returns the verdict of the held policy on a request to a port of a Pod. It changes no view and no subscription. Returns `Pattern`
+    /// only if a regular expression was refused in this call.
     pub fn simulate<P: Patterns, L>(
         &mut self,
         request: &Request,
@@ -258,7 +258,7 @@ impl Hub {
         }
     }
 
-    // What comes of a request, by the view of its port.
+    // Returns the verdict on a request, from the view of its port.
     fn verdict<P: Patterns, L>(
         &self,
         request: &Request,
@@ -280,7 +280,7 @@ impl Hub {
         decide(self.alloc, view, request, &self.config, patterns)
     }
 
-    // The view of the port that a request is for.
+    // Returns the view of the port of a request.
     fn port_view<L>(&self, request: &Request, steps: &mut Steps<L>) -> Result<View, Memory>
         requires going { self.now.spent ≡ false }
         ensures value { IfOk result (λ view. view ≡ Server (inbound self.now.config
@@ -291,8 +291,8 @@ impl Hub {
         peek_port(&self.subscribers, self.store.get(), request, steps)
     }
 
-    /// After every call, unless memory ran out, the rows that have users in the indexes are exactly those of the queries of the live
-    /// subscriptions. So a row is kept no longer than somebody asks for it, and no simulation leaves one.
+    /// States that after every call, unless memory ran out, the rows that have users in the indexes are exactly those of the queries of
+    /// the live subscriptions. So a row is kept only while a subscription needs it, and a simulation leaves none.
     pub fn rows_in_use_are_those_of_subscriptions(&self)
         ensures { self.now.spent ≡ false → AreInUse self.now.config self.now.store.objects
             (λ id. query_at id (state_of self.now).subs) (users_in self.now) }
@@ -300,21 +300,21 @@ impl Hub {
         self.subscribers.rows_in_use_are_those_of_queries();
     }
 
-    /// The store of the objects that are held.
+    /// Returns the store of the objects held.
     pub fn store(&self) -> &Store
         ensures { result.now.objects ≡ (state_of self.now).objects }
     {
         self.store.get()
     }
 
-    /// Whether a subscription is live under the id.
+    /// Whether a subscription with this id is live.
     pub fn is_live(&self, id: SubId) -> bool
         ensures { result ≡ is_live id.0 (state_of self.now).subs }
     {
         self.subscribers.get(id).is_some()
     }
 
-    // Makes a subscription live that is refused by nothing.
+    // Adds a subscription that nothing refuses.
     fn make_live<L>(
         &mut self,
         id: SubId,
@@ -342,7 +342,7 @@ impl Hub {
         }
     }
 
-    // The frames that bring a subscriber to the view that it is to see now. It is due no more, unless that fails.
+    // Returns the frames that bring a subscriber to its current view. The id is no longer due, unless this fails.
     fn send(&mut self, id: SubId) -> Result<List<Bytes>, HubFault>
         requires going { self.old.spent ≡ false }
         ensures sends { (sub : LiveSubscription)
@@ -370,7 +370,7 @@ impl Hub {
         }
     }
 
-    // The view that a subscriber is to see, and the frames that bring it there.
+    // Returns the current view of a subscription, and the frames that bring its subscriber to it.
     fn next_batch(
         &self,
         id: SubId,
@@ -387,7 +387,7 @@ impl Hub {
         Ok((BoxedView::new(self.alloc, view)?, frames))
     }
 
-    // The messages that bring a subscriber to a view.
+    // Returns the messages that bring a subscriber to a view.
     fn messages_to(&self, sub: &Subscription, view: &View) -> Result<List<Message>, Memory>
         requires { IsOrderlyIfShown (Some view.now) }
         ensures { IfOk result (λ messages.
@@ -396,7 +396,7 @@ impl Hub {
         batch(self.alloc, sub.shown(), view, &self.limits)
     }
 
-    // The view that the subscriber of an id is to see, which asks for no endpoints.
+    // Returns the current view of a subscription that is not to endpoints.
     fn view_of(&self, id: SubId) -> Result<View, Memory>
         requires going { self.now.spent ≡ false }
         requires live { (sub : LiveSubscription)

@@ -1,10 +1,10 @@
-//! The hub: the objects held and the subscriptions that are live, and the trait of a machine that stands in its place.
+//! The hub: the objects held and the live subscriptions, and the trait `Machine`, which a hub and a script of replies implement.
 //!
-//! Stands on object_store for what is held, subscriptions for who is live and who is due, shared_endpoints and kept_views for what a
-//! subscriber is to see, view_diff for how it is told, request_sim for what comes of a simulated request, and feed_history for the
-//! words in which its calls are told. A `Hub` is a `Machine`: its contracts cite `specs/Hub`, and `specs/Due` for who is due.
-//! `specs/HubAfter` says which hub stands where the rows of a feed lead, and `specs/Calls` that any calls on a new hub lead to such
-//! a one.
+//! Depends on object_store for the objects, on subscriptions for the live subscriptions and which of them are due, on shared_endpoints
+//! and kept_views for the views, on view_diff for messages, on request_sim for the verdict on a simulated request, and on feed_history
+//! for the definitions of the effects of its calls. The contracts of `Hub` cite `specs/Hub`, and `specs/Due` for the subscriptions that
+//! are due. `specs/HubAfter` defines the state of a hub after the rows of a feed, and `specs/Calls` says that the state after any calls
+//! on a new hub is of this form.
 #![tactic(auto)]
 
 pub mod held;

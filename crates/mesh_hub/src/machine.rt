@@ -1,4 +1,4 @@
-ghost use Rattle.std.specs.Prelude.{◌≡◌, ◌≤◌, ℕ, List, [], Option, Some, None, Ok};
+ghost use Rattle.std.specs.Prelude.{◌≡◌, ◌≤◌, List, [], Option, Ok};
 ghost use Rattle.watch_events.specs.Lawful.{IsLawfulEvent};
 ghost use Rattle.route_match.specs.Asking.{AsksPatterns, facts_of};
 ghost use Rattle.request_sim.specs.Faults.{MetPattern};
@@ -18,23 +18,23 @@ use view_types::request::Request;
 use view_types::verdict::Verdict;
 use watch_events::event::Event;
 
-/// What a call of a machine answered.
+/// A reply of a machine to a call.
 #[derive(Drop)]
 pub enum Reply {
-    /// An event was applied, or a subscription was made live.
+    /// An event was applied, or a subscription was added.
     Done,
     Refused(HubFault),
     /// The frames of a drain.
     Frames(SubId, List<Bytes>),
-    /// A drain met a message of so many bytes, which is too long.
+    /// A drain met a message that is too long. The number is the length of the message in bytes.
     TooBig(SubId, u64),
-    /// What comes of a simulated request.
+    /// The verdict on a simulated request.
     Verdict(Verdict),
-    /// A simulation met a pattern that is refused.
+    /// A simulation met a regular expression that is refused.
     Pattern(SimFault),
 }
 
-/// A hub, or what stands in its place. It may tell what it holds, and it may tell its replies.
+/// A hub, or a substitute for one. Contracts may know its state, its replies, or both.
 pub trait Machine {
     ghost use Rattle.mesh_hub.specs.Hub.{Answers, Cancels, HubState, answer_of, applied, apply_refusal, drained, frames_at, fresh, new_refusal, subscribed, Simulates};
     ghost use Rattle.feed_history.specs.Optional.{Becomes, Grows};
@@ -42,19 +42,19 @@ pub trait Machine {
     ghost use Rattle.mesh_hub.specs.Begins.{Begins};
     ghost use Rattle.mesh_hub.specs.declared.machine.Reply.{Reply as TheReply};
 
-    /// What it holds, where it tells that.
+    /// The state, if it is known.
     ghost state: { Self → Option HubState };
 
-    /// What it has answered, the oldest first, where it tells that.
+    /// The replies so far, the oldest first, if they are known.
     ghost replies: { Self → Option (List TheReply) };
 
-    /// Holds nothing from now on, under this configuration and these limits. A spent machine answers Memory.
+    /// Clears the state, and sets the configuration and the limits. A spent machine returns Memory.
     fn begin(&mut self, config: Config, limits: Limits) -> Result<(), Memory>
         requires { 1 ≤ limits.frame_addrs }
         ensures state { Becomes (state self.old) (state self.new) (Begins (fresh config limits) result) }
         ensures replies { Grows (replies self.old) (replies self.new) [] };
 
-    /// Does what a watch event says. `Full` comes where it would hold more objects than it may.
+    /// Applies a watch event. Returns `Full` if there would be more objects than the limit.
     fn apply<L>(&mut self, event: Event, steps: &mut Steps<L>) -> Result<(), HubFault>
         requires { IsLawfulEvent event }
         ensures state { Becomes (state self.old) (state self.new) (λ old new.
@@ -62,8 +62,8 @@ pub trait Machine {
         ensures replies { Grows (replies self.old) (replies self.new) (done_reply result) }
         ensures may { MayApply result };
 
-    /// Makes a subscription live. `IdOrder` comes where the id isn't above the greatest accepted one, and then
-    /// `TooManySubs` where as many are live as may be.
+    /// Adds a subscription. Returns `IdOrder` if the id is not above the greatest accepted one, and otherwise `TooManySubs` if as many
+    /// subscriptions are live as the limit allows.
     fn subscribe<L>(
         &mut self,
         id: SubId,
@@ -75,24 +75,24 @@ pub trait Machine {
         ensures replies { Grows (replies self.old) (replies self.new) (done_reply result) }
         ensures may { MaySubscribe result };
 
-    /// Ends a live subscription. It allocates nothing. A machine that tells its replies always answers Ok, and adds none.
+    /// Ends a live subscription. It does not allocate. A machine whose replies are known always returns Ok, and adds no reply.
     fn cancel(&mut self, id: SubId) -> Result<(), NoSuchId>
         ensures state { Becomes (state self.old) (state self.new) (λ old new.
             Cancels id.0 old result new) }
         ensures replies { Becomes (replies self.old) (replies self.new) (λ old new.
             (new ≡ old) × (result ≡ Ok tt)) };
 
-    /// The frames that bring a subscriber from the view that it was last shown to the one it is to see now. `NoSuchId`
-    /// comes where the id isn't live, and `Oversize` where a message is longer than may be; it tells the first such
-    /// length, and the subscription has ended.
+    /// Returns the frames that bring a subscriber from the view that it was last shown to its current one. Returns `NoSuchId` if the id
+    /// is not live, and `Oversize`, with the length of the first such message, if a message is longer than the limit; the subscription
+    /// has then ended.
     fn drain(&mut self, id: SubId) -> Result<List<Bytes>, HubFault>
         ensures state { Becomes (state self.old) (state self.new) (λ old new.
             Answers old (frames_at old id.0) (drained old id.0) result new) }
         ensures replies { Grows (replies self.old) (replies self.new) (drain_reply id result) }
         ensures may { MayDrain id result };
 
-    /// What comes of a request to a port of a Pod. No view and no subscription changes. `Pattern` comes only where a pattern was
-    /// refused in this call.
+    /// Returns the verdict on a request to a port of a Pod. It changes no view and no subscription. Returns `Pattern` only if a regular
+    /// expression was refused in this call.
     fn simulate<P: Patterns, L>(
         &mut self,
         request: &Request,

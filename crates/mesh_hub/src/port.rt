@@ -1,4 +1,4 @@
-// The view of a port that a simulation asks for.
+// The view of the port of a simulated request.
 ghost use Rattle.std.specs.Prelude.{◌≡◌, ◌≤◌, ◌+◌, IfOk};
 ghost use Rattle.mesh_base.specs.declared.limits.Limits.{Limits};
 ghost use Rattle.view_types.specs.Objects.{AtKeys};
@@ -23,7 +23,7 @@ use view_types::request::Request;
 use view_types::server_view::ServerView;
 use view_types::view::View;
 
-// The view of the port that a request is for, whether or not somebody subscribes to it.
+// Returns the view of the port of a request, whether or not there is a subscription to it.
 pub fn peek_port<L>(
     subscribers: &Subscribers<SharedEndpoints, KeptViews>,
     store: &Store,
@@ -50,7 +50,7 @@ pub fn peek_port<L>(
     }
 }
 
-// The view of a port, as it is.
+// Returns the Server in an inbound view.
 pub fn server_in(view: &View) -> &ServerView
     requires { (server : TheView) × (view.now ≡ Server server) }
     ensures { view.now ≡ Server result.now }
@@ -61,7 +61,7 @@ pub fn server_in(view: &View) -> &ServerView
     }
 }
 
-// The query for the port that a request is for.
+// Returns the query for the port of a request.
 fn port_query(request: &Request) -> Result<Query, Memory>
     ensures { IfOk result (λ asked.
         asked ≡ Port request.now.ns request.now.pod request.now.port) }

@@ -1,4 +1,4 @@
-ghost use Rattle.std.specs.Prelude.{◌≡◌, ◌≢◌, ◌≤◌, ◌+◌, ◌-◌, ◌^◌, ◌<◌, ◌++◌, ◌∷◌, [], Some, None, Ok, IfOk, IfSome, take};
+ghost use Rattle.std.specs.Prelude.{◌≡◌, ◌+◌, ◌-◌, ◌^◌, ◌<◌, ◌++◌, ◌∷◌, [], Some, None, Ok, IfOk, IfSome, take};
 ghost use Rattle.std.specs.Option.{option_copied};
 ghost use Rattle.route_match.specs.Asking.{AsksPatterns};
 ghost use Rattle.request_sim.specs.Faults.{MetPattern};
@@ -25,19 +25,19 @@ use view_types::request::Request;
 use view_types::verdict::Verdict;
 use watch_events::event::Event;
 
-/// Answers with the replies of its script, one after another, and holds nothing. Where the next reply is no possible answer of a
-/// call, or there is none, it answers Memory, and the reply stays the next. `simulate` asks no pattern.
+/// A machine that returns the replies of its script, one after another, and keeps no objects. If the next reply is no possible result of
+/// a call, or there is none, the call returns Memory and the script does not advance. `simulate` matches no regular expression.
 #[derive(Drop)]
 pub struct ScriptMachine {
     /// The script. No call changes it.
     pub replies: List<Reply>,
-    /// How many of the replies were given.
+    /// How many of the replies were used.
     pub given: u32,
     pub alloc: Global,
 }
 
 impl ScriptMachine {
-    // The next reply, if there is one and it can be counted.
+    // Returns the next reply, if there is one and the count does not overflow.
     fn next(&self) -> Option<&Reply>
         ensures is { option_copied result ≡ next_reply self.now.replies self.now.given }
         ensures counted { IfSome result (λ reply. self.now.given + 1 < 2 ^ 32) }
@@ -52,7 +52,7 @@ impl ScriptMachine {
     }
 }
 
-// The same frames once more.
+// Copies a list of frames. The copies share their bytes.
 fn copied(alloc: Global, frames: &List<Bytes>) -> Result<List<Bytes>, Memory>
     ensures { IfOk result (λ copy. copy ≡ frames.now) }
 {

@@ -1,4 +1,4 @@
--- How faults are written. Out of memory has no text.
+-- The texts of faults. Out of memory has none.
 use Rattle.std.specs.Prelude.{ℕ, List, [], ◌++◌, codes}
 use Rattle.std.specs.Fmt.{decimal}
 use Rattle.proto_wire.specs.declared.fault.WireFault.{WireFault}
@@ -8,7 +8,7 @@ use Rattle.proxy_proto.specs.declared.fault.ProtoFault.TheVariants as proto
 use Rattle.output_fold.specs.declared.fault.FoldFault.{FoldFault}
 use Rattle.output_fold.specs.declared.fault.FoldFault.TheVariants.{Memory, TooLong, NotLine, Compressed, Message}
 
--- Messages have the first three.
+-- A message can have the first three faults.
 abbrev pub wire_fault_text : WireFault → List ℕ
 wire_fault_text (wire.Truncated at) = codes "Truncated " ++ decimal at
 wire_fault_text (wire.BadTag at) = codes "BadTag " ++ decimal at
@@ -17,7 +17,7 @@ wire_fault_text wire.Compressed = codes "Compressed"
 wire_fault_text (wire.TooLong len) = codes "TooLong " ++ decimal len
 wire_fault_text wire.Memory = []
 
--- Messages have all but the last three, requests have these too.
+-- A message can have all faults except the last three, which only requests have.
 abbrev pub proto_fault_text : ProtoFault → List ℕ
 proto_fault_text (proto.Wire fault) = codes "Wire " ++ wire_fault_text fault
 proto_fault_text (proto.Repeated field) = codes "Repeated " ++ decimal field

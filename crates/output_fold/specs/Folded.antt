@@ -1,4 +1,4 @@
--- What is written of an input: why its first bad row doesn't read, or the view that the frames of the id show.
+-- What a fold writes for an input: why the first row that cannot be read is refused, or the view that the frames of the id give.
 use Rattle.std.specs.Prelude.{ℕ, Bool, true, List, [], ◌∷◌, Option, Some, None, Ok, Err}
 use Rattle.std.specs.List.{enumerate_from, filter_map, list_any}
 use Rattle.mesh_base.specs.declared.limits.Limits.{Limits}
@@ -25,15 +25,15 @@ abbrev pub message_told : Told → Option Message
 message_told (Ok told) = told
 message_told (Err fault) = None
 
--- the number of a row that doesn't read, and why it doesn't
+-- the number of a row that cannot be read, and its fault
 abbrev pub fault_at : Method → ℕ → ℕ × Row → Option (ℕ × FoldFault)
 fault_at method id row = fault_told row.0 (row_says method id row.1)
 
--- of rows, which are numbered from 1, those that don't read
+-- the rows that cannot be read, where rows are numbered from 1
 abbrev pub bad_rows : Method → ℕ → List Row → List (ℕ × FoldFault)
 bad_rows method id rows = filter_map (fault_at method id) (enumerate_from 1 rows)
 
--- the messages of rows that have frames of the id
+-- the messages of the rows that have frames of the id
 abbrev pub messages_in : Method → ℕ → List Row → List Message
 messages_in method id rows = filter_map (λ row. message_told (row_says method id row)) rows
 
@@ -44,12 +44,12 @@ abbrev pub view_lines : ℕ → Limits → Option View → List ℕ
 view_lines id limits None = []
 view_lines id limits (Some view) = let messages = batch None view limits in lines_by (view_line id) id messages (too_long limits.message messages)
 
--- why the first bad row doesn't read
+-- the refusal of the first row that cannot be read
 abbrev pub bad_line : List (ℕ × FoldFault) → List ℕ
 bad_line [] = []
 bad_line (bad ∷ more) = fault_line bad.0 (fold_fault_text bad.1)
 
--- that, or the view
+-- the refusal, or the view if there is none
 abbrev pub text_of : ℕ → Limits → List (ℕ × FoldFault) → List Message → List ℕ
 text_of id limits [] messages = view_lines id limits (fold messages)
 text_of id limits (bad ∷ more) messages = bad_line (bad ∷ more)
@@ -57,10 +57,10 @@ text_of id limits (bad ∷ more) messages = bad_line (bad ∷ more)
 abbrev pub folded_in : Method → ℕ → Limits → List Row → List ℕ
 folded_in method id limits rows = text_of id limits (bad_rows method id rows) (messages_in method id rows)
 
--- some row doesn't read
+-- some row cannot be read
 abbrev pub refused_in : Method → ℕ → List Row → Bool
 refused_in method id rows = list_any (λ bad. true) (bad_rows method id rows)
 
--- what is written of an input
+-- what is written for an input
 abbrev pub folded_of : Method → ℕ → Limits → List ℕ → List ℕ
 folded_of method id limits bytes = folded_in method id limits (rows_of limits.line bytes)

@@ -1,4 +1,4 @@
--- What was returned is what the definition gives, unless memory ran out.
+-- The result is that of the definition, unless memory ran out.
 use Rattle.std.specs.Prelude.{◌≡◌, Result, Ok, Err}
 use Rattle.proxy_proto.specs.declared.fault.ProtoFault.{ProtoFault}
 use Rattle.proxy_proto.specs.declared.fault.ProtoFault.TheVariants as proto
@@ -13,17 +13,17 @@ abbrev pub Gives : {A : Type 0} → Result A FoldFault → Result A FoldFault �
 Gives (Ok x) read = read ≡ Ok x
 Gives (Err fault) read = Fails fault read
 
--- the same of what was returned, as `view` sees it
+-- the same for a result that `view` maps to that of the definition
 abbrev pub GivesAs : {A B : Type 0} → (A → B) → Result A FoldFault → Result B FoldFault → Type 0
 GivesAs view (Ok x) read = read ≡ Ok (view x)
 GivesAs view (Err fault) read = Fails fault read
 
--- What was returned, as `view` sees it, is what the definition gives; no memory is taken.
+-- The result, mapped by `view`, is that of the definition; no memory is needed.
 abbrev pub IsAs : {A B : Type 0} → (A → B) → Result A FoldFault → Result B FoldFault → Type 0
 IsAs view (Ok x) read = read ≡ Ok (view x)
 IsAs view (Err fault) read = read ≡ Err fault
 
--- the fault of a message, as that of its line
+-- the fault of a message, as the fault of its line
 abbrev pub fold_fault : ProtoFault → FoldFault
 fold_fault proto.Memory = Memory
 fold_fault fault = Message fault

@@ -8,14 +8,14 @@ use Rattle.mesh_base.specs.Numeral.{is_numeral, leads_with_zero}
 unfoldable pub is_digit : ℕ → Bool
 is_digit byte = nat_lt (digit_value byte) 10
 
--- digits, one or more, and no zero before another
+-- one or more digits, without a leading zero
 unfoldable pub is_number : List ℕ → Bool
 is_number text = is_numeral 10 text && not (leads_with_zero text)
 
--- this number, written so
+-- the digits of this number
 unfoldable pub is_number_of : ℕ → List ℕ → Bool
 is_number_of n text = is_number text && digits_value 10 text == n
 
--- the longest run of digits at the front is a number
+-- the longest run of digits at the beginning is a number
 unfoldable pub begins_with_number : List ℕ → Bool
 begins_with_number text = is_number (take_while is_digit text)

@@ -1,4 +1,4 @@
--- Where a fold stands after some rows, the newest first, and after its end.
+-- The state of a fold after some rows, the newest first, and after its end.
 use Rattle.std.specs.Prelude.{◌≡◌, ℕ, Bool, true, false, List, reverse}
 use Rattle.std.specs.declared.option.Option.{Option}
 use Rattle.mesh_base.specs.declared.limits.Limits.{Limits}
@@ -9,13 +9,13 @@ use Rattle.view_types.specs.declared.view.View.{View}
 use Rattle.view_rules.specs.Fold.{fold}
 use Rattle.output_fold.specs.Folded.{bad_line, bad_rows, folded_in, messages_in, refused_in}
 
--- the same fold, whatever it has come to
+-- the same fold: its method, id and limits
 pub record IsOfFold (method : Method) (id : SubId) (limits : Limits) (method_now : Method) (id_now : SubId) (limits_now : Limits) : Type 0 where
   pub same_method : method_now ≡ method
   pub same_id : id_now ≡ id
   pub same_limits : limits_now ≡ limits
 
--- While all rows read, the view is what their messages show.
+-- While all rows can be read, the view is that of their messages.
 abbrev pub ShowsIf : Bool → Option View → Option View → Type 0
 ShowsIf true expected view = Unit {0}
 ShowsIf false expected view = view ≡ expected

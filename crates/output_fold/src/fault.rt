@@ -8,17 +8,17 @@ use proto_wire::fault::WireFault;
 use proxy_proto::fault::ProtoFault;
 use std::fmt;
 
-/// Why a line, or the frame in it, doesn't read.
+/// Why a line, or the frame in it, cannot be read.
 #[derive(Clone, Copy, Debug, PartialEq, Eq)]
 pub enum FoldFault {
     Memory,
     /// The line is longer than the limit.
     TooLong,
-    /// The line isn't one that `replay` writes.
+    /// The line is not one that `replay` writes.
     NotLine,
-    /// The frame says that its message is compressed.
+    /// The frame is marked as compressed.
     Compressed,
-    /// The frame's message can't be read. The fault is never that memory ran out.
+    /// The message in the frame cannot be read. The fault is never out of memory.
     Message(ProtoFault),
 }
 
@@ -41,7 +41,7 @@ impl From<ProtoFault> for FoldFault {
     }
 }
 
-// A wire fault, to be written.
+// Formats a fault of the wire format.
 #[derive(Clone, Copy, Drop)]
 struct WireText(WireFault);
 
@@ -60,7 +60,7 @@ impl fmt::Display for WireText {
     }
 }
 
-// Why bytes are no message, to be written.
+// Formats the fault of a message.
 #[derive(Clone, Copy, Drop)]
 struct ProtoText(ProtoFault);
 

@@ -12,9 +12,9 @@ use std::alloc::Global;
 use view_fold::folding::Fold;
 use view_types::query::Method;
 
-/// Reads the lines that `replay` wrote, and writes the `view` lines that bring a subscriber who has no view to the one that
-/// the frames of the id show; or the first line that doesn't read, and then no view. Lines behind that one are read and
-/// passed over.
+/// Reads the lines that `replay` wrote, and writes the `view` lines that bring a subscriber without a view to the view that the frames of
+/// the id give. If a line cannot be read, it writes why the first such line is refused, and no view; it reads the lines after that one,
+/// and ignores them.
 pub fn fold_file<S: Source, K: Sink>(
     alloc: Global,
     method: Method,
@@ -25,15 +25,15 @@ pub fn fold_file<S: Source, K: Sink>(
 ) -> Status
     requires { 1 ≤ limits.now.frame_addrs }
 
-    // Read to the end: what was written is the defined text, and a line didn't read or none.
+    // If all lines were read, what was written is the defined output, and the status says whether a line could not be read.
     ensures output { OnEnd result (WritesFolded method id.0 limits.now (S.left input.old)
         (K.held out.old) (K.held out.new)) }
 
-    // Else it is a front of the defined text.
+    // If the run ends early, what was written is a prefix of the defined output.
     ensures front { OnStop result (WritesFoldedFront method id.0 limits.now (S.left input.old)
         (K.held out.old) (K.held out.new)) }
 
-    // When each status comes.
+    // The cause of each status.
     ensures read { result ≡ Status.ReadFault → Rose (S.faults input.old) (S.faults input.new) }
     ensures write { result ≡ Status.WriteFault → Rose (K.faults out.old) (K.faults out.new) }
     ensures long { result ≡ Status.InputTooLong → TookLimit limits.now.input (S.left input.old) }
@@ -47,7 +47,7 @@ pub fn fold_file<S: Source, K: Sink>(
         → IsTooLong result }
     ensures usage { result ≢ Status.Usage }
 
-    // No count falls, and each fault is told by its status.
+    // The counts of faults never decrease, and each new fault has its status.
     ensures read_later { S.faults input.old ≤ S.faults input.new }
     ensures write_later { K.faults out.old ≤ K.faults out.new }
     ensures read_told { result ≢ Status.ReadFault → S.faults input.new ≡ S.faults input.old }

@@ -15,7 +15,7 @@ use std::alloc::{AllocError, Global};
 use view_fold::folding::Fold;
 use view_types::query::Method;
 
-// Writes why a line doesn't read, unless memory ran out.
+// Writes the refusal of a line, unless memory ran out.
 fn refuse(alloc: Global, number: u64, fault: FoldFault, out: &mut Vec<u8>) -> Result<(), AllocError>
     ensures fault { OnOk result (fault ≢ FoldFault.Memory) }
     ensures writes { OnOk result (out.new.items
@@ -27,7 +27,7 @@ fn refuse(alloc: Global, number: u64, fault: FoldFault, out: &mut Vec<u8>) -> Re
     }
 }
 
-/// A fold that is under way.
+/// A running fold.
 #[derive(Drop)]
 pub(crate) struct Folding {
     pub(crate) alloc: Global,
@@ -35,7 +35,7 @@ pub(crate) struct Folding {
     pub(crate) id: SubId,
     pub(crate) limits: Limits,
     pub(crate) fold: Fold,
-    /// A line didn't read. Those behind it are passed over.
+    /// Whether a line could not be read. The lines after it are ignored.
     pub(crate) failed: bool,
     ghost some_addresses: { 1 ≤ limits.frame_addrs },
     ghost orderly: { IsOrderlyIfShown fold.view } by { IsOrderlyIfShown-prop fold.view },

@@ -9,7 +9,7 @@ use std::alloc::Global;
 use view_types::message::Message;
 use view_types::query::Method;
 
-// The bytes that hex stands for.
+// Returns the bytes of the hex.
 fn bytes_of(alloc: Global, hex: &[u8]) -> Result<Vec<u8>, FoldFault>
     ensures { GivesAs (λ bytes. bytes.items) result (bytes_of hex.now) }
 {
@@ -21,7 +21,7 @@ fn bytes_of(alloc: Global, hex: &[u8]) -> Result<Vec<u8>, FoldFault>
 }
 
 #[tactic(auto, using(crate::proofs::Frames::is_one, crate::proofs::Frames::not_one))]
-// The message of bytes that are one frame.
+// Returns the message in bytes that are one frame.
 fn message_in(bytes: &[u8]) -> Result<&[u8], FoldFault>
     ensures { IsAs (λ message. message.now) result (message_in bytes.now) }
 {
@@ -41,7 +41,7 @@ fn message_in(bytes: &[u8]) -> Result<&[u8], FoldFault>
     Ok(message)
 }
 
-/// The message of the frame that hex stands for.
+/// Returns the message in the frame of the hex.
 pub(crate) fn read_frame(alloc: Global, method: Method, hex: &[u8]) -> Result<Message, FoldFault>
     ensures { Gives result (frame_message method hex.now) }
 {

@@ -28,7 +28,7 @@ fn passed_if<'a>(is_line: bool) -> Result<Option<&'a [u8]>, FoldFault>
     }
 }
 
-// What stands behind `frame`.
+// Reads the words after `frame`.
 #[tactic(auto, using(crate::proofs::Words::more_words))]
 fn frame_words(id: u32, words: &[u8]) -> Result<Option<&[u8]>, FoldFault>
     ensures { IsAs (option_map (λ hex. hex.now)) result (frame_words id (pieces 32 words.now)) }
@@ -45,7 +45,7 @@ fn frame_words(id: u32, words: &[u8]) -> Result<Option<&[u8]>, FoldFault>
     }
 }
 
-// What stands behind `oversize`.
+// Reads the words after `oversize`.
 #[tactic(auto, using(crate::proofs::Words::more_than_two))]
 fn are_two_numbers(words: &[u8]) -> bool
     ensures { result ≡ are_two_numbers (pieces 32 words.now) }
@@ -59,7 +59,7 @@ fn are_two_numbers(words: &[u8]) -> bool
     }
 }
 
-// What stands behind `verdict` and `refused`.
+// Reads the words after `verdict` and `refused`.
 fn begin_with_number(words: &[u8]) -> bool
     ensures { result ≡ begin_with_number (pieces 32 words.now) }
 {
@@ -69,7 +69,7 @@ fn begin_with_number(words: &[u8]) -> bool
     }
 }
 
-// The hex of the frame that a line has for the id, if it has one.
+// Returns the hex of the frame of the id, if the line has one.
 #[tactic(auto, unfolding(crate::specs::Lines::hex_in))]
 fn hex_of(id: u32, line: &[u8]) -> Result<Option<&[u8]>, FoldFault>
     ensures { IsAs (option_map (λ hex. hex.now)) result (hex_of id line.now) }
@@ -89,7 +89,7 @@ fn hex_of(id: u32, line: &[u8]) -> Result<Option<&[u8]>, FoldFault>
     Err(FoldFault::NotLine)
 }
 
-/// The message that a row tells who reads the frames of an id, if it has one for it.
+/// Returns the message that a row has for the id, if it has one.
 #[tactic(auto, unfolding(crate::specs::Lines::row_says))]
 pub(crate) fn row_says(
     alloc: Global,

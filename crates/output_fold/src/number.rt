@@ -17,7 +17,7 @@ fn are_digits(text: &[u8]) -> bool
     text.iter().all(|byte| is_digit(*byte))
 }
 
-/// The text is decimal digits, one or more, and no zero stands before another.
+/// Whether the text is one or more decimal digits without a leading zero.
 #[tactic(auto, unfolding(crate::specs::Numbers::is_digit, crate::specs::Numbers::is_number, mesh_base::specs::Numeral::is_numeral, mesh_base::specs::Numeral::leads_with_zero))]
 pub(crate) fn is_number(text: &[u8]) -> bool
     ensures { result ≡ is_number text.now }
@@ -32,7 +32,7 @@ pub(crate) fn is_number(text: &[u8]) -> bool
     }
 }
 
-/// The text is the number, written so.
+/// Whether the text is this number in decimal digits.
 #[tactic(auto, using(crate::proofs::Numbers::other_number, crate::proofs::Numbers::same_number))]
 pub(crate) fn is_number_of(text: &[u8], n: u32) -> bool
     ensures { result ≡ is_number_of n text.now }
@@ -43,7 +43,7 @@ pub(crate) fn is_number_of(text: &[u8], n: u32) -> bool
     }
 }
 
-/// The text begins with a number: the longest run of digits at its front is one.
+/// Whether the text begins with a number: the longest run of digits at its beginning is one.
 #[tactic(auto, using(crate::proofs::Numbers::begins_none, crate::proofs::Numbers::begins_zero, crate::proofs::Numbers::begins_other))]
 pub(crate) fn begins_with_number(text: &[u8]) -> bool
     ensures { result ≡ begins_with_number text.now }

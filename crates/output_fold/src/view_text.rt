@@ -18,7 +18,7 @@ use view_diff::views::batch;
 use view_types::message::Message;
 use view_types::view::View;
 
-// Writes the frames of messages, or how long the first is that is too long.
+// Writes the frames of messages, or the length of the first message that is too long.
 fn push_messages(
     alloc: Global,
     id: SubId,
@@ -37,7 +37,7 @@ fn push_messages(
     }
 }
 
-/// Writes the messages that bring a subscriber who has no view to this one.
+/// Writes the messages that bring a subscriber without a view to this one.
 pub fn push_view(
     alloc: Global,
     id: SubId,

@@ -1,5 +1,5 @@
--- That a subscriber's frames and the objects agree: who folds the output of a replay is written the lines of the view that filters over
--- the objects give.
+-- The frames of a subscriber agree with the objects: folding the output of a replay writes the lines of the view defined by filters over
+-- the objects.
 use Rattle.std.specs.Prelude.{◌≡◌, ◌<◌, ◌≤◌, ◌^◌, ℕ, List, Some, length}
 use Rattle.std.specs.List.{AllByRecursion}
 use Rattle.line_run.specs.Rows.{lines_of}
@@ -19,7 +19,7 @@ use Rattle.feed_history.specs.Lengths.{LengthsFit}
 use Rattle.output_fold.specs.Folded.{folded_of, view_lines}
 use Rattle.route_match.specs.Asking.{PatternFacts}
 
--- the method that a query is asked by
+-- the method of a query
 abbrev pub method_for : Query → Method
 method_for (queries.Get ns name port ctx) = Get
 method_for (queries.Profile target ctx) = GetProfile
@@ -31,8 +31,8 @@ method_for (queries.PortRows ns pod port) = WatchPort2
 abbrev pub LinesAreWithin : ℕ → List ℕ → Type 0
 LinesAreWithin limit text = AllByRecursion (λ (line : List ℕ). length line ≤ limit) (lines_of text)
 
--- Whoever folds the output of a replay for an id that is live at its end, and is sent all that is due to it there, is written the
--- lines of the view over the objects: each message that leads to it from none, or how long the first is that is too long.
+-- For an id that is live at the end of a replay and is sent there all that is due to it, folding the output writes the lines of the view
+-- over the objects: each message from no view to it, or the length of the first message that is too long.
 abbrev pub FoldAgrees : Program → Type 0
 FoldAgrees program = 1 ≤ program.limits.frame_addrs → IsLawfulConfig program.config → HasLimit program
     → (facts : PatternFacts) (past : List MarkedRow) → length past < 2 ^ 64 → AreFair program facts past → LengthsFit program past

@@ -1,4 +1,4 @@
--- A subscriber's frames and the objects agree: a fold of a replay's output and a diagnosis of its input write the same view lines.
+-- The frames of a subscriber agree with the objects: a fold of a replay's output and a diagnosis of its input write the same view lines.
 use Rattle.std.specs.Prelude.{◌≡◌, ◌≤◌, ◌<◌, ◌^◌, ◌++◌, length, ℕ, Bool, List, [], Some}
 use Rattle.line_run.specs.Rows.{past_of}
 use Rattle.mesh_base.specs.declared.limits.Limits.{Limits}
@@ -19,8 +19,8 @@ use Rattle.diagnosis.specs.Diagnosed.{diagnosed_of, diagnosis_of}
 use Rattle.output_laws.specs.Agreement.{LinesAreWithin, method_for}
 use Rattle.route_match.specs.Asking.{PatternFacts}
 
--- For each id that is live at the end of a replay and is sent there all that is due to it: behind its refused lines a diagnosis of the
--- input writes, for the same query, what a fold of the output does. The rows may be marked in each way that a replay may mark them.
+-- For each id that is live at the end of a replay and is sent there all that is due to it: after its refused lines, a diagnosis of the
+-- input writes for the same query what a fold of the output writes. The rows may be marked in any way that a replay may mark them.
 abbrev pub FoldAgreesWithDiagnosis : Config → Limits → Pat → Type 0
 FoldAgreesWithDiagnosis config limits pat = 1 ≤ limits.frame_addrs → IsLawfulConfig config → limits.message < 2 ^ 32 → let program = replay_of config limits pat in
     (facts : PatternFacts) (input : List ℕ) (past : List MarkedRow) → length input < 2 ^ 64 → rows_in past ≡ past_of limits.line input
@@ -29,7 +29,7 @@ FoldAgreesWithDiagnosis config limits pat = 1 ≤ limits.frame_addrs → IsLawfu
     → diagnosed_of config limits id asked.query input
     ≡ written_after (diagnosis_of config limits) (unmarked (past_of limits.line input)) ++ folded_of (method_for asked.query) id limits (output_after program past)
 
--- So it is of what a replay wrote of the input to where nothing had been written. Which ids are live doesn't depend on marks.
+-- The same for what a replay wrote of the input to an empty sink. Which ids are live does not depend on marks.
 abbrev pub ReplayAgreesWithDiagnosis : Config → Limits → Pat → Type 0
 ReplayAgreesWithDiagnosis config limits pat = 1 ≤ limits.frame_addrs → IsLawfulConfig config → limits.message < 2 ^ 32 → limits.input < 2 ^ 64 → let program = replay_of config limits pat in
     (known : PatternsNow) (input output : List ℕ) (refused : Bool) → let rows = past_of limits.line input in

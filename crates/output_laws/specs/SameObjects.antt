@@ -1,4 +1,4 @@
--- Which programs come to the same objects, and what is then written.
+-- Which programs hold the same objects, and what is then written.
 use Rattle.std.specs.Prelude.{◌≡◌, ◌≤◌, ◌<◌, ◌^◌, ◌++◌, length, ℕ, List, Bool, Option, Some, None, Result, Ok, Err, if◌then◌else◌}
 use Rattle.line_run.specs.Rows.{Row, past_of}
 use Rattle.view_rules.specs.Views.{view_of}
@@ -20,7 +20,7 @@ use Rattle.output_fold.specs.Folded.{folded_of, view_lines}
 use Rattle.output_laws.specs.Agreement.{LinesAreWithin, method_for}
 use Rattle.route_match.specs.Asking.{PatternFacts}
 
--- the event of a line, where it has its place
+-- the event of a line, if the line has a place
 abbrev pub event_in : (Line → Bool) → Result Line LineFault → Option Event
 event_in has_place (Ok (lines.Event event)) = if has_place (lines.Event event) then Some event else None
 event_in has_place (Ok (lines.Subscribe id query)) = None
@@ -34,22 +34,22 @@ event_in has_place (Err fault) = None
 abbrev pub event_of : Program → Row → Option Event
 event_of program row = event_in program.has_place (row_says program.reads row)
 
--- Two programs take the same events of the same rows, hold as many objects, and show them alike.
+-- Two programs apply the same events of the same rows, under the same limit on objects, and show the same views.
 pub record TakeSameEvents (one other : Program) : Type 0 where
   pub events : (row : Row) → event_of one row ≡ event_of other row
   pub limits : one.limits ≡ other.limits
   pub config : one.config ≡ other.config
 
--- Such programs come to the same objects.
+-- Such programs hold the same objects.
 abbrev pub SameEventsSameObjects : Program → Program → Type 0
 SameEventsSameObjects one other = TakeSameEvents one other → (past other_past : List MarkedRow) → rows_in past ≡ rows_in other_past → (after one past).objects ≡ (after other other_past).objects
 
--- What a program that sends nothing writes of rows to who asks it a query: what it writes of the rows, and then the view.
+-- What a program that sends nothing writes for rows and a query: its output for the rows, and then the view.
 abbrev pub shown_of : Program → ℕ → Query → List MarkedRow → List ℕ
 shown_of program id query past = written_after program past ++ view_lines id program.limits (Some (view_of program.config (after program past).objects query))
 
--- A fold of the one's output writes the view lines that the other does: the messages of the view, or how long the first is that is
--- too long.
+-- A fold of the output of the one writes the view lines that the other writes: the messages of the view, or the length of the first
+-- message that is too long.
 abbrev pub FoldAgreesWith : Program → Program → Type 0
 FoldAgreesWith program other = TakeSameEvents program other → 1 ≤ program.limits.frame_addrs → IsLawfulConfig program.config → HasLimit program
     → (facts : PatternFacts) (input : List ℕ) (past : List MarkedRow) → length input < 2 ^ 64 → rows_in past ≡ past_of program.limits.line input

@@ -16,7 +16,7 @@ use history_laws::laws::{
     messages_are_sendable, messages_read_back, replays_read_lawfully,
 };
 
-/// What a fold of a replay's output writes are the lines of the view over the objects held at the end.
+/// States that a fold of a replay's output writes the lines of the view over the objects held at the end.
 pub fn frames_and_objects_agree()
     ensures { (config : Config) (limits : Limits) (pat : Pat)
         → FoldAgrees (replay_of config limits pat) }
@@ -29,12 +29,12 @@ pub fn frames_and_objects_agree()
     replays_read_lawfully();
 }
 
-/// Programs that take the same events of the same rows come to the same objects.
+/// States that programs that apply the same events of the same rows hold the same objects.
 pub fn same_events_same_objects()
     ensures { (one other : Program) → SameEventsSameObjects one other }
 {}
 
-/// So a fold of a replay's output agrees with what a program shows that takes the events of the same input.
+/// States that a fold of a replay's output agrees with the view shown by a program that applies the events of the same input.
 pub fn a_fold_agrees_with_what_is_shown()
     ensures { (config : Config) (limits : Limits) (pat : Pat) (other : Program)
         → FoldAgreesWith (replay_of config limits pat) other }
@@ -42,14 +42,14 @@ pub fn a_fold_agrees_with_what_is_shown()
     frames_and_objects_agree();
 }
 
-/// The configuration that words give is lawful, as `messages_are_sendable` asks for.
+/// States that the configuration of a command line is lawful, as `messages_are_sendable` requires.
 #[tactic(auto, using(crate::proofs::Configurations::words_are_lawful))]
 pub fn words_give_lawful_configurations()
     ensures { (words : List (List ℕ)) (command : Command) → command_in words ≡ Some command
         → ConfigIs IsLawfulConfig command }
 {}
 
-/// A fold of a replay's output writes what a diagnosis of its input writes behind its refused lines.
+/// States that a fold of a replay's output writes what a diagnosis of its input writes after its refused lines.
 pub fn frames_and_a_diagnosis_agree()
     ensures { (config : Config) (limits : Limits) (pat : Pat)
         → FoldAgreesWithDiagnosis config limits pat }
@@ -57,7 +57,7 @@ pub fn frames_and_a_diagnosis_agree()
     frames_and_objects_agree();
 }
 
-/// So it is of what a replay wrote.
+/// States the same for what a replay has written.
 pub fn a_replay_and_a_diagnosis_agree()
     ensures { (config : Config) (limits : Limits) (pat : Pat)
         → ReplayAgreesWithDiagnosis config limits pat }

@@ -1,6 +1,6 @@
 ghost use Rattle.pending_rows.specs.Laws.{NotingKeeps};
 
-/// Noting the addresses at which rows have changed keeps the endpoints as they were last told.
+/// States that noting the addresses at which rows have changed keeps the endpoints that were last shown.
 pub fn noting_keeps()
     ensures { NotingKeeps }
 {}

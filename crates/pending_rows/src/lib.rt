@@ -1,7 +1,7 @@
-//! What a subscriber of endpoints was last told, kept by what has changed since.
+//! What a subscriber of endpoints was last shown, kept as the changes since then.
 //!
-//! Stands on view_types, view_rules and view_diff. `specs/Pending` says which addresses are noted and
-//! what the endpoints were as they were last told, and `specs/Laws` that noting a change keeps them.
+//! Depends on view_types, view_rules and view_diff. `specs/Pending` defines which addresses are noted and which endpoints were last shown,
+//! and `specs/Laws` states that noting a change keeps these.
 #![tactic(auto)]
 
 pub mod laws;

@@ -24,7 +24,7 @@ pub fn copied(alloc: Global, before: &[Stood]) -> Result<Vec<Stood>, Memory>
     Ok(copy)
 }
 
-/// Notes each address that isn't noted yet. There is room for all of them.
+/// Notes each address that is not noted yet. There must be room for all of them.
 pub fn note_each(pending: &mut Vec<Stood>, before: Vec<Stood>)
     requires keyed { AreKeyed pending.old.items }
     requires own { AreOwn pending.old.items }
@@ -40,7 +40,7 @@ pub fn note_each(pending: &mut Vec<Stood>, before: Vec<Stood>)
     }
 }
 
-/// Notes an address, unless it is noted already. There is room for it.
+/// Notes an address, unless it is noted already. There must be room for it.
 fn note_one(pending: &mut Vec<Stood>, stood: Stood)
     requires keyed { AreKeyed pending.old.items }
     requires own { AreOwn pending.old.items }
@@ -62,7 +62,7 @@ fn note_one(pending: &mut Vec<Stood>, stood: Stood)
     }
 }
 
-/// Where an address is noted, or where it would be.
+/// Returns the index at which an address is noted, or as an error the index at which it would be inserted.
 fn place(pending: &[Stood], pair: &(Ip, u16)) -> Result<usize, usize>
     requires { AreKeyed pending.now }
     ensures hit { IfOk result (IsHit (λ s. pair_cmp (address s) pair.now) pending.now) }

@@ -14,19 +14,19 @@ use view_diff::since::batch_since;
 use view_types::endpoint::{EndpointRow, EndpointView};
 use view_types::message::Message;
 
-/// What a subscriber was last told, by what it is now.
+/// What a subscriber was last shown, relative to the current endpoints.
 #[derive(Drop)]
 pub struct PendingRows {
-    /// Whether the Service was there.
+    /// Whether the Service existed.
     pub(crate) exists: bool,
-    /// The addresses that may have changed since, in order, each with the row that was told.
+    /// The addresses that may have changed since, in order, each with the row that was shown.
     pub(crate) pending: Vec<(Ip, u16, Option<EndpointRow>)>,
     ghost keyed: { AreKeyed pending.items },
     ghost own: { AreOwn pending.items },
 }
 
 impl PendingRows {
-    /// All rows were told as they are now.
+    /// Creates the state in which the current rows were shown.
     pub fn new(alloc: Global, exists: bool) -> PendingRows
         ensures exists { result.exists ≡ exists }
         ensures pending { result.pending.items ≡ [] }
@@ -37,16 +37,15 @@ impl PendingRows {
         }
     }
 
-    /// Whether all rows were told as they are now, and that the Service exists, or doesn't.
+    /// Whether the current rows were shown, and whether the Service exists.
     pub fn is_up_to_date(&self, exists: bool) -> bool
         ensures { result ≡ is_up_to_date exists self.now.exists self.now.pending.items }
     {
         self.exists == exists && self.pending.is_empty()
     }
 
-    /// Notes addresses whose rows have changed, each with the row that stood there before. The rows
-    /// are copied. An address that is noted already keeps its row. Where memory runs out none is
-    /// noted.
+    /// Notes addresses whose rows have changed, each with the row that was there before, which is copied. An address that is noted already
+    /// keeps its row. If memory runs out, none is noted.
     pub fn note(
         &mut self,
         alloc: Global,
@@ -64,7 +63,7 @@ impl PendingRows {
         Ok(())
     }
 
-    /// The messages that bring the subscriber from what it was last told to the endpoints now.
+    /// Returns the messages that bring the subscriber from what it was last shown to the current endpoints.
     pub fn messages(
         &self,
         alloc: Global,
@@ -79,7 +78,7 @@ impl PendingRows {
         batch_since(alloc, self.exists, self.pending.as_slice(), now, limits)
     }
 
-    /// These messages, and nothing is pending any more. Where memory runs out nothing is told.
+    /// Returns these messages, and clears the notes. If memory runs out, the notes stay as they were.
     pub fn drain(
         &mut self,
         alloc: Global,

@@ -1,5 +1,3 @@
-ghost use Rattle.std.specs.Prelude.{◌≤◌};
-
 use crate::rows::SMALL;
 use crate::views::{stood, view};
 use crate::words::Word::{Adds, Gone, Removes, Row};

@@ -1,5 +1,3 @@
-ghost use Rattle.std.specs.Prelude.{◌≤◌};
-
 use crate::views::{stood, view};
 use crate::words::Word::{Adds, Gone, NoEndpoints, Removes, Row};
 use crate::words::{Word, words_of};

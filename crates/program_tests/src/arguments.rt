@@ -44,7 +44,7 @@ impl<'a> Env for OneWord<'a> {
     }
 }
 
-// The word of arguments, or why it can't be had.
+// Returns the argument, or why it cannot be read.
 fn word_of(alloc: Global, word: &[u8]) -> Result<Result<String, Status>, Fail> {
     let words = match words_of(&(OneWord { word }, alloc)) {
         Ok(words) => words,
@@ -58,7 +58,7 @@ fn word_of(alloc: Global, word: &[u8]) -> Result<Result<String, Status>, Fail> {
     Ok(Ok(text))
 }
 
-// The words are all arguments but the name. One that isn't UTF-8 is no command.
+// The words are all arguments except the program's name. A word that is not UTF-8 makes the command line invalid.
 #[test]
 fn words_of_arguments(rt: HostRuntime) -> Result<(), Fail> {
     let alloc = rt.alloc();

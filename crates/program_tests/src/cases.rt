@@ -1,4 +1,4 @@
-//! Tables in one string: lines and frames by name, and cases that say what lines come to.
+//! Tables in one string: named lines and frames, and cases with their expected output.
 ghost use Rattle.std.specs.Prelude.{◌≤◌, IfOk};
 
 use crate::lines::named;
@@ -8,7 +8,7 @@ use mesh_base::limits::Limits;
 use std::alloc::Global;
 use std::test::Fail;
 
-// The line of a name: in this table, or among the lines that all tests share.
+// Returns the line with a name, from this table or from the lines that all tests share.
 fn line_of(names: &'static str, word: &str) -> Option<&'static str> {
     for row in names.lines() {
         if let Some((name, line)) = row.split_once(": ") {
@@ -20,7 +20,7 @@ fn line_of(names: &'static str, word: &str) -> Option<&'static str> {
     named(word)
 }
 
-// The lines of these names.
+// Returns the lines with these names.
 fn input_of(alloc: Global, names: &'static str, words: &str) -> Result<String, Fail> {
     let mut text = String::new(alloc);
     for word in words.split(' ') {
@@ -32,7 +32,7 @@ fn input_of(alloc: Global, names: &'static str, words: &str) -> Result<String, F
     Ok(text)
 }
 
-// What is written: the lines of names, and lines that stand for themselves.
+// Returns the expected output: named lines, and literal lines.
 fn output_of(alloc: Global, names: &'static str, outputs: &str) -> Result<String, Fail> {
     let mut text = String::new(alloc);
     if outputs == "nothing_written" {
@@ -45,7 +45,7 @@ fn output_of(alloc: Global, names: &'static str, outputs: &str) -> Result<String
     Ok(text)
 }
 
-// How a run ends that writes this.
+// Returns the status of a run with this output.
 pub fn status_of(output: &str) -> Status {
     for line in output.lines() {
         if line.starts_with("refused ") {
@@ -55,14 +55,14 @@ pub fn status_of(output: &str) -> Status {
     Status::Done
 }
 
-// Whether a case holds for a replay: `what it is about: names of lines => what is written`.
+// Whether a replay passes a case: `description: names of lines => output`.
 pub fn holds(alloc: Global, limits: &Limits, names: &'static str, row: &str) -> Result<bool, Fail>
     requires { 1 ≤ limits.now.frame_addrs }
 {
     holds_by(alloc, limits, names, "replay", row)
 }
 
-// Whether a case holds for a command.
+// Whether a command passes a case.
 pub fn holds_by(
     alloc: Global,
     limits: &Limits,
@@ -96,7 +96,7 @@ fn set_limit(limits: &mut Limits, name: &str, number: u32) -> Result<(), Fail> {
     Ok(())
 }
 
-// The usual limits but these: `name=number name=number`.
+// Returns the default limits with these changes: `name=number name=number`.
 fn limits_of(words: &str) -> Result<Limits, Fail>
     ensures { IfOk result (λ limits. 1 ≤ limits.frame_addrs) }
 {
@@ -113,7 +113,7 @@ fn limits_of(words: &str) -> Result<Limits, Fail>
     Ok(limits)
 }
 
-// The limits of a row, and its case.
+// Returns the limits of a row, and its case.
 pub fn limited(row: &str) -> Result<(Limits, &str), Fail>
     ensures { IfOk result (λ found. 1 ≤ found.0.frame_addrs) }
 {
@@ -123,7 +123,7 @@ pub fn limited(row: &str) -> Result<(Limits, &str), Fail>
     Ok((limits_of(limits)?, case))
 }
 
-// Whether a case holds under the limits that stand before it: `limits | case`.
+// Whether a case passes under the limits before it: `limits | case`.
 pub fn holds_within(alloc: Global, names: &'static str, row: &str) -> Result<bool, Fail> {
     let (limits, case) = limited(row)?;
     holds(alloc, &limits, names, case)

@@ -35,7 +35,7 @@ view_of_one: view 1 00000000130a110a0f0a0a0a050d0302010a10903f18904e
 view_of_no_service: view 1 00000000021a00
 "#;
 
-// The words of a command, a case, the names of its lines, and what is written.
+// The words of a command, a case, the names of its lines, and the output.
 const COMMANDS: &str =
     "sample 0 | the input isn't read: service slice get => sample 0 lines 0 refused 0 frames 0 bytes 0 verdicts 0
 sample 1 | lines of the input aren't refused: broken => sample 1 lines 9 refused 0 frames 3 bytes 156 verdicts 1
@@ -80,7 +80,7 @@ fn commands(rt: HostRuntime) -> Result<(), Fail> {
     Ok(())
 }
 
-// Words that are no command, for each of the commands. The first line has no word.
+// Invalid command lines of each command. The first line has no word.
 const NO_COMMANDS: &str = "
 replya
 Replay
@@ -110,8 +110,8 @@ serve --bind localhost:8086
 serve --bind 127.0.0.1:8086 --id 1
 serve --default-policy deny";
 
-// What words come to over these limits: the status, how many reads there were, how many writes, and how many bytes were
-// written. The reads and the writes of these numbers fail.
+// Returns the result of words under these limits: the status, the number of reads, the number of writes, and the number of bytes written.
+// The reads and the writes with these numbers fail.
 fn calls_of(
     alloc: Global,
     words: &str,
@@ -136,7 +136,7 @@ fn nothing_is_read_for_other_words(rt: HostRuntime) -> Result<(), Fail> {
     Ok(())
 }
 
-// The words of a server give its configuration. Nothing is read or written, so the reads and writes that would fail don't matter.
+// The words of a server give its configuration. Nothing is read or written, so the reads and writes that would fail do not matter.
 #[test]
 fn a_server_is_configured(rt: HostRuntime) -> Result<(), Fail> {
     let alloc = rt.alloc();

@@ -6,7 +6,7 @@ use mesh_base::limits::Limits;
 use std::alloc::Global;
 use std::test::Fail;
 
-// Lines, and frames that are written, each after its name. One text is proved in less time than a table of texts.
+// Lines, and frames that are written, each after its name. One string is proved in less time than a table of strings.
 const NAMED: &str = r#"broken: {"type":"ADDED"
 drain: {"control":"drain","id":1}
 drain_2: {"control":"drain","id":2}
@@ -79,7 +79,7 @@ opaque_at_3306: frame 1 00000000830a80010a7e0a0a0a050d0302010a10ea1918904e220c0a
 meshed_at_3306: frame 1 00000000860a83010a80010a0a0a050d0302010a10ea1918904e220c0a03706f6412057765622d3122190a0e736572766963656163636f756e74120764656661756c742a3d0a3b0a3964656661756c742e6170702e736572766963656163636f756e742e6964656e746974792e6c696e6b6572642e636c75737465722e6c6f63616c32070a00120308af20
 "#;
 
-// A case, the names of its lines, and what is written: names, and lines that stand for themselves.
+// A case, the names of its lines, and the output: names, and literal lines.
 const DRAINED: &str = "a drain right after a drain: service slice get drain drain drain => one
 an endpoint that goes: service slice_of_both get drain slice_of_second drain => both, first_gone
 an endpoint that goes before the first drain: service slice_of_both get slice_of_second drain => second
@@ -185,7 +185,7 @@ fn drains_within_limits(rt: HostRuntime) -> Result<(), Fail> {
     Ok(())
 }
 
-// A slice of so many endpoints, the first of which is 10.<net>.0.0, as a line.
+// Appends the line of a slice with this number of endpoints, the first of which is 10.<net>.0.0.
 fn push_slice(text: &mut String, net: u32, count: u32) -> Result<(), Fail> {
     text.push_str(
         r#"{"type":"ADDED","object":{"apiVersion":"discovery.k8s.io/v1","kind":"EndpointSlice","metadata":{"name":"web-a","namespace":"app","labels":{"kubernetes.io/service-name":"web"}},"addressType":"IPv4","endpoints":["#,
@@ -202,12 +202,12 @@ fn push_slice(text: &mut String, net: u32, count: u32) -> Result<(), Fail> {
     Ok(())
 }
 
-// What goes round each address of a message that adds, and of one that removes.
+// The bytes around each address of a message that adds, and of one that removes.
 const ADDED: (&str, &str) = ("0a0f", "18904e");
 
 const REMOVED: (&str, &str) = ("", "");
 
-// A frame of the endpoints from one place to before another: its length and the message's head, and the addresses.
+// Appends a frame of a range of endpoints: its length and the head of the message, and the addresses.
 fn push_frame(
     text: &mut String,
     head: &str,
@@ -229,7 +229,7 @@ fn push_frame(
     Ok(())
 }
 
-// 2,500 endpoints, and 1,200 others in place of them, with a drain after each, and one more.
+// 2,500 endpoints, then 1,200 others in place of them, with a drain after each, and one more drain.
 fn many_lines(alloc: Global) -> Result<String, Fail> {
     let drain = "{\"control\":\"drain\",\"id\":1}\n";
     let mut text = format!(in alloc; "{SERVICE}\n{GET}\n")?;
@@ -241,8 +241,8 @@ fn many_lines(alloc: Global) -> Result<String, Fail> {
     Ok(text)
 }
 
-// Of each frame its length and the message's head, whether it adds, and the endpoints from where to where. The new ones come
-// first, 1,000 in a message, then the old ones go.
+// For each frame its length and the head of the message, whether it adds, and the range of endpoints. The new endpoints are first, 1,000 in
+// a message, and then the old ones are removed.
 const FRAMES: [(&str, bool, u32, u32, u32); 8] = [
     ("0000426c0ae88401", true, 0, 0, 1000),
     ("0000426c0ae88401", true, 0, 1000, 2000),

@@ -7,8 +7,7 @@ use mesh_base::limits::Limits;
 use std::alloc::Global;
 use std::test::Fail;
 
-// A method, a case, the lines that are read, and those that are written. One text is proved in less time than a table of
-// texts.
+// A method, a case, the lines that are read, and those that are written. One string is proved in less time than a table of strings.
 const FOLDED: &str =
     "Get, two endpoints, one of which goes: frame 1 00000000240a220a0f0a0a0a050d0302010a10903f18904e0a0f0a0a0a050d0402010a10903f18904e|frame 1 000000000e120c0a0a0a050d0302010a10903f => view 1 00000000130a110a0f0a0a0a050d0402010a10903f18904e
 Get, the greater address first: frame 1 00000000130a110a0f0a0a0a050d0402010a10903f18904e|frame 1 00000000130a110a0f0a0a0a050d0302010a10903f18904e => view 1 00000000240a220a0f0a0a0a050d0302010a10903f18904e0a0f0a0a0a050d0402010a10903f18904e
@@ -74,7 +73,7 @@ WatchPort2, two members of the choice: frame 1 0000000018120c0a0a080212027061220
 WatchPort2, no member of the choice: frame 1 0000000000 => refused 1 NoChoice
 WatchPort2, a whole view of another version: frame 1 000000000408011005 => refused 1 WrongWire 1";
 
-// Lines, and why each is refused.
+// Lines, and the fault for which each is refused.
 const REFUSED: &str = " => NotLine
   => NotLine
 \r => NotLine
@@ -157,7 +156,7 @@ message=9 | WatchPort, a view of the greatest length: frame 1 000000000908011005
 message=8 | WatchPort, a view that is longer by a byte: frame 1 000000000408011001|frame 1 0000000009080110051a03776562 => oversize 1 9
 message=2 | Watch, a longer message before the last one: frame 1 0000000010120e0a03617070120377656218502001|frame 1 00000000020a00 => view 1 00000000020a00";
 
-// The parts of a line as lines of their own.
+// Splits a line into lines of their own.
 fn as_lines(alloc: Global, parts: &str) -> Result<String, Fail> {
     let mut text = String::new(alloc);
     if parts == "nothing" {
@@ -170,7 +169,7 @@ fn as_lines(alloc: Global, parts: &str) -> Result<String, Fail> {
     Ok(text)
 }
 
-// Whether a case comes to what it says.
+// Whether a case has its expected output.
 fn is_right(alloc: Global, limits: &Limits, row: &str) -> Result<bool, Fail>
     requires { 1 ≤ limits.now.frame_addrs }
 {
@@ -200,7 +199,7 @@ fn folded_frames(rt: HostRuntime) -> Result<(), Fail> {
     Ok(())
 }
 
-// Whether a line that stands before a good one is refused so.
+// Whether a line before a valid one is refused with its fault.
 fn is_refused(alloc: Global, row: &str) -> Result<bool, Fail> {
     let Some((line, fault)) = row.split_once(" => ") else {
         return Err(Fail::new("a row has no fault"));
@@ -230,7 +229,7 @@ fn small_limits_of_folds(rt: HostRuntime) -> Result<(), Fail> {
     Ok(())
 }
 
-// The words of a fold, and what is written of three frames; `usage` where they are no command.
+// The words of a fold, and its output for three frames; `usage` if the command line is invalid.
 const WORDS: &str = "fold --id 1 --method Get => view 1 00000000021a00
 fold --id 0000000001 --method Get => view 1 00000000021a00
 fold --id 0 --method Get => view 0 00000000041a020801
@@ -256,11 +255,11 @@ fold -id 1 --method Get => usage
 fold --id 1 --path Get => usage
 replay --id 1 --method Get => usage";
 
-// Three frames, of three ids.
+// Three frames with three ids.
 const FRAMES: &str =
     "frame 0 00000000041a020801\nframe 1 00000000021a00\nframe 4294967295 00000000041a020801";
 
-// Whether words come to what their row says.
+// Whether words have the output of their row.
 fn words_hold(alloc: Global, row: &str) -> Result<bool, Fail> {
     let Some((words, output)) = row.split_once(" => ") else {
         return Err(Fail::new("a row has no output"));

@@ -2,8 +2,8 @@ use crate::cases::{holds, holds_within};
 use mesh_base::limits::Limits;
 use std::test::Fail;
 
-// Lines, and frames that are written, each after its name. Google's protoc reads each frame, and writes the same bytes of
-// what it read: echo "frame 1 HEX" | tools/decode 1=WatchPort
+// Lines, and frames that are written, each after its name. Google's protoc reads each frame, and writes the same bytes again:
+// echo "frame 1 HEX" | tools/decode 1=WatchPort
 const NAMED: &str =
     r#"server: {"type":"ADDED","object":{"apiVersion":"policy.linkerd.io/v1beta3","kind":"Server","metadata":{"name":"web","namespace":"app"},"spec":{"podSelector":{"matchLabels":{"app":"web"}},"port":8080}}}
 watch_port: {"control":"subscribe","id":1,"query":{"method":"WatchPort","workload":"app:web-1","port":8080}}
@@ -216,7 +216,7 @@ a_deny: frame 1 0000000007080110051a0161
 b_open: frame 1 0000000007080110011a0162
 "#;
 
-// The inbound views of ports: a case, the names of its lines, and what is written.
+// The inbound views of ports: a case, the names of its lines, and the output.
 const INBOUND: &str = "a Pod that isn't held: server watch_port => nothing
 a Pod without a Server: pod watch_port => default
 a port that is opaque by default, without a Server: pod watch_25 => opaque_default

@@ -1,4 +1,4 @@
-// The lines and the outputs that the rows of the tests name.
+// The lines and outputs that the rows of the tests name.
 
 pub const SERVICE: &str =
     r#"{"type":"ADDED","object":{"apiVersion":"v1","kind":"Service","metadata":{"name":"web","namespace":"app"},"spec":{"clusterIP":"10.96.0.10","ports":[{"name":"http","port":80}]}}}"#;
@@ -94,7 +94,7 @@ const NAMED: &[(&str, &str)] = &[
     ("no_endpoints", NO_ENDPOINTS),
 ];
 
-/// The text of this name, if there is one.
+/// Returns the string with this name, if there is one.
 pub fn named(word: &str) -> Option<&'static str> {
     for (name, text) in NAMED {
         if *name == word {

@@ -59,7 +59,7 @@ frame_of_both: frame 1 00000000240a220a0f0a0a0a050d0302010a10903f18904e0a0f0a0a0
 frame_of_removal: frame 1 000000000e120c0a0a0a050d0302010a10903f
 "#;
 
-// The words of a command, a case, the names of its lines, and what is written: each option where it changes what is written.
+// The words of a command, a case, the names of its lines, and the output. Each option occurs where it changes the output.
 const OPTIONS: &str =
     r#"replay --default-policy=deny | a default policy, with =: pod watch_port => frame 1 000000000408011005
 replay --default-policy audit | a default policy, with a blank: pod of_pod watch_other_port => verdict 2 allowed default audit, frame 1 000000000408011006
@@ -114,13 +114,13 @@ sample 5 --cluster-networks=11.0.0.0/8 | cluster networks, of which nothing is c
 sample 1000 | the greatest cluster: blank => sample 1000 lines 7450 refused 0 frames 2200 bytes 117075 verdicts 250
 fold --method=Get --id 0001 -- | a fold with its words in another order: frame_of_both frame_of_removal => view 1 00000000130a110a0f0a0a0a050d0402010a10903f18904e"#;
 
-// The same under limits that stand before it.
+// The same under the limits before it.
 const LIMITED: &str =
     "objects=2 | diagnose --id 1 --method Get --path web.app.svc.cluster.local:80 | an object too many: service slice pod slice_of_second => refused 3 Full 2, view 1 00000000130a110a0f0a0a0a050d0402010a10903f18904e
 objects=2 | diagnose --id 1 --method Get --path web.app.svc.cluster.local:80 | a list of too many: service slice services_a_and_b => refused 3 Full 2, view 1 00000000130a110a0f0a0a0a050d0302010a10903f18904e
 message=4 | diagnose --id 1 --method Get --path web.app.svc.cluster.local:80 | a message that is too long: service slice half => refused 3 NotJson, oversize 1 19";
 
-// Words that are no command. Two blanks have an empty word between them, and so has the last blank of a line behind it.
+// Invalid command lines. Two blanks have an empty word between them, and so has a blank at the end of a line after it.
 const REFUSED: &str = "replay --default-policy open
 replay --default-policy
 replay --default-policy=
@@ -189,7 +189,7 @@ sample
 diagnose --id  --method Get --path web.app.svc.cluster.local
 replay  --default-policy deny";
 
-// Whether a row holds: `words | case`.
+// Whether a row passes: `words | case`.
 fn row_holds(alloc: Global, limits: &Limits, row: &str) -> Result<bool, Fail>
     requires { 1 ≤ limits.now.frame_addrs }
 {
@@ -222,7 +222,7 @@ fn words_that_are_refused(rt: HostRuntime) -> Result<(), Fail> {
     Ok(())
 }
 
-// Lines of the generated cluster are refused where its domain isn't the configured one, and the status says so.
+// Lines of the generated cluster are refused if its domain is not the configured one, and the status says so.
 #[test]
 fn a_sample_with_refused_lines(rt: HostRuntime) -> Result<(), Fail> {
     let words = "sample 5 --cluster-domain example.org";

@@ -2,8 +2,8 @@ use crate::cases::{holds, holds_within};
 use mesh_base::limits::Limits;
 use std::test::Fail;
 
-// Lines, and frames that are written, each after its name. Google's protoc reads each frame, and writes the same bytes of
-// what it read: echo "frame 1 HEX" | tools/decode 1=Watch
+// Lines, and frames that are written, each after its name. Google's protoc reads each frame, and writes the same bytes again:
+// echo "frame 1 HEX" | tools/decode 1=Watch
 const NAMED: &str =
     r#"pod: {"type":"ADDED","object":{"apiVersion":"v1","kind":"Pod","metadata":{"name":"web-1","namespace":"app","labels":{"app":"web"}},"spec":{"containers":[{"ports":[{"name":"http","containerPort":8080}]}]}}}
 watch_port: {"control":"subscribe","id":1,"query":{"method":"WatchPort","workload":"app:web-1","port":8080}}
@@ -79,7 +79,7 @@ by_nobody: {"control":"subscribe","id":1,"query":{"method":"Watch","path":"10.9.
 straight_to_nobody: frame 1 00000000121a100a0e0a090a050d0909090a105018904e
 "#;
 
-// The outbound views of targets: a case, the names of its lines, and what is written.
+// The outbound views of targets: a case, the names of its lines, and the output.
 const OUTBOUND: &str =
     "what isn't drained comes at the end, by id: pod watch_port by_name_2 server => web, absent_to_2
 a route of a Server and a Service: pod server service route_twice watch_port by_name_2 => web_r1, routed_to_2

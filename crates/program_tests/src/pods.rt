@@ -1,4 +1,4 @@
-/// Feeds with Pods, each after its name, and what is written.
+/// Feeds with Pods, each after its name, and the output.
 pub const PODS: &str = r#"a Pod of the mesh, after its slice was there without it
 {"type":"ADDED","object":{"apiVersion":"v1","kind":"Service","metadata":{"name":"web","namespace":"app"},"spec":{"clusterIP":"10.96.0.10","ports":[{"name":"http","port":80}]}}}
 {"type":"ADDED","object":{"apiVersion":"discovery.k8s.io/v1","kind":"EndpointSlice","metadata":{"name":"web-a","namespace":"app","labels":{"kubernetes.io/service-name":"web"}},"addressType":"IPv4","endpoints":[{"addresses":["10.1.2.3"]}],"ports":[{"name":"http","port":8080}]}}

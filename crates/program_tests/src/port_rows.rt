@@ -2,8 +2,8 @@ use crate::cases::{holds, holds_by, holds_within};
 use mesh_base::limits::Limits;
 use std::test::Fail;
 
-// Lines, and frames that are written, each after its name. Google's protoc reads each frame, and writes the same bytes of
-// what it read: echo "frame 1 HEX" | tools/decode 1=WatchPort2
+// Lines, and frames that are written, each after its name. Google's protoc reads each frame, and writes the same bytes again:
+// echo "frame 1 HEX" | tools/decode 1=WatchPort2
 const NAMED: &str =
     r#"server: {"type":"ADDED","object":{"apiVersion":"policy.linkerd.io/v1beta3","kind":"Server","metadata":{"name":"web","namespace":"app"},"spec":{"podSelector":{"matchLabels":{"app":"web"}},"port":8080}}}
 server_gone: {"type":"DELETED","object":{"apiVersion":"policy.linkerd.io/v1beta3","kind":"Server","metadata":{"name":"web","namespace":"app"}}}
@@ -78,7 +78,7 @@ web: frame 2 0000000009080110051a03776562
 web_pa: frame 2 0000000028080110051a03776562221d0802120270611a090a070a050d000000001a060a040a02120022020a00
 "#;
 
-// What a case is about, its lines, and what is written.
+// A case, its lines, and the output.
 const CASES: &str =
     "an authorization that comes and goes: pod server watch drain pa drain pa_gone drain => whole_web, put_pa, gone_pa
 no change, and no message: pod server watch drain drain pb pb_gone drain => whole_web
@@ -130,14 +130,14 @@ message=33 | a message of the greatest length: pod server watch drain pa drain =
 message=32 | a message that is longer by a byte: pod server watch drain pa drain drain => whole_web, oversize 1 33, refused 7 NoSuchId 1
 ";
 
-// What a case is about, the feed of a diagnosis of the port, and what is written.
+// A case, the feed of a diagnosis of the port, and the output.
 const DIAGNOSED: &str = "\
 the view at the end: pod server pa => view 1 000000002a0a28080110051a03776562221d0802120270611a090a070a050d000000001a060a040a02120022020a00
 no Pod: server pa pod pod_gone => view 1 00000000020a00
 with routes: pod server route pb => view 1 000000003e0a3c080110051a03776562221d0802120270621a090a070a050d000000001a060a040a02120022020a002a120802120272312a0a0a080a06080212022f78
 ";
 
-// What a case is about, lines that were written, and what their fold writes.
+// A case, the output of a replay, and the output of its fold.
 const FOLDED: &str = "\
 a fold of the frames: whole_web put_pa gone_pa => view 1 000000000b0a09080110051a03776562
 a fold up to what was put: whole_web put_pa => view 1 000000002a0a28080110051a03776562221d0802120270611a090a070a050d000000001a060a040a02120022020a00

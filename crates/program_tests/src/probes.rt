@@ -2,8 +2,8 @@ use crate::cases::{holds, holds_by};
 use mesh_base::limits::Limits;
 use std::test::Fail;
 
-// Lines, and frames that are written, each after its name. Google's protoc reads each frame, and writes the same bytes of
-// what it read: echo "frame 1 HEX" | tools/decode 1=WatchPort
+// Lines, and frames that are written, each after its name. Google's protoc reads each frame, and writes the same bytes again:
+// echo "frame 1 HEX" | tools/decode 1=WatchPort
 const NAMED: &str =
     r#"server: {"type":"ADDED","object":{"apiVersion":"policy.linkerd.io/v1beta3","kind":"Server","metadata":{"name":"web","namespace":"app"},"spec":{"podSelector":{"matchLabels":{"app":"web"}},"port":8080}}}
 pod: {"type":"ADDED","object":{"apiVersion":"v1","kind":"Pod","metadata":{"name":"web-1","namespace":"app","labels":{"app":"web"}},"spec":{"containers":[{"ports":[{"name":"http","containerPort":8080}]}]}}}
@@ -75,7 +75,7 @@ live_at_9090: frame 2 000000000b0801100132052f6c697665
 web_r1: frame 1 000000001d080110051a037765622a120802120272312a0a0a080a06080212022f78
 "#;
 
-// What a case is about, its lines, and what is written.
+// A case, its lines, and the output.
 const PROBES: &str =
     "the path of a probe, without its query: pod_live server watch_port drain => web_live
 a GET of the path from the cluster: pod_live server get_live get_query from_172 => verdict 3 allowed probe 0, verdict 4 allowed probe 0, verdict 5 allowed probe 0
@@ -110,13 +110,13 @@ other probes of the same paths change nothing: pod_live server watch_port drain 
 a simulation changes nothing: pod_live server watch_port get_live drain get_live drain => verdict 4 allowed probe 0, web_live, verdict 6 allowed probe 0
 ";
 
-// What a case is about, the feed of a diagnosis of the port, and what is written.
+// A case, the feed of a diagnosis of the port, and the output.
 const DIAGNOSED: &str = "\
 the view at the end: pod_live server get_live => view 1 0000000010080110051a0377656232052f6c697665
 routes in place of paths: pod_live server route => view 1 000000001d080110051a037765622a120802120272312a0a0a080a06080212022f78
 ";
 
-// What a case is about, lines that were written, and what their fold writes.
+// A case, the output of a replay, and the output of its fold.
 const FOLDED: &str = "\
 a fold of the frames: web_live web_r1 web_live_ready => view 1 0000000018080110051a0377656232052f6c69766532062f7265616479
 a fold up to the routes: web_live nothing web_r1 => view 1 000000001d080110051a037765622a120802120272312a0a0a080a06080212022f78

@@ -2,8 +2,8 @@ use crate::cases::{holds, holds_within};
 use mesh_base::limits::Limits;
 use std::test::Fail;
 
-// Lines, and frames that are written, each after its name. Google's protoc reads each frame, and writes the same bytes of
-// what it read: echo "frame 1 HEX" | tools/decode 1=GetProfile
+// Lines, and frames that are written, each after its name. Google's protoc reads each frame, and writes the same bytes again:
+// echo "frame 1 HEX" | tools/decode 1=GetProfile
 const NAMED: &str =
     r#"service_noted: {"type":"ADDED","object":{"apiVersion":"v1","kind":"Service","metadata":{"name":"web","namespace":"app","annotations":{"config.linkerd.io/opaque-ports":"x, 070-090"}},"spec":{"clusterIP":"10.96.0.10","ports":[{"name":"http","port":80}]}}}
 profile_with_all: {"type":"ADDED","object":{"apiVersion":"linkerd.io/v1alpha2","kind":"ServiceProfile","metadata":{"name":"web.app.svc.cluster.local","namespace":"app"},"spec":{"retryBudget":{"retryRatio":0.2},"routes":[{"name":"get","condition":{"method":"GET"},"isRetryable":true,"timeout":"1.5s"}],"dstOverrides":[{"authority":"b.app.svc.cluster.local","weight":"500m"}]}}}
@@ -124,7 +124,7 @@ both_routes: frame 1 000000004f0a190a082a060a04504f53541a0d0a05726f7574651204706
 meshed_to_2: frame 2 00000000833280010a0a0a050d0302010a10903f18904e220c0a03706f6412057765622d3122190a0e736572766963656163636f756e74120764656661756c742a3d0a3b0a3964656661756c742e6170702e736572766963656163636f756e742e6964656e746974792e6c696e6b6572642e636c75737465722e6c6f63616c32070a00120308af20
 "#;
 
-// The profiles of targets: a case, the names of its lines, and what is written.
+// The profiles of targets: a case, the names of its lines, and the output.
 const PROFILES: &str =
     "a route that may be retried, with a timeout, and an override: service profile_with_all by_address => with_all
 an empty profile of the client comes before it: service profile_with_all profile_in_cli_empty by_address_for_cli => plain

@@ -1,4 +1,4 @@
-/// A case, the names of its lines, and the name of what is written.
+/// A case, the names of its lines, and the name of the output.
 pub const ACCEPTED: &str = "a Service, its slice and a subscription: service slice get => one
 an empty line between: service nothing slice get => one
 nothing: nothing => nothing
@@ -26,7 +26,7 @@ members that are null: nulls get => no_service
 a token, which nothing here uses: service slice get_with_token => one
 ";
 
-/// Lines, and why each is refused.
+/// Lines, and the fault for which each is refused.
 pub const REFUSED: &str = r#"{ => NotJson
 {"control":"stop" => NotJson
 nul => NotJson
@@ -134,7 +134,7 @@ one: frame 1 00000000130a110a0f0a0a0a050d0302010a10903f18904e
 no_service: frame 1 00000000021a00
 "#;
 
-/// Limits, a case, the names of its lines, and what is written.
+/// Limits, a case, the names of its lines, and the output.
 pub const LIMITED: &str =
     "objects=2 | an object too many, and one in place of another: service slice service_b service_again => refused 3 Full 2
 objects=2 | a list of too many: service slice services_a_and_b get => refused 3 Full 2, one

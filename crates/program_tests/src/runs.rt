@@ -14,7 +14,7 @@ use std::alloc::Global;
 use std::test::Fail;
 use view_types::config::Config;
 
-// A hub that holds nothing.
+// Creates a hub without objects and subscriptions.
 fn hub_of(alloc: Global) -> Result<Hub, Memory> {
     Hub::new(alloc, Config::usual(alloc)?, Limits::usual())
 }
@@ -37,7 +37,7 @@ pub(crate) fn sink_of(alloc: Global, fails: &[u64]) -> Result<MemSink, Fail> {
     })
 }
 
-// Words that are written with a blank between them; none where nothing is written.
+// Splits words at blanks; an empty line has no words.
 pub(crate) fn words_of(alloc: Global, line: &str) -> Result<Vec<Text>, Fail> {
     let mut words = Vec::new(alloc);
     if line.is_empty() {
@@ -49,7 +49,7 @@ pub(crate) fn words_of(alloc: Global, line: &str) -> Result<Vec<Text>, Fail> {
     Ok(words)
 }
 
-// The status of a command that is no server.
+// Returns the status of a command other than `serve`.
 pub(crate) fn ended(outcome: Outcome) -> Result<Status, Fail> {
     match outcome {
         Outcome::Ended(status) => Ok(status),
@@ -57,7 +57,7 @@ pub(crate) fn ended(outcome: Outcome) -> Result<Status, Fail> {
     }
 }
 
-// What words make of bytes in memory: no read and no write fails, so they are read to their end unless there is no memory.
+// Returns the output of words for bytes in memory. No read and no write fails, so all bytes are read unless memory runs out.
 fn replayed(
     alloc: Global,
     words: &[Text],
@@ -80,7 +80,7 @@ fn replayed(
     ))
 }
 
-// What a command, written as one line, makes of the text of an input.
+// Returns the output of a command, written as one line, for the text of an input.
 pub(crate) fn run_of(
     alloc: Global,
     limits: &Limits,
@@ -98,7 +98,7 @@ pub(crate) fn run_of(
     Ok((status, written))
 }
 
-// Whether the text of an input comes to this.
+// Whether the text of an input has this output.
 pub(crate) fn comes_to(
     alloc: Global,
     text: &str,
@@ -109,7 +109,7 @@ pub(crate) fn comes_to(
     Ok(ended == status && written.as_str() == expected)
 }
 
-// What words come to over a source and a sink.
+// Returns the outcome of words over a source and a sink.
 pub(crate) fn outcome_of(
     alloc: Global,
     words: &str,
@@ -132,7 +132,7 @@ pub(crate) fn outcome_of(
     ))
 }
 
-// How words end over a source and a sink.
+// Returns the status of words over a source and a sink.
 pub(crate) fn tried(
     alloc: Global,
     words: &str,

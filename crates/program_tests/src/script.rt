@@ -1,4 +1,4 @@
-// A machine that answers from a list of replies.
+// A machine that returns replies from a list.
 use crate::lines::{GET, SERVICE, SLICE};
 use crate::runs::{ended, words_of};
 use bytes::Bytes;
@@ -18,7 +18,7 @@ use view_types::verdict::{Decider, Verdict};
 const SIMULATION: &str =
     r#"{"control":"simulate","workload":"app:web-1","port":8080,"client":"10.0.0.5"}"#;
 
-// A machine that does what three lines say, and then sends one frame that no hub sends for them.
+// A machine with the replies for three lines, followed by one frame that no hub sends for them.
 fn script_of(alloc: Global) -> Result<ScriptMachine, Fail> {
     let mut frames = List::new(alloc);
     frames.add(Bytes::copy_from_slice(alloc, &[0, 0, 0, 0, 4, 26, 2, 8, 1])?)?;
@@ -34,7 +34,7 @@ fn script_of(alloc: Global) -> Result<ScriptMachine, Fail> {
     })
 }
 
-// A machine whose one reply is that an audit admits a request.
+// A machine whose only reply is a verdict by the policy `audit`.
 fn admitting(alloc: Global) -> Result<ScriptMachine, Fail> {
     let mut replies = List::new(alloc);
     replies.add(Reply::Verdict(Verdict::Allowed(Decider::Default(Policy::Audit))))?;
@@ -45,7 +45,7 @@ fn admitting(alloc: Global) -> Result<ScriptMachine, Fail> {
     })
 }
 
-// What a machine makes of the text of an input.
+// Returns the output of a machine for the text of an input.
 fn scripted(
     alloc: Global,
     mut script: ScriptMachine,

@@ -157,7 +157,7 @@ const REFUSED: &str = r#"{"control":"simulate"} => BadQuery workload
 {"control":"simulate","workload":"app:web-1","port":8080,"client":"10.0.0.5" => NotJson
 "#;
 
-// Lines that are accepted. Nothing is held, so that none has a workload.
+// Lines that are accepted. No object is held, so their workloads do not exist.
 const ACCEPTED: &str =
     r#"{"control":"simulate","workload":"app:web-1","port":8080,"client":"10.0.0.5"}
 {"control":"simulate","workload":"app:web-1","port":8080,"client":"10.0.0.5","identity":null,"tls":null,"http":null}

@@ -167,7 +167,7 @@ bad_headers: {"control":"simulate","workload":"app:web-1","port":8080,"client":"
 bad_header_text: {"control":"simulate","workload":"app:web-1","port":8080,"client":"10.0.0.5","http":{"headers":[["a",null]]}}
 "#;
 
-// What comes of requests: a case, the names of its lines, and what is written.
+// Verdicts on requests: a case, the names of its lines, and the output.
 const VERDICTS: &str = "no Pod: server ask => verdict 2 no-workload
 a Pod without a Server: pod ask ask_9090 => verdict 2 allowed default all-unauthenticated, verdict 3 allowed default all-unauthenticated
 a Pod without a Server, with a policy of its own: pod_audit ask pod_deny ask pod_open ask => verdict 2 allowed default audit, verdict 4 denied default deny, verdict 6 allowed default all-unauthenticated

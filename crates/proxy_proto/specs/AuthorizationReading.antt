@@ -1,4 +1,4 @@
--- What the records of an authorization's message, Authz, and of those in it say.
+-- The contents of an authorization's message, `Authz`, and of the messages nested in it.
 use Rattle.std.specs.Prelude.{ℕ, suc, List, ◌==◌, if◌then◌else◌}
 use Rattle.net_cidr.specs.Network.{net_round, width}
 use Rattle.net_cidr.specs.declared.block.Block.{Block}
@@ -14,7 +14,7 @@ use Rattle.proxy_proto.specs.EndpointReading.{ip_in}
 use Rattle.proxy_proto.specs.Faults.{number_in}
 use Rattle.proxy_proto.specs.LookUps.{has, below, flag_in, string_in, texts_in, inside, each_message}
 
--- The bits of the address behind those of the network are set to 0.
+-- The bits of the address after the prefix are set to 0.
 abbrev pub net_from : Ip → ℕ → Net
 net_from ip bits = net_round ip (below (suc (width ip)) bits)
 

@@ -1,4 +1,4 @@
--- The records of an authorization's message, Authz, and of those in it.
+-- The records of an authorization's message, `Authz`, and of the messages nested in it.
 use Rattle.std.specs.Prelude.{ℕ, Bool, List, [], ◌∷◌, ◌++◌}
 use Rattle.net_cidr.specs.declared.block.Block.{Block}
 use Rattle.net_cidr.specs.declared.net.Net.{Net}

@@ -1,4 +1,4 @@
--- What the records of an endpoint's message, WeightedAddr, and of those in it say.
+-- The contents of an endpoint's message, `WeightedAddr`, and of the messages nested in it.
 use Rattle.std.specs.Prelude.{ℕ, ◌+◌, ◌*◌, ◌^◌, List, Option, Some}
 use Rattle.std.specs.Cmp.Lexicographic.{slice_cmp}
 use Rattle.std.specs.FinMap.{FinMap, from_entries}

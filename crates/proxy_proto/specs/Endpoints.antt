@@ -1,4 +1,4 @@
--- The records of an endpoint's message, WeightedAddr, and of those in it.
+-- The records of an endpoint's message, `WeightedAddr`, and of the messages nested in it.
 use Rattle.std.specs.Prelude.{ℕ, ◌/◌, ◌%◌, ◌^◌, Bool, true, false, List, [], ◌∷◌, ◌++◌, Option, None}
 use Rattle.std.specs.FinMap.{entries}
 use Rattle.net_cidr.specs.declared.ip.Ip.{Ip}
@@ -38,7 +38,7 @@ h2_field false = []
 unfoldable pub hint_records : Bool → Option ℕ → List Rec
 hint_records h2 tunnel = h2_field h2 ++ optional_field 2 (number_field 1) tunnel
 
--- a hint with neither part is left out
+-- a hint with neither part is omitted
 unfoldable pub hint_field : Bool → Option ℕ → List Rec
 hint_field false None = []
 hint_field h2 tunnel = chunk 6 (spelling (hint_records h2 tunnel)) ∷ []

@@ -1,11 +1,11 @@
--- Fields as the records that they are written as. Numbers 0, false and empty strings are left out. A message is
--- written where it is present.
+-- Fields as the records that they are written as. The number 0, false and the empty string are omitted. A message that is present is
+-- written even if it is empty.
 use Rattle.std.specs.Prelude.{ℕ, Bool, List, [], ◌∷◌, map, Option, Some, None, ◌==◌, if◌then◌else◌}
 use Rattle.proto_wire.specs.declared.record.Rec.{Rec}
 use Rattle.proto_wire.specs.declared.record.WireValue.TheVariants.{Varint, Fixed64, Chunk}
 use Rattle.proto_wire.specs.Wire.{spelling}
 
--- a text, or a message by its spelling
+-- a string, or the encoding of a message
 abbrev pub chunk : ℕ → List ℕ → Rec
 chunk n bytes = record { number = n; value = Chunk bytes }
 
@@ -26,7 +26,7 @@ abbrev pub optional_field : {X : Type 0} → ℕ → (X → List Rec) → Option
 optional_field n f None = []
 optional_field n f (Some x) = chunk n (spelling (f x)) ∷ []
 
--- a string that may be left out; the empty one is left out too
+-- a string that may be absent; the empty string is omitted, too
 abbrev pub optional_text : ℕ → Option (List ℕ) → List Rec
 optional_text n None = []
 optional_text n (Some text) = text_field n text

@@ -1,4 +1,4 @@
--- What a message says to the subscribers of a method, or its first fault.
+-- The contents of a message that answers a method, or its first fault.
 use Rattle.std.specs.Prelude.{List, ℕ, Option, Some, None, Result, Ok, Err, if◌then◌else◌}
 use Rattle.view_types.specs.declared.message.Message.{Message}
 use Rattle.view_types.specs.declared.message.Message.TheVariants.{Add, Remove, NoEndpoints, Profile, Server, Outbound, Whole, AuthzPut, AuthzGone}
@@ -15,7 +15,7 @@ use Rattle.proxy_proto.specs.LookUps.{records_in, has, flag_in, inside, each_mes
 use Rattle.proxy_proto.specs.PolicyReading.{outbound_in, server_in}
 use Rattle.proxy_proto.specs.ProfileReading.{profile_in}
 
--- the message that answers the method
+-- the message type with which a method is answered
 abbrev pub answer_schema : Method → Schema
 answer_schema Get = schema.Update
 answer_schema GetProfile = schema.DestinationProfile
@@ -42,7 +42,7 @@ answer_in WatchPort rs = Server (server_in rs)
 answer_in Watch rs = Outbound (outbound_in rs)
 answer_in WatchPort2 rs = server_update_in rs
 
--- the fault where there is one, else what is read
+-- the fault if there is one, and otherwise what was read
 abbrev pub or_first : {A : Type 0} → Option ProtoFault → Result A ProtoFault → Result A ProtoFault
 or_first None read = read
 or_first (Some fault) read = Err fault

@@ -1,6 +1,6 @@
--- The records that each message is written as: fields by number, items of lists in their order, labels by key.
--- Numbers 0, false and empty strings are left out, but not the members of a choice and the two fields of a label. A
--- message in a field is written where it is present.
+-- The records of each message, in canonical form: fields by number, list items in their order, labels by key. The number 0, false and
+-- the empty string are omitted, except for members of a choice and the two fields of a label. A message in a field is written if it is
+-- present.
 use Rattle.std.specs.Prelude.{ℕ, List, [], ◌∷◌}
 use Rattle.net_cidr.specs.declared.ip.Ip.{Ip}
 use Rattle.view_types.specs.declared.message.Message.{Message}
@@ -30,6 +30,6 @@ message_records (Whole view) = chunk 1 (spelling (server_records view)) ∷ []
 message_records (AuthzPut rows) = chunk 2 (spelling (each_field 1 authz_records rows)) ∷ []
 message_records (AuthzGone keys) = chunk 3 (spelling (each_field 1 authz_key_records keys)) ∷ []
 
--- the one spelling of a message
+-- the canonical encoding of a message
 abbrev pub canonical : Message → List ℕ
 canonical message = spelling (message_records message)

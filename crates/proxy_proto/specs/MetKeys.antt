@@ -1,4 +1,4 @@
--- The keys of a map's entries, as a set beside the records.
+-- The keys of the map entries among some records, as a set.
 use Rattle.std.specs.Prelude.{◌≡◌, ℕ, ◌&&◌, Bool, true, false, List, Option, Some, None, ◌==◌}
 use Rattle.std.specs.Borrow.{Bor}
 use Rattle.std.specs.BTreeSet.{BTreeSet}
@@ -26,6 +26,6 @@ abbrev pub is_map_field : Option Field → Bool
 is_map_field (Some f) = is_map (label_of f)
 is_map_field None = false
 
--- The set has exactly the keys of these records' entries.
+-- The set has exactly the keys of the map entries among these records.
 abbrev pub AreMet : List Field → Keys → List Rec → Type 0
 AreMet fs keys rs = (n : ℕ) (key : List ℕ) → is_map_field (field_at n fs) ≡ true → is_met keys n key ≡ has_key n key rs

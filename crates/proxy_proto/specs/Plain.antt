@@ -1,4 +1,4 @@
--- Messages of endpoints that have an address, a port and a weight alone.
+-- Messages of endpoints that have only an address, a port and a weight.
 use Rattle.std.specs.Prelude.{◌≡◌, ℕ, ◌+◌, false, List, [], None, length}
 use Rattle.std.specs.List.{All}
 use Rattle.std.specs.FinMap.{entries}
@@ -17,7 +17,7 @@ abbrev pub rows_in : Message → List EndpointRow
 rows_in (Add rows) = rows
 rows_in _ = []
 
--- the addresses that a message takes out
+-- the addresses that a message removes
 abbrev pub pairs_in : Message → List (Ip × ℕ)
 pairs_in (Remove pairs) = pairs
 pairs_in _ = []

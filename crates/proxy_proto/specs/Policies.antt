@@ -1,4 +1,4 @@
--- The records of the messages of policies: Server, of a port of a Pod, and OutboundPolicy, of a target.
+-- The records of the messages of policies: `Server`, of a port of a Pod, and `OutboundPolicy`, of a target.
 use Rattle.std.specs.Prelude.{ℕ, Bool, List, [], ◌∷◌, ◌++◌}
 use Rattle.view_types.specs.Numbers.{policy_number, protocol_number}
 use Rattle.view_types.specs.declared.endpoint.EndpointRow.{EndpointRow}
@@ -26,7 +26,7 @@ server_row_records row =
     ++ (each_field 5 http_route_records row.routes
     ++ texts_field 6 row.probes))))
 
--- where nothing holds for the port, the empty message
+-- a port without a policy has the empty message
 abbrev pub server_records : ServerView → List Rec
 server_records server.Absent = []
 server_records (server.Present row) = server_row_records row

@@ -1,4 +1,4 @@
--- What the records of the messages of policies, Server and OutboundPolicy, say.
+-- The contents of the messages of policies, `Server` and `OutboundPolicy`.
 use Rattle.std.specs.Prelude.{ℕ, List, ◌==◌, if◌then◌else◌}
 use Rattle.view_types.specs.declared.outbound.OutboundView.{OutboundView}
 use Rattle.view_types.specs.declared.outbound.OutboundView.TheVariants as outbound
@@ -46,7 +46,7 @@ server_row_in rs = record {
   probes = texts_in 6 rs;
 }
 
--- Protocol 0 is none, whatever else stands.
+-- A message with protocol 0 means that there is no Server, whatever its other fields are.
 unfoldable pub server_in : List Rec → ServerView
 server_in rs = if number_in 1 rs == 0 then server.Absent else server.Present (server_row_in rs)
 

@@ -1,4 +1,4 @@
--- What the records of a profile's message, DestinationProfile, and of those in it say.
+-- The contents of a profile's message, `DestinationProfile`, and of the messages nested in it.
 use Rattle.std.specs.Prelude.{ℕ, zero, suc, ◌+◌, ◌^◌, List, [], ◌∷◌, codes, length, if◌then◌else◌}
 use Rattle.std.specs.Str.{bytes_eq}
 use Rattle.view_types.specs.declared.outbound.ProfileView.{ProfileView}
@@ -13,7 +13,7 @@ use Rattle.proto_wire.specs.declared.record.Rec.{Rec}
 use Rattle.proxy_proto.specs.EndpointReading.{label_in, row_in}
 use Rattle.proxy_proto.specs.LookUps.{records_in, has, nanoseconds_in, below, number_below, flag_in, chunk_in, string_in, inside, each_in, each_message, optional_in}
 
--- ---- matches, where `part` reads a match in it
+-- ---- matches; `part` reads a nested match
 
 abbrev pub request_match_from : (List ℕ → ReqMatch) → List Rec → ReqMatch
 request_match_from part rs =
@@ -23,7 +23,7 @@ request_match_from part rs =
     else (if has 4 rs then request.Path (string_in 1 (inside 4 rs))
     else request.Method (string_in 1 (inside 5 rs)))))
 
--- a match, where matches nest at most this deep
+-- a match in which matches nest at most this deep
 unfoldable pub request_match_in : ℕ → List ℕ → ReqMatch
 request_match_in zero bytes = request.Method []
 request_match_in (suc depth) bytes = request_match_from (request_match_in depth) (records_in bytes)
@@ -51,7 +51,7 @@ response_match_of bytes = response_match_in (length bytes + 1) bytes
 unfoldable pub class_in : List Rec → RespClass
 class_in rs = record { condition = response_match_of (chunk_in 1 rs); failure = flag_in 2 rs }
 
--- seconds and nanoseconds, if they are below 2 ^ 63 nanoseconds
+-- a duration in nanoseconds, or 0 if it is 2 ^ 63 nanoseconds or longer
 unfoldable pub duration_in : List Rec → ℕ
 duration_in rs = below (2 ^ 63) (nanoseconds_in rs)
 
@@ -60,7 +60,7 @@ abbrev pub label_named : List ℕ → List (List ℕ × List ℕ) → List ℕ
 label_named key [] = []
 label_named key (label ∷ labels) = if bytes_eq label.0 key then label.1 else label_named key labels
 
--- The name of a route is the value of the label `route`, and other labels say nothing.
+-- The name of a route is the value of the label `route`. Other labels are ignored.
 unfoldable pub route_in : List Rec → ProfileRoute
 route_in rs = record {
   name = label_named (codes "route") (each_message 3 label_in rs);

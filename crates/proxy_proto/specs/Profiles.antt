@@ -1,4 +1,4 @@
--- The records of a profile's message, DestinationProfile, and of those in it.
+-- The records of a profile's message, `DestinationProfile`, and of the messages nested in it.
 use Rattle.std.specs.Prelude.{ℕ, ◌/◌, ◌%◌, List, [], ◌∷◌, ◌++◌, codes}
 use Rattle.view_types.specs.declared.outbound.ProfileView.{ProfileView}
 use Rattle.view_types.specs.declared.profile.Override.{Override}
@@ -15,11 +15,11 @@ use Rattle.proxy_proto.specs.Endpoints.{label_records, row_records}
 
 -- ---- RequestMatch: a choice
 
--- a list of matches, of which all or any must hold
+-- a list of matches, all or any of which must match
 abbrev pub seq_records : List (List Rec) → List Rec
 seq_records parts = each_field 1 (λ part. part) parts
 
--- a match, where these are the records of the matches in it
+-- a match, given the records of the matches nested in it
 abbrev pub request_match_by : ReqMatch-F (List Rec) → List Rec
 request_match_by (ReqMatch-F.All parts) = chunk 1 (spelling (seq_records parts)) ∷ []
 request_match_by (ReqMatch-F.Any parts) = chunk 2 (spelling (seq_records parts)) ∷ []
@@ -32,7 +32,7 @@ request_match_records = fold-ReqMatch (List Rec) request_match_by
 
 -- ---- ResponseMatch: a choice, and ResponseClass
 
--- StatusRange: the least and the greatest status code
+-- `StatusRange`: the least and the greatest status code
 abbrev pub range_records : ℕ → ℕ → List Rec
 range_records low high = number_field 1 low ++ number_field 2 high
 
@@ -50,11 +50,11 @@ class_records c = chunk 1 (spelling (response_match_records c.condition)) ∷ bo
 
 -- ---- ProfileRoute, with Duration
 
--- whole seconds, and the nanoseconds over
+-- whole seconds, and the remaining nanoseconds
 unfoldable pub duration_records : ℕ → List Rec
 duration_records nanoseconds = number_field 1 (nanoseconds / 1000000000) ++ number_field 2 (nanoseconds % 1000000000)
 
--- the name of a route is the one label of its metrics
+-- the name of a route is the only label of its metrics
 abbrev pub metrics_label : ProfileRoute → List ℕ × List ℕ
 metrics_label route = (codes "route", route.name)
 

@@ -1,4 +1,4 @@
--- What a request asks for, or its first fault.
+-- The query of a request, or the first fault of the request.
 use Rattle.std.specs.Prelude.{List, ℕ, Option, Some, None, Result, Ok, Err, if◌then◌else◌}
 use Rattle.mesh_text.specs.Contexts.{context_of}
 use Rattle.mesh_text.specs.Targets.{target_of}
@@ -26,7 +26,7 @@ use Rattle.proxy_proto.specs.MessageReading.{or_first}
 
 -- ---- Get and GetProfile
 
--- Endpoints are those of a Service.
+-- `Get` needs a target that is a Service port.
 abbrev pub endpoints_query : Option Target → Context → Result Query ProtoFault
 endpoints_query (Some (Service ns name port)) ctx = Ok (Get ns name port ctx)
 endpoints_query _ ctx = Err BadAuthority
@@ -45,14 +45,14 @@ abbrev pub asked_of : (PodPort → Query) → Result PodPort ProtoFault → Resu
 asked_of ask (Ok port) = Ok (ask port)
 asked_of ask (Err fault) = Err fault
 
--- what the message asks of a port of a Pod
+-- the query for a port of a Pod
 abbrev pub port_query : (PodPort → Query) → List Rec → Result Query ProtoFault
 port_query ask rs = asked_of ask (port_of (workload_of (chunk_in 1 rs)) (number_below 65536 2 rs))
 
 abbrev pub address_target : Ip × ℕ → Target
 address_target pair = Address pair.0 pair.1
 
--- an address, or what the authority leads to
+-- an address, or the target of the authority
 unfoldable pub traffic_target : Config → List Rec → Option Target
 traffic_target config rs = if has 2 rs then Some (address_target (pair_in (inside 2 rs))) else target_of config (chunk_in 3 rs)
 
@@ -62,7 +62,7 @@ traffic_query None = Err BadAuthority
 
 -- ---- a request to any method
 
--- the message that asks for the method
+-- the message type of a request to a method
 abbrev pub request_schema : Method → Schema
 request_schema method.Get = GetDestination
 request_schema method.GetProfile = GetDestination
@@ -70,7 +70,7 @@ request_schema method.WatchPort = PortSpec
 request_schema method.Watch = TrafficSpec
 request_schema method.WatchPort2 = PortSpec
 
--- of Get and GetProfile, the path leads to the target, and the token tells the client's context
+-- for Get and GetProfile, the path gives the target, and the token the client's context
 abbrev pub query_in : Config → Method → List Rec → Result Query ProtoFault
 query_in config method.Get rs = endpoints_query (target_of config (chunk_in 2 rs)) (context_of (chunk_in 3 rs))
 query_in config method.GetProfile rs = profile_query (target_of config (chunk_in 2 rs)) (context_of (chunk_in 3 rs))

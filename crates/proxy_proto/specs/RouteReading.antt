@@ -1,4 +1,4 @@
--- What the records of a route's message, HttpRoute, and of those in it say.
+-- The contents of a route's message, `HttpRoute`, and of the messages nested in it.
 use Rattle.std.specs.Prelude.{ℕ, List, ◌==◌, if◌then◌else◌}
 use Rattle.mesh_base.specs.declared.key.Kind.{Kind}
 use Rattle.mesh_base.specs.declared.key.Kind.TheVariants.{LinkerdRoute, GatewayRoute}

@@ -1,4 +1,4 @@
--- The records of a route's message, HttpRoute, and of those in it.
+-- The records of a route's message, `HttpRoute`, and of the messages nested in it.
 use Rattle.std.specs.Prelude.{ℕ, List, [], ◌∷◌, ◌++◌, Option}
 use Rattle.mesh_base.specs.declared.key.Kind.{Kind}
 use Rattle.mesh_base.specs.declared.key.Kind.TheVariants.{LinkerdRoute, GatewayRoute}
@@ -81,7 +81,7 @@ rule_records rule =
 
 -- ---- HttpRoute
 
--- no other kind is one of routes
+-- the number of a kind of routes; 0 for any other kind
 abbrev pub route_number : Kind → ℕ
 route_number LinkerdRoute = 1
 route_number GatewayRoute = 2

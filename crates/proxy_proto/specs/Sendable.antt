@@ -1,6 +1,6 @@
--- Which messages can be sent, and read again: numbers are of their types, strings are in UTF-8, nothing that may be
--- left out is the empty string or the port 0, networks have no bits of hosts, a time is below 2 ^ 63 nanoseconds, and
--- lengths fit 64 bits. What is inbound has no backends and timeouts, and what is outbound no authorizations.
+-- Messages that can be sent and read back: numbers fit their types, strings are UTF-8, an optional string is not empty and an optional
+-- port not 0, networks have no host bits, durations are below 2 ^ 63 nanoseconds, and lengths fit 64 bits. Inbound routes have no
+-- backends and timeouts, and outbound routes no authorizations.
 use Rattle.std.specs.Prelude.{ℕ, ◌<◌, ◌≡◌, ◌≢◌, ◌^◌, List, [], Option, Some, None, IsUtf8, length}
 use Rattle.std.specs.List.{AllByRecursion}
 use Rattle.std.specs.FinMap.{entries}
@@ -168,7 +168,7 @@ pub record IsSendable (message : Message) : Type 0 where
   pub parts : AreSendableParts message
   pub short : length (canonical message) < 2 ^ 64
 
--- the method that a message answers
+-- the method that is answered with the message
 abbrev pub method_of : Message → Method
 method_of (Profile view) = GetProfile
 method_of (Server view) = WatchPort

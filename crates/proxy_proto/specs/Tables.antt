@@ -1,4 +1,4 @@
--- The fields of each message: a field's number, how often it may come, and what it holds.
+-- The fields of each message type: the number of a field, how often it may occur, and its type.
 use Rattle.std.specs.Prelude.{ℕ, List, [], ◌∷◌}
 use Rattle.proxy_proto.specs.declared.table.Schema.{Schema}
 use Rattle.proxy_proto.specs.declared.table.Schema.TheVariants as schema
@@ -36,7 +36,7 @@ uint32 = Number 4294967295
 abbrev pub uint16 : FieldKind
 uint16 = Number 65535
 
--- a place in an enum, from 1; 0 says nothing
+-- an enum from 1; 0 means none
 abbrev pub protocol : FieldKind
 protocol = Number 6
 
@@ -112,7 +112,7 @@ fields_of schema.StatusRange = field 1 Single uint16 ∷ field 2 Single uint16 �
 fields_of schema.WeightedDst = field 1 Single Text ∷ field 2 Single uint32 ∷ []
 fields_of schema.Duration = field 1 Single uint64 ∷ field 2 Single nanoseconds ∷ []
 fields_of schema.IpNetwork = field 1 Required (Message schema.IpAddress) ∷ field 2 Single uint32 ∷ []
--- of a port that has a policy: the protocol, the policy, the name of the Server, who may come in, routes, and the paths of probes
+-- of a port that has a policy: the protocol, the policy, the Server's name, its authorizations, its routes, and the paths of probes
 fields_of schema.Server =
     field 1 Single protocol
     ∷ field 2 Single policy
@@ -177,13 +177,13 @@ fields_of schema.Backend =
     ∷ field 4 Single uint32
     ∷ field 5 Single bool
     ∷ []
--- what asks for a Service or an address: a scheme, which is passed over, a path and a context token
+-- a request for a Service or an address: a scheme, which is ignored, a path and a context token
 fields_of schema.GetDestination = field 1 Single Text ∷ field 2 Single Text ∷ field 3 Single Text ∷ []
--- what asks for a port of a Pod: its workload, `namespace:pod`, and the port
+-- a request for a port of a Pod: its workload, `namespace:pod`, and the port
 fields_of schema.PortSpec = field 1 Single Text ∷ field 2 Single uint16 ∷ []
--- what asks where traffic goes: a workload, which is passed over, and an address or a target
+-- a request for an outbound policy: a workload, which is ignored, and an address or an authority
 fields_of schema.TrafficSpec = field 1 Single Text ∷ field 2 Choice (Message schema.TcpAddress) ∷ field 3 Choice Text ∷ []
--- of a port whose subscriber is told what changes: the whole, authorizations that are new or have changed, or keys of those gone
+-- an update of a port's policy: the whole policy, authorizations that are new or have changed, or the keys of those removed
 fields_of schema.ServerUpdate = field 1 Choice (Message schema.Server) ∷ field 2 Choice (Message schema.AuthzSet) ∷ field 3 Choice (Message schema.AuthzKeys) ∷ []
 fields_of schema.AuthzSet = field 1 Repeated (Message schema.Authz) ∷ []
 fields_of schema.AuthzKeys = field 1 Repeated (Message schema.AuthzKey) ∷ []

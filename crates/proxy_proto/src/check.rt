@@ -1,5 +1,5 @@
-//! Finding the first fault of a message.
-ghost use Rattle.std.specs.Prelude.{◌≡◌, ◌++◌, [], ◌∷◌, map, not, OnOk, Some, Ok, Option, Result};
+//! The first fault of a message.
+ghost use Rattle.std.specs.Prelude.{◌≡◌, ◌++◌, [], ◌∷◌, map, OnOk, Some, Ok, Option, Result};
 ghost use Rattle.proto_wire.specs.Given.{view_record, view_value, view_scan};
 ghost use Rattle.proxy_proto.specs.Faults.{fault_at, record_fault, value_fault, end_fault};
 ghost use Rattle.proxy_proto.specs.Given.{Checks};
@@ -16,7 +16,7 @@ use proto_wire::scan::{RecRef, Scanned, ValueRef, scan};
 use std::alloc::Global;
 use std::collections::BTreeSet;
 
-/// The first fault of a message, where messages nest at most this deep.
+/// Returns the first fault of a message in which messages nest at most this deep.
 #[cycle(check)]
 pub fn check(alloc: Global, depth: usize, schema: Schema, bytes: &[u8]) -> Result<(), ProtoFault>
     ensures { Checks result (fault_at depth schema bytes.now) }
@@ -76,7 +76,7 @@ fn check_value(
     }
 }
 
-/// The message that a value is, or its own fault.
+/// Returns the message that a value holds, if it holds one, or the fault of the value itself.
 fn look<'a>(
     number: u32,
     kind: FieldKind,
@@ -104,7 +104,7 @@ fn look<'a>(
     }
 }
 
-/// What is wrong after the records that can be read.
+/// Returns the fault after the readable records.
 fn finish(
     alloc: Global,
     schema: Schema,

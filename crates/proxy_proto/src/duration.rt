@@ -1,4 +1,4 @@
-//! Durations: whole seconds, and the nanoseconds over.
+//! Durations: whole seconds, and the remaining nanoseconds.
 ghost use Rattle.std.specs.Prelude.{◌≡◌, ◌++◌, map, IfOk, OnOk};
 ghost use Rattle.proto_wire.specs.Given.{view_record};
 ghost use Rattle.proto_wire.specs.Wire.{spelling};
@@ -15,7 +15,7 @@ use proto_wire::scan::RecRef;
 use proto_wire::writing::put_head;
 use std::alloc::Global;
 
-/// How many nanoseconds a second has.
+/// Nanoseconds per second.
 const SECOND: u64 = 1_000_000_000;
 
 #[tactic(auto, using(proto_wire::proofs::Spellings::spellings), unfolding(crate::specs::Profiles::duration_records))]
@@ -26,7 +26,7 @@ fn put_nanoseconds(out: &mut FrontBytes, nanoseconds: u64) -> Result<(), Memory>
     put_number_field(out, 1, nanoseconds / SECOND)
 }
 
-/// Writes a duration of nanoseconds that is there.
+/// Writes a duration in nanoseconds, if it is present.
 #[tactic(auto, using(proto_wire::proofs::Spellings::spellings))]
 pub fn put_duration(out: &mut FrontBytes, field: u32, duration: Option<u64>) -> Result<(), Memory>
     ensures { OnOk result
@@ -40,7 +40,7 @@ pub fn put_duration(out: &mut FrontBytes, field: u32, duration: Option<u64>) -> 
     put_head(out, field, end)
 }
 
-/// A duration in nanoseconds, however long.
+/// Returns a duration of any length, in nanoseconds.
 pub fn nanoseconds_in(records: &[RecRef<'_>]) -> u128
     ensures { result ≡ nanoseconds_in (map view_record records.now) }
 {
@@ -55,7 +55,7 @@ fn duration_in(records: &[RecRef<'_>]) -> u64
     if whole < 1 << 63 { whole as u64 } else { 0 }
 }
 
-/// The duration in a field, in nanoseconds.
+/// Reads the duration in a field, in nanoseconds.
 pub fn read_duration(
     alloc: Global,
     records: &[RecRef<'_>],

@@ -13,7 +13,7 @@ use proto_wire::front::FrontBytes;
 use proto_wire::writing::{put_chunk, put_fixed32, put_head};
 use view_types::endpoint::EndpointRow;
 
-/// What the high half of an IPv6 address counts.
+/// The weight of the high half of an IPv6 address, which is sent as two 64-bit numbers.
 pub const HALF: u128 = 1 << 64;
 
 #[tactic(auto, using(proto_wire::proofs::Spellings::spellings))]
@@ -108,7 +108,7 @@ fn put_tunnel(out: &mut FrontBytes, tunnel: Option<u16>) -> Result<(), Memory>
     put_head(out, 2, end)
 }
 
-/// Writes a hint that says something, and nothing for another.
+/// Writes a hint, and nothing for one without contents.
 #[tactic(auto, using(proto_wire::proofs::Spellings::spellings), unfolding(crate::specs::Endpoints::hint_field))]
 fn put_hint(out: &mut FrontBytes, hint: Hint) -> Result<(), Memory>
     ensures { OnOk result (out.new ≡ spelling (hint_field hint.h2 hint.tunnel) ++ out.old) }

@@ -5,24 +5,24 @@ use mesh_base::memory;
 use proto_wire::fault::WireFault;
 use std::alloc::{AllocError, AllocFailed};
 
-/// Why bytes are no message. A field is named by its number in the message that has it, which may lie in others.
+/// Why bytes are no valid message. `field` is the number of a field in the message type that has it, which may be a nested one.
 #[derive(Clone, Copy, Debug, PartialEq, Eq)]
 pub enum ProtoFault {
     Memory,
-    /// A record can't be read. Its place counts the bytes of the innermost message before it. The fault is never that
-    /// memory ran out, and not one of frames.
+    /// A record cannot be read. The offset counts bytes from the start of the innermost message. The fault is never out of memory, and
+    /// never one of frames.
     Wire(WireFault),
-    /// A field or a choice comes once more than it may, or an entry's key comes again.
+    /// A field or a choice occurs more often than it may, or the key of a map occurs twice.
     Repeated { field: u32 },
     WrongWire { field: u32 },
     NotUtf8 { field: u32 },
     Range { field: u32 },
     Absent { field: u32 },
-    /// No member of the choice is there.
+    /// No member of the choice is present.
     NoChoice,
-    /// The path of a request is no target, or none that the method is for.
+    /// The path of a request is no target, or one that the method does not accept.
     BadAuthority,
-    /// The string of a request is no workload.
+    /// The workload of a request is no `namespace:pod`.
     BadWorkload,
 }
 

@@ -1,4 +1,4 @@
-//! The fields of a message among its records.
+//! Checks of the fields among a message's records.
 ghost use Rattle.std.specs.Prelude.{◌≡◌, map};
 ghost use Rattle.proto_wire.specs.Given.{view_record};
 ghost use Rattle.proxy_proto.specs.Faults.{field_at, is_required, has_choice, has_choices, is_repeated, absent_fault, choice_fault};
@@ -30,8 +30,8 @@ fn has_member(fields: &[Field], records: &[RecRef<'_>]) -> bool
     false
 }
 
-/// Whether a field of this number is one more than there may be. It looks at the records before it only where there may
-/// be one, so at most twice for each field of the message.
+/// Whether one more record with this field number would be too many. It goes over the earlier records only if their number is limited, so
+/// at most twice for each field of the message.
 pub fn is_one_more(fields: &[Field], seen: &[RecRef<'_>], number: u32, label: Label) -> bool
     ensures { result ≡ is_repeated fields.now (map view_record seen.now) number label }
 {
@@ -50,7 +50,7 @@ fn is_needed(label: Label) -> bool
     matches!(label, Label::Required)
 }
 
-/// The fault of the first required field that isn't there.
+/// Returns the fault of the first required field that is missing.
 pub fn absent(fields: &[Field], records: &[RecRef<'_>]) -> Option<ProtoFault>
     ensures { result ≡ absent_fault fields.now (map view_record records.now) }
 {
@@ -73,7 +73,7 @@ fn is_choosing(fields: &[Field]) -> bool
     false
 }
 
-/// The fault of a choice that has no member.
+/// Returns the fault of a choice without a member.
 pub fn no_choice(fields: &[Field], records: &[RecRef<'_>]) -> Option<ProtoFault>
     ensures { result ≡ choice_fault fields.now (map view_record records.now) }
 {

@@ -1,4 +1,4 @@
-//! Fields whose zero is left out. Each is written before the bytes that are there.
+//! Writers of fields whose zero value is omitted. They write backwards: each puts its bytes before those already written.
 ghost use Rattle.std.specs.Prelude.{◌≡◌, ◌++◌, OnOk};
 ghost use Rattle.proto_wire.specs.Wire.{spelling};
 ghost use Rattle.proxy_proto.specs.FieldRecords.{number_field, fixed64_field, bool_field, text_field, optional_text, optional_number, texts_field};
@@ -30,7 +30,7 @@ pub fn put_fixed64_field(out: &mut FrontBytes, field: u32, number: u64) -> Resul
     put_fixed64(out, field, number)
 }
 
-/// Writes a flag that is set, and nothing for false.
+/// Writes a boolean, and nothing for false.
 #[tactic(auto, using(proto_wire::proofs::Spellings::spellings))]
 pub fn put_bool_field(out: &mut FrontBytes, field: u32, flag: bool) -> Result<(), Memory>
     ensures { OnOk result (out.new ≡ spelling (bool_field field flag) ++ out.old) }
@@ -41,7 +41,7 @@ pub fn put_bool_field(out: &mut FrontBytes, field: u32, flag: bool) -> Result<()
     put_number(out, field, 1)
 }
 
-/// Writes a text, and nothing for the empty one.
+/// Writes a string, and nothing for the empty one.
 #[tactic(auto, using(proto_wire::proofs::Spellings::spellings))]
 pub fn put_text_field(out: &mut FrontBytes, field: u32, text: &[u8]) -> Result<(), Memory>
     ensures { OnOk result (out.new ≡ spelling (text_field field text.now) ++ out.old) }
@@ -52,7 +52,7 @@ pub fn put_text_field(out: &mut FrontBytes, field: u32, text: &[u8]) -> Result<(
     put_chunk(out, field, text)
 }
 
-/// Writes a text that is there, and nothing for the empty one.
+/// Writes a string that is present, and nothing for the empty one.
 #[tactic(auto, using(proto_wire::proofs::Spellings::spellings))]
 pub fn put_optional_text(
     out: &mut FrontBytes,
@@ -67,7 +67,7 @@ pub fn put_optional_text(
     }
 }
 
-/// Writes a number that is there, and nothing for 0.
+/// Writes a number that is present, and nothing for 0.
 #[tactic(auto, using(proto_wire::proofs::Spellings::spellings))]
 pub fn put_optional_number(
     out: &mut FrontBytes,
@@ -82,7 +82,7 @@ pub fn put_optional_number(
     }
 }
 
-/// Writes the texts of a repeated field.
+/// Writes the strings of a repeated field.
 #[tactic(auto, using(proto_wire::proofs::Spellings::spellings))]
 pub fn put_texts(out: &mut FrontBytes, field: u32, texts: &[Text]) -> Result<(), Memory>
     ensures { OnOk result (out.new ≡ spelling (texts_field field texts.now) ++ out.old) }

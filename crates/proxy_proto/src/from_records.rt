@@ -1,4 +1,4 @@
-//! Messages that stand inside others, read.
+//! Reading nested messages.
 ghost use Rattle.std.specs.Prelude.{◌≡◌, List, map, IfOk};
 ghost use Rattle.proto_wire.specs.declared.record.Rec.{Rec};
 ghost use Rattle.proto_wire.specs.Given.{view_record};
@@ -10,7 +10,7 @@ use mesh_base::memory::Memory;
 use proto_wire::scan::RecRef;
 use std::alloc::Global;
 
-/// What a message's records say. They are checked before; of others something is said too.
+/// A type that can be read from the records of a message. The records are checked before; a value is defined for others, too.
 pub trait FromRecords: Sized + Drop {
     ghost said: { List Rec → Self };
 
@@ -18,7 +18,7 @@ pub trait FromRecords: Sized + Drop {
         ensures { IfOk result (λ x. x ≡ said (map view_record records.now)) };
 }
 
-/// The message that these bytes are.
+/// Reads a message from its bytes.
 pub fn read_bytes<T: FromRecords>(alloc: Global, bytes: &[u8]) -> Result<T, Memory>
     ensures { IfOk result (λ x. x ≡ T.said (records_in bytes.now)) }
 {
@@ -26,7 +26,7 @@ pub fn read_bytes<T: FromRecords>(alloc: Global, bytes: &[u8]) -> Result<T, Memo
     T::read(alloc, &records)
 }
 
-/// The message in a field.
+/// Reads the message in a field.
 pub fn read_in<T: FromRecords>(
     alloc: Global,
     records: &[RecRef<'_>],
@@ -38,7 +38,7 @@ pub fn read_in<T: FromRecords>(
     T::read(alloc, &records)
 }
 
-/// The messages in a repeated field.
+/// Reads the messages in a repeated field.
 pub fn read_each<T: FromRecords>(
     alloc: Global,
     records: &[RecRef<'_>],

@@ -1,10 +1,10 @@
-//! The messages that proxies are sent, and the requests that they send, as Protocol Buffers. Each message has one
-//! canonical spelling, and is read strictly: each list of bytes says one thing, or has one fault.
+//! The messages that proxies are sent, and the requests that they send, as Protocol Buffers. Each message has one canonical encoding.
+//! Reading is strict: any bytes have exactly one meaning or a first fault.
 //!
-//! Stands on view_types, whose messages it writes and reads, on mesh_text for what requests hold, and on proto_wire. The
-//! writers cite `specs/Messages`, which gives the records of each message; each puts its records before the bytes that
-//! are there. The readers cite `specs/MessageReading` and `specs/RequestReading`: the first fault of `specs/Faults` over
-//! the fields of `specs/Tables`, and else what the records say.
+//! Depends on view_types for the messages, on mesh_text for the strings of requests, and on proto_wire. The writers cite
+//! `specs/Messages`, which defines the records of each message; they write backwards, so that lengths are known. The readers cite
+//! `specs/MessageReading` and `specs/RequestReading`: the result is the first fault of `specs/Faults` over the fields of
+//! `specs/Tables`, or else the contents of the records.
 #![tactic(auto)]
 
 mod authz;

@@ -1,4 +1,4 @@
-//! What records say, field by field.
+//! The contents of records, field by field.
 ghost use Rattle.std.specs.Prelude.{◌≡◌, map, option_map, Some, IfOk};
 ghost use Rattle.std.specs.Str.{is_utf8};
 ghost use Rattle.proto_wire.specs.Given.{view_record, view_value};
@@ -10,7 +10,7 @@ use mesh_base::text::Text;
 use proto_wire::scan::{RecRef, ValueRef, scan};
 use std::alloc::Global;
 
-/// The records of a message, up to the first that can't be read.
+/// Returns the records of a message, up to the first that cannot be read.
 pub fn records_in(alloc: Global, bytes: &[u8]) -> Result<Vec<RecRef<'_>>, Memory>
     ensures { IfOk result (λ v. map view_record v.items ≡ records_in bytes.now) }
 {
@@ -40,7 +40,7 @@ pub fn is_there(records: &[RecRef<'_>], number: u32) -> bool
     false
 }
 
-/// The bytes of a string or a message, and none of another value.
+/// Returns the bytes of a string or a message, and no bytes for another value.
 pub fn body<'a>(value: ValueRef<'a>) -> &'a [u8]
     ensures { result.now ≡ chunk_from (Some (view_value value.entry)) }
 {
@@ -97,14 +97,14 @@ pub fn flag_in(records: &[RecRef<'_>], number: u32) -> bool
     number_in(records, number) != 0
 }
 
-/// Whether bytes are a string.
+/// Whether bytes are UTF-8.
 pub fn is_string(bytes: &[u8]) -> bool
     ensures { result ≡ is_utf8 bytes.now }
 {
     std::str::from_utf8(bytes).is_ok()
 }
 
-/// Bytes as a string, which is empty where they aren't one.
+/// Converts bytes to a string, which is empty if they are not UTF-8.
 fn string_from(alloc: Global, bytes: &[u8]) -> Result<Text, Memory>
     ensures { IfOk result (λ text. text ≡ string_from bytes.now) }
 {
@@ -114,14 +114,14 @@ fn string_from(alloc: Global, bytes: &[u8]) -> Result<Text, Memory>
     }
 }
 
-/// The string in a field.
+/// Returns the string in a field.
 pub fn text_in(alloc: Global, records: &[RecRef<'_>], number: u32) -> Result<Text, Memory>
     ensures { IfOk result (λ text. text ≡ string_in number (map view_record records.now)) }
 {
     string_from(alloc, chunk_in(records, number))
 }
 
-/// The string in a field, and none for the empty one.
+/// Returns the string in a field, or None if it is empty.
 pub fn optional_text_in(
     alloc: Global,
     records: &[RecRef<'_>],
@@ -137,7 +137,7 @@ pub fn optional_text_in(
     Ok(Some(text))
 }
 
-/// The strings in a repeated field.
+/// Returns the strings in a repeated field.
 pub fn texts_in(alloc: Global, records: &[RecRef<'_>], number: u32) -> Result<List<Text>, Memory>
     ensures { IfOk result (λ texts. texts ≡ texts_in number (map view_record records.now)) }
 {
@@ -150,7 +150,7 @@ pub fn texts_in(alloc: Global, records: &[RecRef<'_>], number: u32) -> Result<Li
     Ok(texts)
 }
 
-/// The number in a field, and none for 0.
+/// Returns the number in a field, or None if it is 0.
 pub fn optional_u16_in(records: &[RecRef<'_>], number: u32) -> Option<u16>
     ensures { result ≡ some_number (number_below 65536 number (map view_record records.now)) }
 {
@@ -158,7 +158,7 @@ pub fn optional_u16_in(records: &[RecRef<'_>], number: u32) -> Option<u16>
     if n == 0 { None } else { Some(n) }
 }
 
-/// The records of the message in a field.
+/// Returns the records of the message in a field.
 pub fn inside<'a>(
     alloc: Global,
     records: &[RecRef<'a>],

@@ -7,12 +7,12 @@ use mesh_base::memory::Memory;
 use proto_wire::front::FrontBytes;
 use proto_wire::writing::put_head;
 
-/// A message that stands inside others.
+/// A type that is written as a nested message.
 pub trait Part: Sized {
-    /// The records that it is written as.
+    /// The records that the value is written as.
     ghost records: { Self → List Rec };
 
-    /// Writes its records, from the last to the first, before the bytes that are there.
+    /// Writes the records from the last to the first, each before the bytes already written.
     fn write(&self, out: &mut FrontBytes) -> Result<(), Memory>
         ensures { OnOk result (out.new ≡ spelling (records self.now) ++ out.old) };
 }

@@ -1,4 +1,4 @@
-//! Policies as messages: of a port of a Pod, and of a target.
+//! Policies as messages: those of Pod ports, and those of targets.
 ghost use Rattle.std.specs.Prelude.{◌≡◌, ◌++◌, OnOk};
 ghost use Rattle.view_types.specs.Numbers.{policy_number, protocol_number};
 ghost use Rattle.proto_wire.specs.Wire.{spelling};

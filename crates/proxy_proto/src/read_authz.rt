@@ -1,4 +1,4 @@
-//! Authorizations, read.
+//! Reading authorizations.
 ghost use Rattle.std.specs.Prelude.{◌≡◌, ◌≤◌, ◌*◌, ◌/◌, ◌^◌, map, IfOk};
 ghost use Rattle.net_cidr.specs.Network.{net_round, width};
 ghost use Rattle.proto_wire.specs.Given.{view_record};
@@ -15,7 +15,7 @@ use proto_wire::scan::RecRef;
 use std::alloc::Global;
 use view_types::server_view::{Authn, AuthzKind, AuthzRow};
 
-/// The number with its last bits set to 0.
+/// Returns the number with its low bits set to 0.
 fn masked(number: u128, rest: u8) -> u128
     requires { rest ≤ 128 }
     ensures value { result ≡ number / 2 ^ rest * 2 ^ rest }
@@ -28,7 +28,7 @@ fn masked(number: u128, rest: u8) -> u128
     }
 }
 
-/// The network of that many bits round an address.
+/// Returns the network of an address with a prefix of this many bits.
 fn net_round(ip: Ip, bits: u8) -> Net
     requires { bits ≤ width ip }
     ensures { result ≡ net_round ip bits }
@@ -50,7 +50,7 @@ fn width(ip: Ip) -> u8
     }
 }
 
-/// The network round an address, of as many bits as a message says, or of none where it says too many.
+/// Returns the network of an address with a prefix of this many bits, or of 0 bits if the address is shorter.
 fn net_from(ip: Ip, bits: u64) -> Net
     ensures { result ≡ net_from ip bits }
 {

@@ -1,4 +1,4 @@
-//! Endpoints, read.
+//! Reading endpoints.
 ghost use Rattle.std.specs.Prelude.{◌≡◌, map, if◌then◌else◌, is_some, IfOk, OnOk};
 ghost use Rattle.std.specs.Cmp.Lexicographic.{slice_cmp};
 ghost use Rattle.std.specs.Ordering.{nat_cmp};
@@ -74,7 +74,7 @@ fn compare_keys(a: &(Text, Text), b: &(Text, Text)) -> Ordering
     a.0.as_bytes().cmp(b.0.as_bytes())
 }
 
-/// Puts pairs into the order of their keys, so that labels take each at their end.
+/// Sorts pairs by key, so that labels are built by appending.
 fn put_in_order(pairs: &mut Vec<(Text, Text)>) -> Result<(), Memory>
     ensures { OnOk result
         (from_entries {R = slice_cmp nat_cmp} pairs.new.items ≡ from_entries pairs.old.items) }
@@ -83,7 +83,7 @@ fn put_in_order(pairs: &mut Vec<(Text, Text)>) -> Result<(), Memory>
     Ok(())
 }
 
-/// Labels of pairs, of which the first of equal keys counts.
+/// Builds labels from pairs. Of pairs with the same key the first is used.
 fn labels_of(alloc: Global, pairs: Vec<(Text, Text)>) -> Result<Labels, Memory>
     ensures { IfOk result (λ labels. labels ≡ from_entries pairs.items) }
 {

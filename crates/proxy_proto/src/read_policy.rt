@@ -1,4 +1,4 @@
-//! Policies, read.
+//! Reading policies.
 ghost use Rattle.std.specs.Prelude.{◌≡◌, map, IfOk};
 ghost use Rattle.proto_wire.specs.Given.{view_record};
 ghost use Rattle.proxy_proto.specs.PolicyReading.{protocol_from, policy_from, server_row_in, server_in, service_in, forward_in, outbound_in};

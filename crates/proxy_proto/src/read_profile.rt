@@ -1,4 +1,4 @@
-//! Profiles, read.
+//! Reading profiles.
 ghost use Rattle.std.specs.Prelude.{◌≡◌, map, codes, IfOk};
 ghost use Rattle.proto_wire.specs.Given.{view_record};
 ghost use Rattle.proxy_proto.specs.EndpointReading.{label_in, row_in};

@@ -1,4 +1,4 @@
-//! Matches of requests, read.
+//! Reading request matches.
 ghost use Rattle.std.specs.Prelude.{◌≡◌, map, IfOk};
 ghost use Rattle.proto_wire.specs.Given.{view_record};
 ghost use Rattle.proxy_proto.specs.LookUps.{each_in};
@@ -13,7 +13,7 @@ use proto_wire::scan::RecRef;
 use std::alloc::Global;
 use view_types::profile::ReqMatch;
 
-/// The match that these bytes are, where matches nest at most this deep.
+/// Reads a match in which matches nest at most this deep.
 #[cycle(read_request)]
 #[tactic(auto, unfolding(crate::specs::ProfileReading::request_match_in))]
 pub fn read_request_match(alloc: Global, depth: usize, bytes: &[u8]) -> Result<ReqMatch, Memory>
@@ -26,7 +26,7 @@ pub fn read_request_match(alloc: Global, depth: usize, bytes: &[u8]) -> Result<R
     choose(alloc, depth - 1, &records)
 }
 
-/// The member of the choice that is there.
+/// Reads the member of the choice that is present.
 #[cycle(read_request)]
 fn choose(alloc: Global, depth: usize, records: &[RecRef<'_>]) -> Result<ReqMatch, Memory>
     ensures { IfOk result
@@ -52,7 +52,7 @@ fn choose(alloc: Global, depth: usize, records: &[RecRef<'_>]) -> Result<ReqMatc
     Ok(ReqMatch::Method(text_in(alloc, &method, 1)?))
 }
 
-/// The matches of a list.
+/// Reads a list of matches.
 #[cycle(read_request)]
 fn read_parts(alloc: Global, depth: usize, records: &[RecRef<'_>]) -> Result<List<ReqMatch>, Memory>
     ensures { IfOk result

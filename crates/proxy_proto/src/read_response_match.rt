@@ -1,4 +1,4 @@
-//! Matches of responses, read.
+//! Reading response matches.
 ghost use Rattle.std.specs.Prelude.{◌≡◌, map, IfOk};
 ghost use Rattle.proto_wire.specs.Given.{view_record};
 ghost use Rattle.proxy_proto.specs.LookUps.{each_in};
@@ -12,7 +12,7 @@ use proto_wire::scan::RecRef;
 use std::alloc::Global;
 use view_types::profile::RespMatch;
 
-/// The match that these bytes are, where matches nest at most this deep.
+/// Reads a match in which matches nest at most this deep.
 #[cycle(read_response)]
 #[tactic(auto, unfolding(crate::specs::ProfileReading::response_match_in))]
 pub fn read_response_match(alloc: Global, depth: usize, bytes: &[u8]) -> Result<RespMatch, Memory>
@@ -25,7 +25,7 @@ pub fn read_response_match(alloc: Global, depth: usize, bytes: &[u8]) -> Result<
     choose(alloc, depth - 1, &records)
 }
 
-/// The member of the choice that is there.
+/// Reads the member of the choice that is present.
 #[cycle(read_response)]
 fn choose(alloc: Global, depth: usize, records: &[RecRef<'_>]) -> Result<RespMatch, Memory>
     ensures { IfOk result
@@ -47,7 +47,7 @@ fn choose(alloc: Global, depth: usize, records: &[RecRef<'_>]) -> Result<RespMat
     Ok(RespMatch::Status(u16_in(&range, 1), u16_in(&range, 2)))
 }
 
-/// The matches of a list.
+/// Reads a list of matches.
 #[cycle(read_response)]
 fn read_parts(
     alloc: Global,

@@ -1,4 +1,4 @@
-//! Routes, read.
+//! Reading routes.
 ghost use Rattle.std.specs.Prelude.{◌≡◌, map, IfOk};
 ghost use Rattle.proto_wire.specs.Given.{view_record};
 ghost use Rattle.proxy_proto.specs.RouteReading.{path_from, path_in, name_in, match_in, headers_in, redirect_in, filter_in, backend_in, rule_in, route_kind, http_route_in};

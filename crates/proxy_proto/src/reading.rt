@@ -75,7 +75,7 @@ fn read_answer(alloc: Global, method: Method, records: &[RecRef<'_>]) -> Result<
     }
 }
 
-/// What a message says that answers the method, or its first fault.
+/// Reads a message that answers the method, or returns its first fault.
 pub fn read_message(alloc: Global, method: Method, bytes: &[u8]) -> Result<Message, ProtoFault>
     ensures { Gives result (message_of method bytes.now) }
 {

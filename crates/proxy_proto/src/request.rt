@@ -97,7 +97,7 @@ fn read_port_rows_query(alloc: Global, records: &[RecRef<'_>]) -> Result<Query, 
     }
 }
 
-/// The address that a request names, which any port may follow, or what its authority leads to.
+/// Returns the address of a request, whose port may be any, or else the target of its authority.
 #[tactic(auto, unfolding(crate::specs::RequestReading::traffic_target))]
 fn read_traffic_query(
     alloc: Global,
@@ -148,7 +148,7 @@ fn read_query(
     }
 }
 
-/// What a request to the method asks for, or its first fault.
+/// Reads the query of a request to the method, or returns the first fault of the request.
 pub fn read_request(
     alloc: Global,
     method: Method,

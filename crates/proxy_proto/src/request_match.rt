@@ -1,4 +1,4 @@
-//! Matches of requests as messages.
+//! Request matches as messages.
 ghost use Rattle.std.specs.Prelude.{◌≡◌, ◌++◌, [], ◌∷◌, map, OnOk};
 ghost use Rattle.proto_wire.specs.Wire.{spelling};
 ghost use Rattle.proxy_proto.specs.FieldRecords.{chunk, text_field};

@@ -1,4 +1,4 @@
-//! Matches of responses as messages.
+//! Response matches as messages.
 ghost use Rattle.std.specs.Prelude.{◌≡◌, ◌++◌, map, OnOk};
 ghost use Rattle.proto_wire.specs.Wire.{spelling};
 ghost use Rattle.proxy_proto.specs.Profiles.{range_records, seq_records, response_match_records};

@@ -72,7 +72,7 @@ impl Part for HttpMatch {
     }
 }
 
-/// Writes a header's name and its value. It isn't the `Part` of a pair of texts, which is an entry of a map.
+/// Writes a header's name and value. This differs from the `Part` of a pair of strings, which is the entry of a map.
 #[tactic(auto, using(proto_wire::proofs::Spellings::spellings), unfolding(crate::specs::Routes::value_records))]
 fn put_value(out: &mut FrontBytes, pair: &(Text, Text)) -> Result<(), Memory>
     ensures { OnOk result (out.new ≡ spelling (value_records pair.now) ++ out.old) }
@@ -183,7 +183,7 @@ impl Part for RuleRow {
     }
 }
 
-/// The number of a kind of routes, and 0 of any other.
+/// Returns the number of a kind of routes, and 0 for any other kind.
 fn route_number(kind: Kind) -> u64
     ensures { result ≡ route_number kind }
 {

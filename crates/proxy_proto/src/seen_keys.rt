@@ -1,5 +1,5 @@
-//! The keys of a map's entries that were met.
-ghost use Rattle.std.specs.Prelude.{◌≡◌, ◌&&◌, ◌||◌, ◌==◌, ℕ, List, not, Some, IfOk, OnOk};
+//! The keys of map entries that were read so far.
+ghost use Rattle.std.specs.Prelude.{◌≡◌, ◌&&◌, ◌||◌, ◌==◌, ℕ, List, not, IfOk, OnOk};
 ghost use Rattle.std.specs.Str.{bytes_eq};
 ghost use Rattle.proto_wire.specs.Given.{view_record, view_value};
 ghost use Rattle.proxy_proto.specs.Faults.{fault_if, key_of};
@@ -18,7 +18,7 @@ use std::collections::BTreeSet;
 /// Keys of entries, each with the number of its field.
 pub type Keys<'a> = BTreeSet<(u32, &'a [u8])>;
 
-/// Adds a key, and answers whether it is new.
+/// Adds a key. Returns whether it is new.
 fn add<'a>(keys: &mut Keys<'a>, field: u32, key: &'a [u8]) -> Result<bool, Memory>
     ensures new { IfOk result (λ added. added ≡ not (is_met keys.old field key.now)) }
     ensures keys { OnOk result
@@ -35,7 +35,7 @@ fn key_of<'a>(alloc: Global, value: ValueRef<'a>) -> Result<&'a [u8], Memory>
     Ok(chunk_in(&entry, 1))
 }
 
-/// Adds the key of a map's entry, and gives the fault where it was there.
+/// Adds the key of a map entry. Returns the fault if it was there.
 pub fn meet<'a>(
     alloc: Global,
     keys: &mut Keys<'a>,

@@ -1,11 +1,11 @@
-//! The fields of each message, as in `docs/proxy.proto`.
+//! The fields of each message type, as in `docs/proxy.proto`.
 ghost use Rattle.std.specs.Prelude.{◌≡◌};
 ghost use Rattle.proxy_proto.specs.Tables.{fields_of};
 
 use crate::table::FieldKind::{Fixed32, Fixed64, Message, Number, Text};
 use crate::table::Label::{Choice, Map, Repeated, Required, Single};
 
-/// The messages. The entries of a map are messages too, and so are lists of matches, by what their matches are of.
+/// The message types. Map entries have types of their own, and so do lists of matches, one for each kind of match.
 #[derive(Clone, Copy)]
 pub enum Schema {
     Update,
@@ -62,21 +62,21 @@ pub enum Schema {
     AuthzKey,
 }
 
-/// How often a field may come.
+/// How often a field may occur.
 #[derive(Clone, Copy)]
 pub enum Label {
-    /// Once at most.
+    /// At most once.
     Single,
-    /// Once.
+    /// Exactly once.
     Required,
-    /// One of the message's members of a choice comes, once.
+    /// The field is a member of the message's choice, exactly one of which occurs, once.
     Choice,
     Repeated,
     /// Any number of entries, whose keys differ.
     Map,
 }
 
-/// What a field holds.
+/// The type of a field.
 #[derive(Clone, Copy)]
 pub enum FieldKind {
     /// A number up to this one.
@@ -87,7 +87,7 @@ pub enum FieldKind {
     Message(Schema),
 }
 
-/// A field: its number, how often it may come, and what it holds.
+/// A field: its number, how often it may occur, and its type.
 #[derive(Clone, Copy)]
 pub struct Field(pub u32, pub Label, pub FieldKind);
 
@@ -101,7 +101,7 @@ const UINT16: FieldKind = Number(65_535);
 
 const NANOSECONDS: FieldKind = Number(999_999_999);
 
-/// A place in an enum.
+/// An enum of protocols.
 const PROTOCOL: FieldKind = Number(6);
 
 const POLICY: FieldKind = Number(6);
@@ -350,7 +350,7 @@ const AUTHZ_KEYS: [Field; 1] = [Field(1, Repeated, Message(Schema::AuthzKey))];
 
 const AUTHZ_KEY: [Field; 2] = [Field(1, Single, ONE_OF_TWO), Field(2, Single, Text)];
 
-/// The fields of a message.
+/// Returns the fields of a message type.
 pub fn fields(schema: Schema) -> &'static [Field]
     ensures { result.now ≡ fields_of schema }
 {

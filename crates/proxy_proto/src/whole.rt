@@ -1,4 +1,4 @@
-//! Faults of a message's records together, which no one of them has.
+//! Faults of a message's records together.
 ghost use Rattle.std.specs.Prelude.{◌≡◌, map, IfOk};
 ghost use Rattle.proto_wire.specs.Given.{view_record};
 ghost use Rattle.proxy_proto.specs.Faults.{bits_of, zero_fault, whole_fault};
@@ -12,7 +12,7 @@ use mesh_base::memory::Memory;
 use proto_wire::scan::RecRef;
 use std::alloc::Global;
 
-/// The fault of a message as a whole.
+/// Returns the fault of a message as a whole.
 pub fn whole(
     alloc: Global,
     schema: Schema,
@@ -33,7 +33,7 @@ pub fn whole(
     }
 }
 
-/// A number that is 0 or left out.
+/// The fault of a number that is 0 or omitted.
 fn of_number(records: &[RecRef<'_>], field: u32) -> Option<ProtoFault>
     ensures { result ≡ zero_fault field (map view_record records.now) }
 {
@@ -43,7 +43,7 @@ fn of_number(records: &[RecRef<'_>], field: u32) -> Option<ProtoFault>
     None
 }
 
-/// A duration that is too long.
+/// The fault of a duration that is too long.
 fn of_duration(records: &[RecRef<'_>]) -> Option<ProtoFault>
     ensures { result ≡ whole_fault schemas.Duration (map view_record records.now) }
 {
@@ -53,14 +53,14 @@ fn of_duration(records: &[RecRef<'_>]) -> Option<ProtoFault>
     Some(ProtoFault::Range { field: 1 })
 }
 
-/// How many bits the address has.
+/// Returns the number of bits of the address.
 fn bits_of(address: &[RecRef<'_>]) -> u64
     ensures { result ≡ bits_of (map view_record address.now) }
 {
     if is_there(address, 1) { 32 } else { 128 }
 }
 
-/// A network of more bits than its address has.
+/// The fault of a network whose prefix is longer than its address.
 fn of_network(alloc: Global, records: &[RecRef<'_>]) -> Result<Option<ProtoFault>, Memory>
     ensures { IfOk result
         (λ fault. fault ≡ whole_fault schemas.IpNetwork (map view_record records.now)) }
@@ -75,7 +75,7 @@ fn of_network(alloc: Global, records: &[RecRef<'_>]) -> Result<Option<ProtoFault
     Ok(None)
 }
 
-/// A Server that has a protocol and no policy.
+/// The fault of a Server that has a protocol and no policy.
 fn of_server(records: &[RecRef<'_>]) -> Option<ProtoFault>
     ensures { result ≡ whole_fault schemas.Server (map view_record records.now) }
 {

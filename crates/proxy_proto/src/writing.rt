@@ -1,7 +1,6 @@
 //! Writing messages.
-ghost use Rattle.std.specs.Prelude.{◌≡◌, ◌++◌, OnOk, IfOk};
+ghost use Rattle.std.specs.Prelude.{◌≡◌, IfOk};
 ghost use Rattle.proto_wire.specs.Frames.{frame_of};
-ghost use Rattle.proto_wire.specs.Wire.{spelling};
 ghost use Rattle.proxy_proto.specs.Messages.{message_records, canonical};
 
 use crate::fields::put_bool_field;
@@ -49,7 +48,7 @@ impl Part for Message {
     }
 }
 
-/// The bytes that most messages of so many rows take at most. A message that takes more is moved as it grows.
+/// Returns a capacity in bytes that is enough for most messages with this number of rows. A longer message is moved as it grows.
 fn room_for(message: &Message) -> usize {
     match message {
         Message::Add(rows) => rows.len().saturating_mul(512),
@@ -69,7 +68,7 @@ fn written(alloc: Global, message: &Message) -> Result<FrontBytes, Memory>
     Ok(out)
 }
 
-/// The canonical spelling of a message.
+/// Returns the canonical encoding of a message.
 pub fn write_message(alloc: Global, message: &Message) -> Result<Bytes, Memory>
     ensures { IfOk result (λ bytes. bytes ≡ canonical message.now) }
 {
@@ -77,7 +76,7 @@ pub fn write_message(alloc: Global, message: &Message) -> Result<Bytes, Memory>
     Ok(Bytes::copy_from_slice(alloc, out.as_slice())?)
 }
 
-/// The frame that carries a message. A message of 2^32 bytes or more, which no frame holds, gives Memory too.
+/// Returns the frame that carries a message. Returns `Memory` also for a message of 2^32 bytes or more, which no frame can hold.
 pub fn frame_message(alloc: Global, message: &Message) -> Result<Bytes, Memory>
     ensures { IfOk result (λ bytes. bytes ≡ frame_of (canonical message.now)) }
 {

@@ -1,7 +1,7 @@
--- What a replay comes to, over a machine that tells what it holds or that tells its replies.
+-- The result of a replay, by the machine's state or by its replies, whichever is known.
 --
--- Which pattern a simulation meets that is refused isn't told by the input alone. So the output is that of rows of which some
--- are marked, no more than patterns were refused, each with a fault that it may meet; where none was refused, none is marked.
+-- Which refused pattern a simulation meets does not follow from the input alone. So the output is defined for rows some of which are
+-- marked, each with a fault that it may meet; at most as many are marked as patterns were refused.
 use Rattle.std.specs.Prelude.{◌≡◌, ◌<◌, ℕ, Bool, List, ◌++◌, IfSome, length}
 use Rattle.std.specs.declared.option.Option.{Option}
 use Rattle.std.specs.Io.KnownBytes.{Appends}
@@ -28,30 +28,31 @@ WritesOutput config limits known state left held held_new refused = IfSome state
     (pat : Pat) → IsTold (replay_of config limits pat) known.tells (unmarked (past_of limits.line bytes))
     → IsOutput (replay_of config limits pat) known bytes held held_new refused))
 
--- Where no pattern was refused, what was written is the output of the input without marks.
+-- If no pattern was refused, what was written is the output of the input without marks.
 abbrev pub WritesPlain : Config → Limits → PatternsNow → Option HubState → Option (List ℕ) → Option (List ℕ) → Option (List ℕ) → Bool → Type 0
 WritesPlain config limits known state left held held_new refused = Unrisen known.before known.now → IfSome state (λ told. IfSome left (λ bytes.
     (pat : Pat) → IsTold (replay_of config limits pat) known.tells (unmarked (past_of limits.line bytes))
     → IsPlainOutput (replay_of config limits pat) bytes held held_new refused))
 
--- Whether a line was refused doesn't depend on what patterns match.
+-- Whether a line was refused does not depend on what patterns match.
 abbrev pub RefusesSome : Config → Limits → PatternsNow → Option HubState → Option (List ℕ) → Bool → Type 0
 RefusesSome config limits known state left refused = IfSome state (λ told. IfSome left (λ bytes.
     (pat : Pat) → IsRefused (replay_of config limits pat) known bytes refused))
 
--- What was written is a front of the output of the input.
+-- What was written is a prefix of the output of the input.
 abbrev pub WritesFront : Config → Limits → PatternsNow → Option HubState → Option (List ℕ) → Option (List ℕ) → Option (List ℕ) → Type 0
 WritesFront config limits known state left held held_new = IfSome state (λ told. IfSome left (λ bytes.
     (sent : List ℕ) × Appends held held_new sent
     × ((pat : Pat) → IsTold (replay_of config limits pat) known.tells (unmarked (past_of limits.line bytes))
     → IsFrontOf (replay_of config limits pat) known (past_of limits.line bytes) sent)))
 
--- The machine stands where the input leads, each live subscription drained once more. Marks change nothing of that.
+-- The machine's state is that at the end of the input, after one more drain of each live subscription. Marks do not change it.
 abbrev pub StandsAtEnd : Config → Limits → Option HubState → Option HubState → Option (List ℕ) → Type 0
 StandsAtEnd config limits state state_new left = Becomes state state_new (λ old new. IfSome left (λ bytes.
     (pat : Pat) → new ≡ seen (replay_of config limits pat) (after_end (replay_of config limits pat) (after (replay_of config limits pat) (unmarked (past_of limits.line bytes))))))
 
--- The input is below its limit, what was written is what it says beside the replies that were added, and some line was refused or none.
+-- The input is below its limit, what was written is defined by the input and the added replies, and the flag says whether a row was
+-- refused.
 pub record IsSaid (config : Config) (limits : Limits) (input : List ℕ) (before now : List Reply) (held held_new : Option (List ℕ)) (refused : Bool) : Type 0 where
   pub below : length input < limits.input
   pub added : List Reply
@@ -63,7 +64,7 @@ abbrev pub WritesSaid : Config → Limits → Option (List Reply) → Option (Li
 WritesSaid config limits replies replies_new left held held_new refused = Becomes replies replies_new (λ before now. IfSome left (λ bytes.
     IsSaid config limits bytes before now held held_new refused))
 
--- What was written is a front of that. A reply whose text isn't written yet is only further on.
+-- What was written is a prefix of that. The text of a reply that is not written yet comes after it.
 pub record IsSaidFront (config : Config) (limits : Limits) (input : List ℕ) (before now : List Reply) (held held_new : Option (List ℕ)) : Type 0 where
   pub added : List Reply
   pub adds : now ≡ before ++ added

@@ -1,5 +1,5 @@
--- Where a replay stands after some rows, while it writes its end, and after that: by what its machine holds, where that is
--- told, and by its replies, where those are told.
+-- The state of a replay after some rows, while it writes the end, and after that: by the machine's state and by its replies, as far as
+-- they are known.
 use Rattle.std.specs.Prelude.{◌≡◌, ℕ, ◌+◌, Bool, List, [], ◌++◌, length, map, take, drop, flat_map, reverse}
 use Rattle.std.proofs.Common.{append-nil, sym, ap, subst, ◌∙◌}
 use Rattle.std.specs.List.{AllByRecursion}
@@ -21,9 +21,9 @@ use Rattle.feed_history.specs.Lengths.{HasLength, LengthsFit, RowsHaveLengths}
 use Rattle.feed_history.specs.KnownPatterns.{AreMarked, PatternsNow}
 use Rattle.feed_step.specs.Transcript.{Saying, refused_said, said_from, saying_left, text_said}
 
--- ---- by what is held
+-- ---- by the state
 
--- The machine stands where some marked rows lead. What verdicts are written is told where it is told which patterns match.
+-- The machine's state is that after some marked rows. The verdicts that are written are known if it is known which patterns match.
 pub record StandsByState (program : Program) (known : PatternsNow) (live : List ℕ) (past : List Row) (text : List ℕ) (refused : Bool) (now : HubState) : Type 0 where
   pub marked : List MarkedRow
   pub are_marked : AreMarked program known past marked
@@ -33,7 +33,7 @@ pub record StandsByState (program : Program) (known : PatternsNow) (live : List 
   pub writes : IsTold program known.tells (unmarked past) → text ≡ written_after program marked
   pub refuses : refused ≡ refused_after program marked
 
--- the first live subscriptions, so many, have been drained at the end
+-- the state after this number of live subscriptions have been drained at the end, the first ones first
 abbrev pub after_some : Program → ℕ → State → State
 after_some program sent now = record now { subs = flat_map (told_now program now.objects) (take sent now.subs) ++ drop sent now.subs }
 
@@ -58,7 +58,7 @@ pub record EndedByState (program : Program) (known : PatternsNow) (past : List R
 
 -- ---- by the replies
 
--- The replies that were added come to these sayings, whatever rows and replies may follow.
+-- The added replies give this output, whatever rows and replies may follow.
 pub record StandsByReplies (config : Config) (past : List Row) (text : List ℕ) (refused : Bool) (before now : List Reply) : Type 0 where
   pub added : List Reply
   pub adds : now ≡ before ++ added
@@ -67,7 +67,7 @@ pub record StandsByReplies (config : Config) (past : List Row) (text : List ℕ)
   pub writes : text ≡ text_said sayings
   pub refuses : refused ≡ refused_said sayings
 
--- The same with all rows taken, whatever replies may follow.
+-- The same for all rows of the input, whatever replies may follow.
 pub record EndingByReplies (config : Config) (past : List Row) (text : List ℕ) (refused : Bool) (before now : List Reply) : Type 0 where
   pub added : List Reply
   pub adds : now ≡ before ++ added
@@ -78,7 +78,7 @@ pub record EndingByReplies (config : Config) (past : List Row) (text : List ℕ)
 
 -- ---- both
 
--- what holds where the machine was as new at the start
+-- P, if the machine was new at the start
 abbrev pub FromNew : Program → (HubState → Type 0) → HubState → HubState → Type 0
 FromNew program P start now = start ≡ seen program nothing → P now
 
@@ -95,12 +95,12 @@ pub record Ended (config : Config) (limits : Limits) (known : PatternsNow) (stat
   pub by_state : (pat : Pat) → Becomes state state_now (FromNew (replay_of config limits pat) (EndedByState (replay_of config limits pat) known past text refused))
   pub by_replies : Becomes replies replies_now (EndingByReplies config past text refused)
 
--- the configuration and the limits are the run's
+-- the configuration and the limits are those of the run
 pub record IsOfRun (config : Config) (limits : Limits) (config_now : Config) (limits_now : Limits) : Type 0 where
   pub same_config : config_now ≡ config
   pub same_limits : limits_now ≡ limits
 
--- ---- where a replay stands, none of its end has been written
+-- ---- the state after all rows, before the first drain of the end
 
 ending_by_state : (program : Program) (known : PatternsNow) (live : List ℕ) (sent : ℕ) (past : List Row) (text : List ℕ) (refused : Bool) (now : HubState) → sent ≡ 0
     → StandsByState program known live past text refused now → EndingByState program known live sent past text refused now

@@ -16,7 +16,7 @@ use mesh_outside::{Patterns, Sink, Source};
 use std::alloc::Global;
 use view_types::config::Config;
 
-/// Replays a recorded feed: reads its lines to the end, writes why each refused line is refused, and then what each
+/// Replays a recorded feed: reads its lines to the end and writes the output of each, or why it is refused, and at the end what each
 /// live subscription is sent.
 pub fn replay<H: Machine, S: Source, K: Sink, P: Patterns>(
     alloc: Global,
@@ -29,47 +29,47 @@ pub fn replay<H: Machine, S: Source, K: Sink, P: Patterns>(
 ) -> Status
     requires { 1 ≤ limits.now.frame_addrs }
 
-    // Read to the end: what was written is the defined output, each length that it tells is below 2 ^ 64, and a line was refused
-    // or none.
+    // If all lines were read, what was written is the defined output, each length in it is below 2 ^ 64, and the status says whether a
+    // line was refused.
     ensures output { OnEnd result (WritesOutput config.now limits.now
         (known_over P.Patterns patterns.old patterns.new)
         (H.state hub.old) (S.left input.old) (K.held out.old) (K.held out.new)) }
 
-    // No simulation met a pattern that is refused where none was refused.
+    // If no pattern was refused, no simulation met a refused one.
     ensures quiet { OnEnd result (WritesPlain config.now limits.now
         (known_over P.Patterns patterns.old patterns.new)
         (H.state hub.old) (S.left input.old) (K.held out.old) (K.held out.new)) }
 
-    // Else it is a front of the defined output.
+    // If the run ends early, what was written is a prefix of the defined output.
     ensures front { OnStop result (WritesFront config.now limits.now
         (known_over P.Patterns patterns.old patterns.new)
         (H.state hub.old) (S.left input.old) (K.held out.old) (K.held out.new)) }
 
-    // Whether a line was refused, whatever patterns match.
+    // Whether a line was refused does not depend on what patterns match.
     ensures refused { OnEnd result (RefusesSome config.now limits.now
         (known_over P.Patterns patterns.old patterns.new)
         (H.state hub.old) (S.left input.old)) }
 
-    // The machine then stands where the input leads.
+    // The machine's state is then that at the end of the input.
     ensures state { OnEnd result (λ refused.
         StandsAtEnd config.now limits.now (H.state hub.old) (H.state hub.new) (S.left input.old)) }
 
-    // A machine that tells its replies: what was written is what they and the lines say.
+    // If the machine's replies are known, what was written is defined by the lines and the replies.
     ensures said { OnEnd result (WritesSaid config.now limits.now (H.replies hub.old)
         (H.replies hub.new) (S.left input.old) (K.held out.old) (K.held out.new)) }
 
-    // Else it is a front of that.
+    // If the run ends early, what was written is a prefix of that.
     ensures said_front { OnStop result (WritesSaidFront config.now limits.now (H.replies hub.old)
         (H.replies hub.new) (S.left input.old) (K.held out.old) (K.held out.new)) }
 
-    // No count falls, and each fault is told by its status.
+    // The counts of faults never decrease, and each new fault has its status.
     ensures read_later { S.faults input.old ≤ S.faults input.new }
     ensures write_later { K.faults out.old ≤ K.faults out.new }
     ensures read_told { result ≢ Status.ReadFault → S.faults input.new ≡ S.faults input.old }
     ensures write_told { result ≢ Status.WriteFault → K.faults out.new ≡ K.faults out.old }
     ensures later { P.refusals patterns.old ≤ P.refusals patterns.new }
 
-    // When each status comes.
+    // The cause of each status.
     ensures read { result ≡ Status.ReadFault → Rose (S.faults input.old) (S.faults input.new) }
     ensures write { result ≡ Status.WriteFault → Rose (K.faults out.old) (K.faults out.new) }
     ensures long { result ≡ Status.InputTooLong → TookLimit limits.now.input (S.left input.old) }

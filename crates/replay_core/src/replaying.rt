@@ -15,21 +15,21 @@ use mesh_outside::Patterns;
 use std::alloc::AllocError;
 use view_types::config::Config;
 
-/// A replay that is under way. What owns memory is lent to it.
+/// A running replay. It borrows what owns memory.
 #[derive(Drop)]
 pub(crate) struct Replaying<'a, 'w, 'h, 'p, 'l, 's, H: Machine, P: Patterns, L> {
     pub(crate) config: &'a Config,
     pub(crate) limits: Limits,
-    /// What the frames are written with.
+    /// Writes the frames.
     pub(crate) writer: &'w mut FrameWriter,
     pub(crate) hub: &'h mut H,
-    /// What tells which patterns match, for simulated requests.
+    /// Decides which patterns match, for simulated requests.
     pub(crate) patterns: &'p mut P,
-    /// The ids that live, in ascending order. At the end they stay, and those drained are counted.
+    /// The live ids, in ascending order. At the end of the input the list stays as it is, and `sent` counts those that were drained.
     pub(crate) live: &'l mut List<u32>,
-    /// How many of them have been drained at the end.
+    /// How many ids were drained at the end.
     pub(crate) sent: usize,
-    /// What counts the objects that the run reads.
+    /// Counts the objects that the run looks up.
     pub(crate) steps: &'s mut Steps<L>,
 }
 
@@ -124,7 +124,7 @@ impl<H: Machine, P: Patterns, L> LineMachine for Replaying<'_, '_, '_, '_, '_, '
         }
     }
 
-    // Drains the next of the ids that live. The list stays, so that one that ends doesn't move the others.
+    // Drains the next live id. The list stays as it is, so that an id that ends does not move the others.
     fn end(&mut self, out: &mut Vec<u8>) -> Result<bool, AllocError> {
         let Some(id) = self.live.as_slice().get(self.sent).copied() else {
             return Ok(false);

@@ -1,4 +1,4 @@
--- Which clients an authorization admits, over the objects held; and which clients a row admits.
+-- Which clients an authorization admits, over the objects held; and which clients a row of a view admits.
 use Rattle.std.specs.Prelude.{◌&&◌, ◌||◌, ℕ, Bool, true, false, List, Option, Some, None, drop, length, nat_eq, nat_lt}
 use Rattle.std.specs.List.{ends_with, list_any}
 use Rattle.std.specs.Str.{bytes_eq}
@@ -25,7 +25,7 @@ abbrev pub has_tls : ClientTls → Bool
 has_tls Plain = false
 has_tls _ = true
 
--- the identity ends so, after at least one byte
+-- the identity ends in the suffix, after at least one byte
 abbrev pub ends_after : List ℕ → List ℕ → Bool
 ends_after identity suffix = nat_lt (length suffix) (length identity) && ends_with nat_eq identity suffix
 
@@ -49,7 +49,7 @@ is_authenticated config spec.Anyone tls = true
 is_authenticated config spec.AnyTls tls = has_tls tls
 is_authenticated config (spec.Clients ids) tls = is_client config ids tls
 
--- without networks every address passes, and without clients anyone
+-- without networks every address is admitted, and without clients everyone
 abbrev pub is_from : Option (List Block) → Ip → Bool
 is_from None ip = true
 is_from (Some blocks) ip = list_any (block_holds ip) blocks
@@ -58,14 +58,14 @@ abbrev pub is_by : Config → Option (List IdSpec) → ClientTls → Bool
 is_by config None tls = true
 is_by config (Some ids) tls = is_client config ids tls
 
--- the networks and the authentication of the authorization hold
+-- the networks of the authorization have the address, and its authentication includes the client
 abbrev pub admits : Config → ObjectMap → Ip → ClientTls → Object → Bool
 admits config held ip tls (object.ServerAuthorization authorization) =
     is_from (Some authorization.blocks) ip && is_authenticated config authorization.authn tls
 admits config held ip tls (object.AuthorizationPolicy policy) = is_from (networks held policy) ip && is_by config (clients held policy) tls
 admits config held ip tls _ = false
 
--- ---- over what is shown
+-- ---- over rows
 
 abbrev pub is_listed : List (List ℕ) → List (List ℕ) → Bool → ClientTls → Bool
 is_listed ids suffixes everyone (Identity identity) = everyone || list_any (λ id. bytes_eq id identity) ids || list_any (ends_after identity) suffixes

@@ -1,4 +1,4 @@
--- What holds of verdicts.
+-- Laws on verdicts.
 use Rattle.std.specs.Prelude.{◌≡◌, ◌≢◌, ◌↔◌, ◌&&◌, ℕ, Bool, true, false, if◌then◌else◌, List, [], Option, Some, None, codes, find, map}
 use Rattle.std.specs.Bool.{Decides}
 use Rattle.std.specs.FinMap.{get}
@@ -40,7 +40,7 @@ BlockHoldsDecides = (block : Block) (ip : Ip) → Decides (block_holds ip block)
 
 -- ---- rows and objects
 
--- a row admits a client exactly where the authorization that it shows does
+-- a row admits a client exactly if the authorization that it shows does
 abbrev pub RowsAdmitAsTheirObjects : Type 0
 RowsAdmitAsTheirObjects = (config : Config) (held : ObjectMap) (o : Object) (row : AuthzRow) (ip : Ip) → FitsIp ip → (tls : ClientTls)
     → authz_row config held o ≡ Some row → row_admits ip tls row ≡ admits config held ip tls o
@@ -51,12 +51,12 @@ pub record IsAdmitting (config : Config) (held : ObjectMap) (applies : Object �
   pub passes : applies o ≡ true
   pub admitting : admits config held ip tls o ≡ true
 
--- it is one of these, and none of them comes before it by kind, namespace and name
+-- the object satisfies `Is`, and no object that does is before it by kind, namespace and name
 pub record IsLeastObject (Is : Object → Type 0) (o : Object) : Type 0 where
   pub is : Is o
   pub least : (other : Object) → Is other → key_cmp (key_of o) (key_of other) ≢ Greater
 
--- the row found is that of the least of these; where none is found there is none
+-- the row shows the least object that satisfies `Is`; if there is no row, there is no such object
 pub record ShowsLeast (config : Config) (held : ObjectMap) (Is : Object → Type 0) (found : Option AuthzRow) : Type 0 where
   pub some : (row : AuthzRow) → found ≡ Some row → (o : Object) × IsLeastObject Is o × (authz_row config held o ≡ Some row)
   pub none : found ≡ None → (o : Object) → Is o → ⊥
@@ -72,9 +72,9 @@ abbrev pub RowsShowTheirMatches : Type 0
 RowsShowTheirMatches = (config : Config) (held : ObjectMap) (server : ServerSpec)
     → map row_shape (inbound_routes config held server) ≡ map shape_of (routes_of held server)
 
--- ---- who decides
+-- ---- what decides
 
--- what is in force for a request: the protocol and the policy, which authorizations count, and the paths of the probes that do
+-- what is in force for a request: the protocol and the policy, which authorizations are used, and the paths of the probes that are used
 pub record InForce : Type 0 where
   pub protocol : Protocol
   pub policy : Policy
@@ -89,7 +89,7 @@ abbrev pub on_server : ObjectMap → Pod → ℕ → ServerSpec → Option InFor
 on_server held pod port server =
     Some record { protocol = server.protocol; policy = server.policy; counts = applies_to_server held server; paths = unless_routes (routes_of held server) (probe_paths pod port) }
 
--- the Server's, and those of the route of the best match where routes count
+-- the authorizations of the Server, and those of the route with the best match if routes are used
 abbrev pub at_server : ObjectMap → Pat → Pod → ℕ → ServerSpec → Option HttpRequest → Option InForce
 at_server held pat pod port server None = on_server held pod port server
 at_server held pat pod port server (Some http) =
@@ -97,7 +97,7 @@ at_server held pat pod port server (Some http) =
     then on_route held server (route_at (routes_of held server) (best pat http (map shape_of (routes_of held server))))
     else on_server held pod port server
 
--- without a Server no authorization counts
+-- without a Server no authorization is used
 abbrev pub at_port : Config → ObjectMap → Pat → Request → Pod → Option ServerSpec → Option InForce
 at_port config held pat request pod None =
     Some record { protocol = default_protocol pod request.port; policy = default_policy config pod; counts = λ o. false; paths = probe_paths pod request.port }
@@ -113,7 +113,7 @@ in_force config held pat request = at_pod config held pat request (pod_held held
 abbrev pub Counting : Config → ObjectMap → Request → InForce → Object → Type 0
 Counting config held request force = IsAdmitting config held force.counts request.client request.tls
 
--- the request is a GET of the path at this place, from the configured networks, to a port with a protocol by which requests are told apart
+-- the request is a GET of the path at this index, from a cluster network, to a port whose protocol is not opaque or TLS
 pub record IsProbe (config : Config) (request : Request) (force : InForce) (place : ℕ) : Type 0 where
   pub http : HttpRequest
   pub http_is : request.http ≡ Some http
@@ -122,17 +122,17 @@ pub record IsProbe (config : Config) (request : Request) (force : InForce) (plac
   pub near : is_in_cluster config request.client ≡ true
   pub path : slice_get force.paths place ≡ Some http.path
 
--- no authorization that counts admits the client
+-- no authorization that is used admits the client
 abbrev pub NoneAdmits : Config → ObjectMap → Request → InForce → Type 0
 NoneAdmits config held request force = (o : Object) → Counting config held request force o → ⊥
 
--- nor is the request a probe's
+-- nor is the request a probe
 pub record IsLeftToPolicy (config : Config) (held : ObjectMap) (request : Request) (force : InForce) : Type 0 where
   pub none_admits : NoneAdmits config held request force
   pub no_probe : (place : ℕ) → IsProbe config request force place → ⊥
 
--- An allowed client is admitted by the authorization that is named, the least of those that count and admit it; or by none that
--- counts, and then by the probe that is named, or by the policy that is named. A denied one is admitted by none of these.
+-- An allowed client is admitted by the authorization that is named, the least of those that are used and admit it; or by none that is
+-- used, and then by the probe that is named, or by the policy that is named. A denied client is admitted by none of these.
 abbrev pub IsDecidedBy : Config → ObjectMap → Request → InForce → Verdict → Type 0
 IsDecidedBy config held request force (Allowed (Authz kind name)) =
     (o : Object) × IsLeastObject (Counting config held request force) o × (decider_of o ≡ Authz kind name)
@@ -161,9 +161,9 @@ abbrev pub VerdictsNameTheirDecider : Type 0
 VerdictsNameTheirDecider = (config : Config) (held : ObjectMap) → AtKeys held → (pat : Pat) (request : Request)
     → IsDecided config held request (in_force config held pat request) (verdict config held pat request)
 
--- ---- who doesn't
+-- ---- verdicts without a decider
 
--- routes count for the request, and no match of them holds
+-- routes are used for the request, and none of their matches holds
 pub record NoMatchHolds (held : ObjectMap) (pat : Pat) (request : Request) : Type 0 where
   pub counts : RoutesCount held request
   pub none : (c : Candidate) → IsCandidate pat counts.http (map shape_of (routes_of held counts.server)) c → ⊥

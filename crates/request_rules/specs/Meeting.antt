@@ -1,4 +1,4 @@
--- When routes count for a request, and which match it may meet whose regular expression is refused.
+-- When routes are used for a request, and which match with a refused regular expression it may meet.
 use Rattle.std.specs.Prelude.{◌≡◌, ◌++◌, ℕ, true, List, Some, codes, map}
 use Rattle.std.specs.List.{slice_get}
 use Rattle.view_types.specs.Objects.{ObjectMap}
@@ -21,7 +21,7 @@ route_text ns name = ns ++ (codes "/" ++ name)
 abbrev pub routes_of : ObjectMap → ServerSpec → List Route
 routes_of held server = attached_routes held server.meta.ns (is_server_parent server.meta.name)
 
--- Routes count for the request: it is HTTP, to a port of a Pod that is held, whose Server has routes and a protocol that asks for them.
+-- Routes are used for the request: it is HTTP, to a port of a Pod that is held, whose Server has routes and a protocol that permits them.
 pub record RoutesCount (held : ObjectMap) (request : Request) : Type 0 where
   pub pod : Pod
   pub pod_is : pod_held held (Some (request.ns, request.pod)) ≡ Some pod
@@ -32,7 +32,7 @@ pub record RoutesCount (held : ObjectMap) (request : Request) : Type 0 where
   pub http : HttpRequest
   pub http_is : request.http ≡ Some http
 
--- Routes count for the request, and the match at the place is asked for a regular expression that is refused.
+-- Routes are used for the request, and the match at these indexes needs a regular expression that is refused.
 pub record MayMeet (held : ObjectMap) (facts : PatternFacts) (request : Request) (text : List ℕ) (rule item : ℕ) : Type 0 where
   pub counts : RoutesCount held request
   pub place : ℕ

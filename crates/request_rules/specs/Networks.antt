@@ -1,4 +1,4 @@
--- The test by which addresses are held. A law says that it is true exactly where a block of networks holds the address.
+-- The test whether a network contains an address. A law says that it is true exactly if a block of networks contains the address.
 use Rattle.std.specs.Prelude.{◌&&◌, ◌-◌, ◌/◌, ◌^◌, ◌==◌, ℕ, Bool, false, not}
 use Rattle.std.specs.List.{list_any}
 use Rattle.net_cidr.specs.declared.block.Block.{Block}
@@ -14,6 +14,6 @@ agree_in bits _ _ = false
 abbrev pub net_holds : Ip → Net → Bool
 net_holds ip net = agree_in net.bits net.base ip
 
--- the network of the block holds the address, and no exception does
+-- the network of the block contains the address, and no exception does
 abbrev pub block_holds : Ip → Block → Bool
 block_holds ip block = net_holds ip block.net && not (list_any (net_holds ip) block.except)

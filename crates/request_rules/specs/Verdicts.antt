@@ -1,4 +1,4 @@
--- What comes of a request, over the objects held: the written policy's verdict, and who decided.
+-- The verdict of the written policy on a request, over the objects held, and what decided.
 use Rattle.std.specs.Prelude.{◌&&◌, ◌||◌, ℕ, Bool, true, false, if◌then◌else◌, List, [], ◌∷◌, Option, Some, None, codes, find, map, position}
 use Rattle.std.specs.FinMap.{values}
 use Rattle.std.specs.List.{list_any, slice_get}
@@ -69,8 +69,8 @@ abbrev pub by_found : Verdict → Option Object → Verdict
 by_found otherwise None = otherwise
 by_found otherwise (Some o) = Allowed (decider_of o)
 
--- Objects stand by kind, namespace and name, so that the first of a namespace is the least. Where none admits the client, something
--- else decides.
+-- Objects are in order of kind, namespace and name, so that the first one of a namespace is the least. If none admits the client, the
+-- verdict is `otherwise`.
 abbrev pub decided : Config → ObjectMap → Request → Verdict → (Object → Bool) → Verdict
 decided config held request otherwise applies =
     by_found otherwise (find (λ o. applies o && admits config held request.client request.tls o) (values held))
@@ -103,11 +103,11 @@ route_at routes (Some found) = slice_get routes found.route
 
 -- ---- probes
 
--- a GET from the configured networks, to a port with a protocol by which requests are told apart
+-- a GET from a cluster network, to a port whose protocol is not opaque or TLS
 abbrev pub may_be_probe : Config → Request → Protocol → HttpRequest → Bool
 may_be_probe config request protocol http = bytes_eq http.method (codes "GET") && asks_routes protocol && is_in_cluster config request.client
 
--- the place of the request's path among these paths, where it may be a probe's
+-- the index of the request's path among these paths, if the request may be a probe
 abbrev pub probe_place : Config → Request → Protocol → List (List ℕ) → Option HttpRequest → Option ℕ
 probe_place config request protocol paths None = None
 probe_place config request protocol paths (Some http) = if may_be_probe config request protocol http then position (bytes_eq http.path) paths else None
@@ -116,7 +116,7 @@ abbrev pub by_probe : Config → Request → Policy → Option ℕ → Verdict
 by_probe config request policy None = by_policy config request policy
 by_probe config request policy (Some place) = Allowed (Probe place)
 
--- what decides where no authorization does: a probe of one of these paths, else the policy
+-- the verdict if no authorization decides: by a probe of one of these paths, and otherwise by the policy
 abbrev pub by_paths : Config → Request → Protocol → Policy → List (List ℕ) → Verdict
 by_paths config request protocol policy paths = by_probe config request policy (probe_place config request protocol paths request.http)
 
@@ -144,6 +144,6 @@ abbrev pub by_pod : Config → ObjectMap → Pat → Request → Option Pod → 
 by_pod config held pat request None = NoWorkload
 by_pod config held pat request (Some pod) = by_server config held pat request pod (chosen_server held request.ns pod request.port)
 
--- what comes of the request, where these objects are held
+-- the verdict on the request over these objects
 abbrev pub verdict : Config → ObjectMap → Pat → Request → Verdict
 verdict config held pat request = by_pod config held pat request (pod_held held (Some (request.ns, request.pod)))

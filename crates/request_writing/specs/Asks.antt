@@ -1,5 +1,5 @@
--- The records that each ask is written as: fields by number. The empty string and the port 0 are left out, but not the
--- member of a choice.
+-- The records of each request, in canonical form: fields by number. The empty string and the port 0 are omitted, except for a member of a
+-- choice.
 use Rattle.std.specs.Prelude.{ℕ, List, [], ◌∷◌, ◌++◌}
 use Rattle.view_types.specs.declared.query.Method.{Method}
 use Rattle.view_types.specs.declared.query.Method.TheVariants as method
@@ -31,11 +31,11 @@ ask_records (WatchPort spec) = port_records spec
 ask_records (Watch spec) = traffic_records spec
 ask_records (WatchPort2 spec) = port_records spec
 
--- the one spelling of an ask
+-- the canonical encoding of a request
 abbrev pub canonical_ask : Ask → List ℕ
 canonical_ask ask = spelling (ask_records ask)
 
--- the method that answers an ask
+-- the method that answers a request
 abbrev pub method_of_ask : Ask → Method
 method_of_ask (Get destination) = method.Get
 method_of_ask (GetProfile destination) = method.GetProfile

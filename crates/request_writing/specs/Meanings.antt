@@ -1,4 +1,4 @@
--- What an ask asks for, or its first fault.
+-- The query of a request, or the first fault of the request.
 use Rattle.std.specs.Prelude.{Result, Ok, Err, ◌==◌, if◌then◌else◌}
 use Rattle.mesh_text.specs.Contexts.{context_of}
 use Rattle.mesh_text.specs.Targets.{target_of}
@@ -17,7 +17,7 @@ use Rattle.request_writing.specs.declared.ask.Ask.TheVariants.{Get, GetProfile, 
 use Rattle.request_writing.specs.declared.ask.PortSpec.{PortSpec}
 use Rattle.request_writing.specs.declared.ask.TrafficSpec.TheVariants.{Addr, Authority}
 
--- The port 0 is a fault of the message, and comes before that of a workload.
+-- The port 0 is a fault of the message, which is found before a fault of the workload.
 abbrev pub port_meaning : (PodPort → Query) → PortSpec → Result Query ProtoFault
 port_meaning ask spec = if spec.port == 0 then Err (Range 2) else asked_of ask (port_of (workload_of spec.workload) spec.port)
 

@@ -1,4 +1,4 @@
--- The ask for a query, and which queries can be asked.
+-- The request for a query, and the queries that have one.
 use Rattle.std.specs.Prelude.{◌≡◌, ◌<◌, ℕ, List, ◌∷◌, ◌++◌, IsTrue, IsUtf8}
 use Rattle.std.specs.Fmt.{decimal}
 use Rattle.k8s_meta.specs.Lawful.{IsPort}
@@ -19,7 +19,7 @@ use Rattle.request_writing.specs.declared.ask.Ask.TheVariants.{Get, GetProfile, 
 use Rattle.request_writing.specs.declared.ask.TrafficSpec.{TrafficSpec}
 use Rattle.request_writing.specs.declared.ask.TrafficSpec.TheVariants.{Addr, Authority}
 
--- ---- texts
+-- ---- strings
 
 -- a Service's full name or an address, and the port
 abbrev pub target_text : Config → Target → List ℕ
@@ -30,13 +30,13 @@ target_text config (Address (V6 n) port) = 91 ∷ (text_of (V6 n) ++ 93 ∷ 58 �
 abbrev pub workload_text : List ℕ → List ℕ → List ℕ
 workload_text ns pod = ns ++ 58 ∷ pod
 
--- ---- asks
+-- ---- requests
 
 abbrev pub traffic_spec : Config → Target → TrafficSpec
 traffic_spec config (Address ip port) = Addr ip port
 traffic_spec config (Service ns name port) = Authority (target_text config (Service ns name port))
 
--- The ask for a query, where the client says of itself what the token says.
+-- The request for a query, with this context token of the client.
 abbrev pub ask_for : Config → List ℕ → Query → Ask
 ask_for config token (query.Get ns name port ctx) = Get (record { path = target_text config (Service ns name port); token = token })
 ask_for config token (query.Profile target ctx) = GetProfile (record { path = target_text config target; token = token })
@@ -44,7 +44,7 @@ ask_for config token (query.Port ns pod port) = WatchPort (record { workload = w
 ask_for config token (query.Traffic target) = Watch (traffic_spec config target)
 ask_for config token (query.PortRows ns pod port) = WatchPort2 (record { workload = workload_text ns pod; port = port })
 
--- ---- which queries can be asked
+-- ---- queries that have a request
 
 pub record IsTextPort (port : ℕ) : Type 0 where
   pub some : 0 < port
@@ -55,12 +55,12 @@ abbrev pub IsTextTarget : Target → Type 0
 IsTextTarget (Service ns name port) = IsTrue (is_dotless ns) × IsTrue (is_dotless name) × IsTextPort port
 IsTextTarget (Address ip port) = FitsIp ip × IsTextPort port
 
--- An address that isn't written as a text may have the port 0.
+-- An address that is not written as a string may have the port 0.
 abbrev pub IsTrafficTarget : Target → Type 0
 IsTrafficTarget (Address ip port) = FitsIp ip × IsPort port
 IsTrafficTarget (Service ns name port) = IsTextTarget (Service ns name port)
 
--- The token says this of the client.
+-- The token gives this context of the client.
 pub record IsTokenOf (token : List ℕ) (ctx : Context) : Type 0 where
   pub utf8 : IsUtf8 token
   pub says : context_of token ≡ ctx

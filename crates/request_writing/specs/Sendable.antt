@@ -1,4 +1,4 @@
--- Which asks can be sent, and read again: strings are in UTF-8, numbers are of their types, and the length fits 64 bits.
+-- Requests that can be sent and read back: strings are UTF-8, numbers fit their types, and the length fits 64 bits.
 use Rattle.std.specs.Prelude.{◌<◌, ◌^◌, IsUtf8, length}
 use Rattle.k8s_meta.specs.Lawful.{IsPort}
 use Rattle.net_cidr.specs.Texts.{FitsIp}

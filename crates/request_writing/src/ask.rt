@@ -2,33 +2,33 @@
 use mesh_base::text::Text;
 use net_cidr::ip::Ip;
 
-/// Where a client of Get or GetProfile goes. The field `scheme` is left out.
+/// A `GetDestination`: the target of a `Get` or `GetProfile` client. The field `scheme` is omitted.
 #[derive(Drop)]
 pub struct GetDestination {
     /// The name of a Service or an address, with or without a port.
     pub path: Text,
-    /// What the client says of itself, as JSON; may be empty.
+    /// The context token of the client, as JSON. It may be empty.
     pub token: Text,
 }
 
-/// A port of a Pod.
+/// A `PortSpec`: a port of a Pod.
 #[derive(Drop)]
 pub struct PortSpec {
-    /// `namespace:pod`
+    /// The Pod, as `namespace:pod`.
     pub workload: Text,
-    /// 0 is refused.
+    /// The port. Port 0 is refused.
     pub port: u16,
 }
 
-/// Where traffic goes. The field `source_workload` is left out.
+/// A `TrafficSpec`: where traffic goes. The field `source_workload` is omitted.
 #[derive(Drop)]
 pub enum TrafficSpec {
     Addr { ip: Ip, port: u16 },
-    /// As the path of `GetDestination`.
+    /// A target, like the path of `GetDestination`.
     Authority(Text),
 }
 
-/// What a client asks, by the method that answers it.
+/// A request of a client, by the method that answers it.
 #[derive(Drop)]
 pub enum Ask {
     Get(GetDestination),

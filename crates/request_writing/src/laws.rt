@@ -9,14 +9,14 @@ ghost use Rattle.request_writing.specs.Meanings.{meaning};
 ghost use Rattle.request_writing.specs.Queries.{IsAskable, ask_for};
 ghost use Rattle.request_writing.specs.Sendable.{IsSendableAsk};
 
-/// What is written of an ask that may be sent is read, by the method that answers it, as what it means.
+/// States that the encoding of a sendable request is read, by the method that answers it, as the meaning of the request.
 pub fn asks_read_back()
     ensures { (config : Config) (ask : Ask) → IsSendableAsk ask
         → request_of config (method_of_ask ask) (canonical_ask ask) ≡ meaning config ask }
 {}
 
-/// A query whose names, address and port can be asked has an ask, which is read as the query. Its token may be any that
-/// says what the client says of itself.
+/// States that each query whose names, address and port can be written has a request that is read as the query. Its token may be any that
+/// gives the context of the client.
 pub fn queries_read_back()
     ensures { (config : Config) (token : List ℕ) (query : Query)
         → IsTrue (is_name config.cluster_domain) → IsAskable token query

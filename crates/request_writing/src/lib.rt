@@ -1,8 +1,8 @@
-//! The requests that a client writes, in their one spelling, which is read again as what they mean.
+//! The requests of clients in their canonical encoding, which is read back as their meaning.
 //!
-//! Stands on proxy_proto, which reads requests, on mesh_text for what they hold, and on proto_wire. `specs/Asks` gives the
-//! records of each ask, `specs/Meanings` what it asks for, `specs/Sendable` which asks can be sent, and `specs/Queries` the
-//! ask for each query. Public laws in `laws` tie them to the reader.
+//! Depends on proxy_proto, which reads requests, on mesh_text for their strings, and on proto_wire. `specs/Asks` defines the records of
+//! each request, `specs/Meanings` its query, `specs/Sendable` which requests can be sent, and `specs/Queries` the request for each query.
+//! The public laws in `laws` relate them to the reader.
 #![tactic(auto)]
 
 pub mod ask;

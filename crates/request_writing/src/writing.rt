@@ -1,4 +1,4 @@
-//! Writing what a client asks.
+//! Writing requests.
 ghost use Rattle.std.specs.Prelude.{◌≡◌, ◌++◌, OnOk, IfOk};
 ghost use Rattle.proto_wire.specs.Wire.{spelling};
 ghost use Rattle.request_writing.specs.Asks.{ask_records, canonical_ask, destination_records, port_records, traffic_records};
@@ -50,7 +50,7 @@ fn put_ask(out: &mut FrontBytes, ask: &Ask) -> Result<(), Memory>
     }
 }
 
-/// The canonical spelling of an ask.
+/// Writes the canonical encoding of a request.
 #[tactic(auto, using(proto_wire::proofs::Spellings::spellings))]
 pub fn write_ask(alloc: Global, ask: &Ask) -> Result<Bytes, Memory>
     ensures { IfOk result (λ bytes. bytes ≡ canonical_ask ask.now) }

@@ -1,4 +1,4 @@
--- Why a link is closed. At each place of a turn where it may be, it is closed exactly for one of these causes.
+-- The causes for which a link is closed. At each point of a turn where a link may be closed, it is closed exactly for one of these causes.
 use Rattle.std.specs.Prelude.{◌≡◌, ◌&&◌, ◌||◌, not, ℕ, Bool, true, false, if◌then◌else◌, List, [], ◌∷◌, ◌++◌, Option, Some, None, is_ok, is_some}
 use Rattle.mesh_links.specs.declared.call.LinkCall.{LinkCall}
 use Rattle.mesh_links.specs.declared.call.LinkCall.TheVariants as calls
@@ -12,11 +12,11 @@ use Rattle.serve_rules.specs.FedLines.{FedRow}
 use Rattle.serve_rules.specs.LinkStates.{LinkState, admits, closing, is_empty, is_feed, may_drain, phase_in, query_of}
 use Rattle.serve_rules.specs.Turns.{DrainStep, Reads, StopStep, Writes}
 
--- its bytes are no path, no request, or a request and more
+-- its bytes are no path, no valid request, or more than one request
 abbrev pub has_fault : Serving → List ℕ → Bool
 has_fault serving bytes = not (is_ok (phase_in serving bytes))
 
--- its input has ended, and nothing is left to write on it if it is a feed
+-- its input has ended, and if it is a feed, nothing is left to write on it
 abbrev pub is_over : Serving → LinkState → Bool
 is_over serving t = t.ended && (not (is_feed serving t.bytes) || is_empty t.outbox)
 
@@ -30,7 +30,7 @@ abbrev pub is_too_long : Serving → List FedRow → Option ℕ → Option Query
 is_too_long serving fed drained None = false
 is_too_long serving fed drained (Some query) = not (is_some (frames_due serving.program query drained fed))
 
--- A drain has its turn, and one of its messages is too long.
+-- It is the link's turn to be drained, and one of the messages is too long.
 abbrev pub drain_closes : Serving → List FedRow → LinkState → Bool
 drain_closes serving fed s = may_drain serving fed s && is_too_long serving fed s.drained (query_of serving s.bytes)
 
@@ -40,7 +40,7 @@ write_closes serving s (writes.Took n) t = has_fault serving s.bytes || is_over 
 write_closes serving s writes.Pending t = false
 write_closes serving s writes.Failed t = true
 
--- a link that was open is closed exactly if the cause is there
+-- an open link is closed exactly if the cause is present
 pub record ClosesIf (cause : Bool) (s t : LinkState) : Type 0 where
   pub is_open : t.is_open ≡ not cause
   pub close : closing s t ≡ (if cause then calls.Close s.number ∷ [] else [])

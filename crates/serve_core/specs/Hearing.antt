@@ -1,4 +1,4 @@
--- What a server does with what a link asks for.
+-- The effect of the requests in a link's bytes on a server.
 use Rattle.std.specs.Prelude.{◌≡◌, ◌≢◌, ◌≤◌, ◌⊎◌, ℕ, Bool, true, false, nat_lt, if◌then◌else◌, List, [], ◌∷◌, Option, Some, None, Result, Ok, Err}
 use Rattle.mesh_base.specs.declared.memory.Memory.{Memory}
 use Rattle.mesh_base.specs.declared.sub_id.SubId.{SubId}
@@ -18,7 +18,7 @@ use Rattle.fed_hub.specs.HubSteps.{IsSubscribed, IsTurnedAway}
 use Rattle.fed_hub.specs.LineSteps.{AppliesTo}
 use Rattle.serve_core.specs.declared.turning.Turning.{Turning}
 
--- ---- one ask
+-- ---- one request
 
 -- a line is applied, and its answer is added
 pub record FeedsLine (line : ℕ) (row : Row) (known : PatternsNow) (old : Turning) (answers : List (List ℕ)) (new : Turning) (answers_now : List (List ℕ)) : Type 0 where
@@ -31,7 +31,7 @@ pub record EndsInput (number : ℕ) (old new : Turning) : Type 0 where
   pub entries : entries_of new.kept ≡ changed number (λ link. record link { ended = true }) (entries_of old.kept)
   pub settled : IsSettledBut number old.kept → IsSettledBut number new.kept
 
--- the link feeds lines, unless as many do as may
+-- the link becomes a feed, unless the limit on feeds is reached
 pub record BeginsFeed (number : ℕ) (old : Turning) (goes : Bool) (new : Turning) : Type 0 where
   pub same : new ≡ record old { kept = new.kept }
   pub admits : goes ≡ nat_lt old.kept.feeds old.limits.feeds
@@ -46,7 +46,7 @@ pub record IsSubscriber (number : ℕ) (query : Query) (old new : Turning) : Typ
   pub entries : entries_of new.kept ≡ changed number (λ link. record link { role = roles.Subscriber id }) (entries_of old.kept)
   pub settled : passes_at (λ link. is_opening link.role) (entries_of old.kept) number ≡ true → IsUnknown id.0 (entries_of old.kept) → IsSettledBut number old.kept → IsSettledBut number new.kept
 
--- its request is refused, since as many are subscribed as may be
+-- its request is refused, since the limit on subscriptions is reached
 pub record IsRefused (old new : Turning) : Type 0 where
   pub turned_away : IsTurnedAway old.hub new.hub
   pub same : new ≡ record old { hub = new.hub }
@@ -55,7 +55,7 @@ abbrev pub SubscribesBy : ℕ → Query → Turning → Bool → Turning → Typ
 SubscribesBy number query old true new = IsSubscriber number query old new
 SubscribesBy number query old false new = IsRefused old new
 
--- What is asked is done, unless a limit is met.
+-- The request is carried out, unless a limit is reached.
 abbrev pub IsDone : ℕ → Ask → PatternsNow → Turning → List (List ℕ) → Bool → Turning → List (List ℕ) → Type 0
 IsDone number (asks.Subscribe query) known old answers goes new answers_now = (answers_now ≡ answers) × SubscribesBy number query old goes new
 IsDone number asks.FeedBegins known old answers goes new answers_now = (answers_now ≡ answers) × BeginsFeed number old goes new
@@ -63,7 +63,7 @@ IsDone number (asks.Line line text) known old answers goes new answers_now = (go
 IsDone number (asks.LongLine line) known old answers goes new answers_now = (goes ≡ true) × FeedsLine line None known old answers new answers_now
 IsDone number asks.Ended known old answers goes new answers_now = (goes ≡ true) × (answers_now ≡ answers) × EndsInput number old new
 
--- only these can meet a lack of memory
+-- only these can run out of memory
 abbrev pub MayFail : Ask → Type 0
 MayFail (asks.Subscribe query) = Unit {0}
 MayFail asks.FeedBegins = ⊥
@@ -75,9 +75,9 @@ abbrev pub TakesAsk : ℕ → Ask → PatternsNow → Turning → List (List ℕ
 TakesAsk number ask known old answers (Ok goes) new answers_now = IsDone number ask known old answers goes new answers_now
 TakesAsk number ask known old answers (Err memory) new answers_now = MayFail ask
 
--- ---- one after another
+-- ---- several requests
 
--- no more is done behind the ask that met a limit, or a lack of memory
+-- the requests after the one that reached a limit or ran out of memory are not carried out
 abbrev pub StopsAt : ℕ → Ask → PatternsNow → Turning → List (List ℕ) → Result Bool Memory → Turning → List (List ℕ) → Type 0
 StopsAt number ask known old answers (Ok true) new answers_now = ⊥
 StopsAt number ask known old answers (Ok false) new answers_now = IsDone number ask known old answers false new answers_now × (known.before ≤ known.now)
@@ -89,7 +89,7 @@ TakesEach number tells refuses (ask ∷ more) before old answers result now new 
     StopsAt number ask (known_of tells refuses before now) old answers result new answers_now
     ⊎ ((mid : ℕ) × (between : Turning) × (answers_mid : List (List ℕ)) × (before ≤ mid) × IsDone number ask (known_of tells refuses before mid) old answers true between answers_mid × TakesEach number tells refuses more mid between answers_mid result now new answers_now)
 
--- all was done, and the answers are put into the outbox
+-- all requests were carried out, and the answers are put into the outbox
 pub record PutsAnswers (number : ℕ) (asked : List Ask) (known : PatternsNow) (old new : Turning) : Type 0 where
   pub between : Turning
   pub answers : List (List ℕ)
@@ -98,7 +98,7 @@ pub record PutsAnswers (number : ℕ) (asked : List Ask) (known : PatternsNow) (
   pub entries : entries_of new.kept ≡ changed number (filled answers) (entries_of between.kept)
   pub settled : IsSettledBut number between.kept → IsSettled new.kept
 
--- how far it came is known
+-- it is known how many requests were carried out
 pub record IsCutShort (number : ℕ) (asked : List Ask) (known : PatternsNow) (old : Turning) : Type 0 where
   pub result : Result Bool Memory
   pub between : Turning
@@ -112,7 +112,7 @@ TakesAll number asked known old (Err memory) new = IsCutShort number asked known
 
 -- ---- a piece of a link's bytes
 
--- the session of the link is given the piece
+-- the piece is passed to the session of the link
 pub record IsGiven (number : ℕ) (piece : List ℕ) (answer : Result (List Ask) SessionFault) (old new : Turning) : Type 0 where
   pub same : new ≡ record old { kept = new.kept }
   pub feeds : Feeds number piece (entries_of old.kept) answer (entries_of new.kept)
@@ -124,7 +124,7 @@ pub record IsFaulty (number : ℕ) (piece : List ℕ) (old new : Turning) : Type
   pub known : fault ≢ faults.Memory
   pub given : IsGiven number piece (Err fault) old new
 
--- the bytes have none, and what they ask for is done
+-- the bytes have no fault, and their requests are carried out
 pub record IsHeard (number : ℕ) (piece : List ℕ) (known : PatternsNow) (old : Turning) (result : Result Bool Memory) (new : Turning) : Type 0 where
   pub asked : List Ask
   pub mid : Turning

@@ -1,4 +1,4 @@
--- What the events of a poll make of a server.
+-- The effect of the events of a poll on a server.
 use Rattle.std.specs.Prelude.{◌≡◌, ◌≤◌, ◌+◌, ℕ, Bool, true, false, List, [], ◌∷◌, ◌++◌, Option, Some, None, Result, Ok, Err}
 use Rattle.mesh_base.specs.declared.limits.Limits.{Limits}
 use Rattle.mesh_base.specs.declared.memory.Memory.{Memory}
@@ -18,14 +18,14 @@ use Rattle.serve_core.specs.declared.server.ServeFault.{ServeFault}
 use Rattle.serve_core.specs.declared.server.ServeFault.TheVariants as faults
 use Rattle.serve_core.specs.declared.turning.Turning.{Turning}
 
--- the trace shows the new links as open
+-- in the trace, the new links are open
 abbrev pub AreOpenNew : List LinkCall → List LinkEvent → Type 0
 AreOpenNew trace [] = Unit {0}
 AreOpenNew trace (events.New n ∷ more) = (is_open_in trace n ≡ true) × (n ≤ last_in trace) × AreOpenNew trace more
 AreOpenNew trace (events.Readable n ∷ more) = AreOpenNew trace more
 AreOpenNew trace (events.Writable n ∷ more) = AreOpenNew trace more
 
--- Events of the last poll are still to be looked at. The new links among them have numbers above those of all links before.
+-- Events of the last poll are still to be processed. New links among them have numbers above those of all earlier links.
 pub record Awaits (config : Config) (limits : Limits) (pat : Pat) (links : List LinkState) (trace : List LinkCall) (shown : List LinkEvent) (now : Turning) : Type 0 where
   pub last : ℕ
   pub between : AreBetween 0 links last
@@ -35,13 +35,13 @@ pub record Awaits (config : Config) (limits : Limits) (pat : Pat) (links : List 
 
 -- ---- one event
 
--- The trace grew by these closes, and the server stands for these links.
+-- The trace grew by these closes, and the server represents these links.
 pub record IsShown (config : Config) (limits : Limits) (pat : Pat) (fed : List FedRow) (trace : List LinkCall) (more : List LinkEvent) (after : List LinkState) (closes : List LinkCall) (trace_now : Option (List LinkCall)) (new : Turning) : Type 0 where
   pub grew : trace_now ≡ Some (trace ++ closes)
   pub at : IsAt config limits pat fed after (trace ++ closes) new
   pub awaits : Awaits config limits pat after (trace ++ closes) more new
 
--- What an event shows is noted; a new link above the limit is closed.
+-- The event was recorded; a new link above the limit was closed.
 abbrev pub IsShownBy : Config → Limits → Pat → List FedRow → List LinkState → List LinkCall → LinkEvent → List LinkEvent → Result (Unit {0}) Memory → Option (List LinkCall) → Turning → Type 0
 IsShownBy config limits pat fed links trace event more (Ok done) trace_now new =
     IsShown config limits pat fed trace more (event_to (serving_of config limits pat) links event) (event_closes (serving_of config limits pat) links event) trace_now new
@@ -60,7 +60,7 @@ pub record AreShownTo (config : Config) (limits : Limits) (pat : Pat) (fed : Lis
   pub events : Events (serving_of config limits pat) false shown links made after
   pub at : IsAt config limits pat fed after (trace ++ made) new
 
--- the calls so far are the first of some that the events may lead to
+-- the calls so far are the first ones of a possible response to the events
 pub record AreBegun (config : Config) (limits : Limits) (pat : Pat) (links : List LinkState) (trace : List LinkCall) (shown : List LinkEvent) (trace_now : Option (List LinkCall)) : Type 0 where
   pub made : List LinkCall
   pub more : List LinkCall

@@ -1,4 +1,4 @@
--- What a step of a link, and one of each link, make of the trace and of what a server keeps.
+-- The effect of one step, and of one step of each link, on the trace and on the state of a server.
 use Rattle.std.specs.Prelude.{◌≡◌, ℕ, Bool, true, false, ◌||◌, List, [], ◌∷◌, ◌++◌, Option, Some, None, Result, Ok, Err}
 use Rattle.std.specs.List.{list_any}
 use Rattle.mesh_base.specs.declared.limits.Limits.{Limits}
@@ -36,13 +36,13 @@ step_of passes.Writes serving = WriteStep serving
 abbrev pub stop_step : Serving → Step
 stop_step serving = StopStep true
 
--- a link has its turn in a pass
+-- a link has a turn in a pass
 abbrev pub has_turn : Serving → List FedRow → Pass → LinkState → Bool
 has_turn serving fed passes.Reads s = may_read serving s
 has_turn serving fed passes.Drains s = may_drain serving fed s
 has_turn serving fed passes.Writes s = may_write s
 
--- The hub holds what these lines lead to after those fed before. Each was marked only if it may be, and a `stop` among them is noted.
+-- The hub applied these lines after those fed before. A line is marked only if it may be, and a `stop` among them is recorded.
 pub record IsFed (config : Config) (limits : Limits) (pat : Pat) (known : PatternsNow) (fed lines : List FedRow) (old new : Turning) : Type 0 where
   pub holds : Holds config limits pat (lines ++ fed) (state_of new.hub.hub)
   pub few : AreFew (rows_fed lines) known.before known.now
@@ -50,13 +50,13 @@ pub record IsFed (config : Config) (limits : Limits) (pat : Pat) (known : Patter
   pub stopped : new.hub.stopped ≡ (old.hub.stopped || list_any (is_stop (serve_of config limits pat)) lines)
   pub same_config : new.hub.config ≡ old.hub.config
 
--- The hub holds what it held, and no line was fed.
+-- The hub is unchanged, and no line was fed.
 pub record StaysFed (old new : Turning) : Type 0 where
   pub holds : (config : Config) (limits : Limits) (pat : Pat) (fed : List FedRow) → Holds config limits pat fed (state_of old.hub.hub) → Holds config limits pat fed (state_of new.hub.hub)
   pub stopped : new.hub.stopped ≡ old.hub.stopped
   pub same_config : new.hub.config ≡ old.hub.config
 
--- the subscription of a link that is this
+-- the subscription of a link with this role
 abbrev pub sub_in : Option Role → Option SubId
 sub_in None = None
 sub_in (Some roles.Opening) = None
@@ -65,19 +65,19 @@ sub_in (Some (roles.Subscriber id)) = Some id
 
 -- ---- work
 
--- A link has work exactly if one of those that the server stands for has.
+-- The result says whether one of the links has work.
 abbrev pub HasWork : Turning → Bool → Type 0
 HasWork now work = (config : Config) (limits : Limits) (pat : Pat) (fed : List FedRow) (links : List LinkState) (trace : List LinkCall) → IsAt config limits pat fed links trace now → work ≡ list_any (has_work (serving_of config limits pat) fed) links
 
 -- ---- a close
 
--- a subscriber's subscription ends; nothing changes of another link's
+-- a subscriber's subscription ends; those of other links are unchanged
 abbrev pub Ends : Role → FedHub → FedHub → Type 0
 Ends roles.Opening old new = new ≡ old
 Ends roles.Feed old new = new ≡ old
 Ends (roles.Subscriber id) old new = CancelsAt id.0 old new
 
--- A link that is open is closed, whatever it became in the turn; its subscription ends, and the others stay.
+-- An open link is closed, whatever its state in the turn; its subscription ends, and the others stay.
 pub record Closes (number : ℕ) (config : Config) (limits : Limits) (pat : Pat) (fed : List FedRow) (done : List LinkState) (s : LinkState) (links : List LinkState) (trace : List LinkCall) (trace_now : Option (List LinkCall)) (new : Turning) : Type 0 where
   pub grew : trace_now ≡ Some (trace ++ calls.Close number ∷ [])
   pub at : (closed : LinkState) → closed.number ≡ number → closed.is_open ≡ false → IsAt config limits pat fed (done ++ closed ∷ links) (trace ++ calls.Close number ∷ []) new
@@ -86,11 +86,11 @@ abbrev pub ClosesAt : ℕ → Option (List LinkCall) → Turning → Option (Lis
 ClosesAt number trace_before old trace_now new = (config : Config) (limits : Limits) (pat : Pat) (fed : List FedRow) (done : List LinkState) (s : LinkState) (links : List LinkState) (trace : List LinkCall)
     → trace_before ≡ Some trace → s.number ≡ number → s.is_open ≡ true → IsAtBut config limits pat fed number (done ++ s ∷ links) trace old → Closes number config limits pat fed done s links trace trace_now new
 
--- a link that is open only while it goes on
+-- a link that stays open only if it goes on
 abbrev pub gone_on : Serving → LinkState → LinkState
 gone_on serving s = record s { is_open = goes_on (phase_in serving s.bytes) s.ended s.outbox }
 
--- A link that is open is closed unless it goes on.
+-- An open link is closed unless it goes on.
 pub record Settles (config : Config) (limits : Limits) (pat : Pat) (fed : List FedRow) (done : List LinkState) (s : LinkState) (links : List LinkState) (trace : List LinkCall) (trace_now : Option (List LinkCall)) (new : Turning) : Type 0 where
   pub grew : trace_now ≡ Some (trace ++ closing s (gone_on (serving_of config limits pat) s))
   pub at : IsAt config limits pat fed (done ++ gone_on (serving_of config limits pat) s ∷ links) (trace ++ closing s (gone_on (serving_of config limits pat) s)) new
@@ -101,13 +101,13 @@ SettlesAt number trace_before old trace_now new = (config : Config) (limits : Li
 
 -- ---- one link
 
--- the step of the link between these others, and what is kept then
+-- the step of the link, with these links before and after it, and the state after it
 pub record IsStepped (step : Step) (config : Config) (limits : Limits) (pat : Pat) (fed : List FedRow) (done : List LinkState) (s : LinkState) (links : List LinkState) (trace made : List LinkCall) (now : List FedRow) (new : Turning) : Type 0 where
   pub after : LinkState
   pub stepped : step (done ++ links) fed s made now after
   pub at : IsAt config limits pat now (done ++ after ∷ links) (trace ++ made) new
 
--- The trace grew by the calls of a step of the link. Which links the server keeps is known where it is told which patterns match.
+-- The trace grew by the calls of a step of the link. The links of the server are known if it is known which patterns match.
 pub record Steps (pass : Pass) (number : ℕ) (config : Config) (limits : Limits) (pat : Pat) (known : PatternsNow) (fed : List FedRow) (trace : List LinkCall) (trace_now : Option (List LinkCall)) (old new : Turning) : Type 0 where
   pub lines : List FedRow
   pub made : List LinkCall
@@ -121,7 +121,7 @@ abbrev pub AreUnmarked : List FedRow → Type 0
 AreUnmarked [] = Unit {0}
 AreUnmarked (f ∷ lines) = (f.row.1 ≡ None) × AreUnmarked lines
 
--- Some step begins with these calls; the lines that it feeds besides these, which memory was not left for, met no fault.
+-- Some step begins with these calls. The lines fed in it that were not applied for lack of memory met no fault.
 pub record IsBegun (step : Step) (others : List LinkState) (fed : List FedRow) (s : LinkState) (made : List LinkCall) (now : List FedRow) : Type 0 where
   pub more : List LinkCall
   pub rest : List FedRow
@@ -143,7 +143,7 @@ abbrev pub StepsBy : Pass → ℕ → Config → Limits → Pat → PatternsNow 
 StepsBy pass number config limits pat known fed trace (Ok done) trace_now old new = Steps pass number config limits pat known fed trace trace_now old new
 StepsBy pass number config limits pat known fed trace (Err memory) trace_now old new = Begins pass number config limits pat known fed trace trace_now old
 
--- A server that holds what was fed takes a step of the link, whatever lines and faults of patterns the trace is told by.
+-- A server that represents what was fed takes a step of the link, whatever lines and pattern faults account for the trace.
 abbrev pub TakesStep : Pass → ℕ → PatternsNow → Option (List LinkCall) → Turning → Result (Unit {0}) Memory → Option (List LinkCall) → Turning → Type 0
 TakesStep pass number known trace_before old result trace_now new = (config : Config) (limits : Limits) (pat : Pat) (fed : List FedRow) (trace : List LinkCall)
     → trace_before ≡ Some trace → Holds config limits pat fed (state_of old.hub.hub) → old.hub.config ≡ config → StepsBy pass number config limits pat known fed trace result trace_now old new
@@ -183,7 +183,7 @@ abbrev pub PassesBy : (Serving → Step) → Config → Limits → Pat → Patte
 PassesBy step config limits pat known fed trace (Ok done) trace_now old new = Passes step config limits pat known fed trace trace_now old new
 PassesBy step config limits pat known fed trace (Err memory) trace_now old new = PassBegins step config limits pat known fed trace trace_now old
 
--- A server takes a step with each link that has its turn, in the order of their numbers.
+-- A server takes a step of each link that has a turn, in the order of their numbers.
 abbrev pub TakesPass : (Serving → Step) → PatternsNow → Option (List LinkCall) → Turning → Result (Unit {0}) Memory → Option (List LinkCall) → Turning → Type 0
 TakesPass step known trace_before old result trace_now new = (config : Config) (limits : Limits) (pat : Pat) (fed : List FedRow) (trace : List LinkCall)
     → trace_before ≡ Some trace → Holds config limits pat fed (state_of old.hub.hub) → old.hub.config ≡ config → PassesBy step config limits pat known fed trace result trace_now old new

@@ -1,4 +1,4 @@
--- What a turn of a server makes of the trace of its links.
+-- The effect of a turn of a server on the trace of its links.
 use Rattle.std.specs.Prelude.{◌≡◌, false, List, [], ◌∷◌, ◌++◌, Option, Some, None, Result, Ok, Err}
 use Rattle.std.specs.List.{list_any}
 use Rattle.mesh_base.specs.declared.limits.Limits.{Limits}
@@ -32,7 +32,7 @@ use Rattle.fed_hub.specs.LineSteps.{Holds}
 
 -- ---- the reads, the drains and the writes
 
--- Each link has its read, and then its drain, and then its write. Only reads feed lines.
+-- Each link has its read, then each its drain, then each its write. Only reads feed lines.
 pub record AreServed (serving : Serving) (fed : List FedRow) (links : List LinkState) (made : List LinkCall) (now : List FedRow) (after : List LinkState) : Type 0 where
   pub reads : List LinkCall
   pub drains : List LinkCall
@@ -56,7 +56,7 @@ pub record ServesAll (config : Config) (limits : Limits) (pat : Pat) (known : Pa
   pub is_fed : IsFed config limits pat known fed lines old new
   pub serves : IsTold (serve_of config limits pat) known.tells (rows_fed lines) → (links : List LinkState) → IsAt config limits pat fed links trace old → IsServedTo config limits pat fed lines links trace made new
 
--- the calls so far are the first of some
+-- the calls so far are the first ones of such passes
 pub record IsServiceBegun (serving : Serving) (fed : List FedRow) (links : List LinkState) (made : List LinkCall) (now : List FedRow) : Type 0 where
   pub more : List LinkCall
   pub rest : List FedRow
@@ -80,9 +80,9 @@ abbrev pub ServesLinks : PatternsNow → Option (List LinkCall) → Turning → 
 ServesLinks known trace_before old result trace_now new = (config : Config) (limits : Limits) (pat : Pat) (fed : List FedRow) (trace : List LinkCall)
     → trace_before ≡ Some trace → Holds config limits pat fed (state_of old.hub.hub) → old.hub.config ≡ config → ServesBy config limits pat known fed trace result trace_now old new
 
--- ---- what follows a poll
+-- ---- the calls after a poll
 
--- The calls after a poll that showed these events, and what the server stands for then.
+-- The calls after a poll that reported these events, and the state of the server then.
 pub record Follows (config : Config) (limits : Limits) (pat : Pat) (shown : List LinkEvent) (fed lines : List FedRow) (links : List LinkState) (trace made : List LinkCall) (new : Turning) : Type 0 where
   pub after : List LinkState
   pub is : AfterPoll (serving_of config limits pat) false (Some shown) fed links made (lines ++ fed) after
@@ -122,8 +122,8 @@ GoesOnFrom known shown trace_before old result trace_now new = (config : Config)
 
 -- ---- a turn
 
--- A turn that may come next made these calls and fed these lines, and the server stands for what it leads to. Its poll gave a list,
--- in which each new link has a number above all earlier ones.
+-- A turn that may come next made these calls and fed these lines, and the server represents the links and lines after it. Its poll
+-- returned a list, in which each new link has a number above all earlier ones.
 pub record IsTaken (config : Config) (limits : Limits) (pat : Pat) (known : PatternsNow) (fed lines : List FedRow) (links : List LinkState) (trace made : List LinkCall) (new : Turning) : Type 0 where
   pub round : Turn
   pub shown : List LinkEvent
@@ -134,8 +134,8 @@ pub record IsTaken (config : Config) (limits : Limits) (pat : Pat) (known : Patt
   pub next : IsNext (serving_of config limits pat) (facts_in known) fed links round
   pub at : IsAt config limits pat (lines ++ fed) (opened round.links) (trace ++ made) new
 
--- The trace grew by exactly the calls of one whole turn, for which the server stands now, where it is told which patterns match. It
--- stopped exactly where a `stop` line was accepted in the turn.
+-- The trace grew by exactly the calls of one whole turn, and the server represents the state after it, if it is known which patterns
+-- match. It stopped exactly if a `stop` line was accepted in the turn.
 pub record Takes (config : Config) (limits : Limits) (pat : Pat) (known : PatternsNow) (fed : List FedRow) (links : List LinkState) (trace : List LinkCall) (answer : Answer) (trace_now : Option (List LinkCall)) (new : Turning) : Type 0 where
   pub lines : List FedRow
   pub made : List LinkCall
@@ -149,8 +149,8 @@ pub record FailsPoll (config : Config) (limits : Limits) (pat : Pat) (fed : List
   pub grew : trace_now ≡ Some (trace ++ calls.Poll (waits (serving_of config limits pat) fed links) None ∷ [])
   pub at : IsAt config limits pat fed links (trace ++ calls.Poll (waits (serving_of config limits pat) fed links) None ∷ []) new
 
--- A turn that may come next begins with these calls, of which none is a poll that failed; the lines that it feeds besides these met
--- no fault.
+-- A turn that may come next begins with these calls, none of which is a failed poll. The lines fed in it that were not applied met no
+-- fault.
 pub record IsCut (serving : Serving) (known : PatternsNow) (fed lines : List FedRow) (links : List LinkState) (trace part : List LinkCall) : Type 0 where
   pub round : Turn
   pub polled : round.shown ≡ None → part ≡ []
@@ -175,7 +175,7 @@ TurnsBy config limits pat known fed links trace (Ok answer) trace_now new = Take
 TurnsBy config limits pat known fed links trace (Err faults.Links) trace_now new = FailsPoll config limits pat fed links trace trace_now new
 TurnsBy config limits pat known fed links trace (Err faults.Memory) trace_now new = Cuts config limits pat known fed links trace trace_now
 
--- A server that stands for a lawful trace takes a turn, whatever lines, links and faults of patterns the trace is told by.
+-- A server that represents a lawful trace takes a turn, whatever lines, links and pattern faults account for the trace.
 abbrev pub Turns : PatternsNow → Option (List LinkCall) → Turning → Result Answer ServeFault → Option (List LinkCall) → Turning → Type 0
 Turns known trace_before old result trace_now new = (config : Config) (limits : Limits) (pat : Pat) (fed : List FedRow) (links : List LinkState) (trace : List LinkCall)
     → trace_before ≡ Some trace → IsAt config limits pat fed links trace old → StandsFor (serving_of config limits pat) (facts_in known) trace fed links

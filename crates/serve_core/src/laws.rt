@@ -8,36 +8,36 @@ use serve_rules::laws::{
     due, erasure, failures_close, outboxes_hold_one, places, what_is_owed_is_work,
 };
 
-/// What a server writes on a link is the beginning of what the link is due: the answers to its lines, and the frames of its drains.
-/// If the link is open after whole turns, its outbox is the rest.
+/// States that what a server writes on a link is the beginning of what the link is due: the answers to its lines, and the frames of its
+/// drains. If the link is open after whole turns, its outbox is the rest.
 pub fn what_is_due_is_sent()
     ensures { SendsWhatIsDue }
 {
     due();
 }
 
-/// What a link that is no feed is due depends on the lines fed, on its request and on the places of its drains alone.
+/// States that what a link that is no feed is due depends only on the lines fed, on its request and on the places of its drains.
 pub fn due_by_places()
     ensures { DueIsByPlaces }
 {
     places();
 }
 
-/// What a link that is no feed does or fails to do changes nothing of what any other link is sent, unless a limit is met.
+/// States that a link that is no feed changes nothing of what any other link is sent, whatever it does, unless a limit is reached.
 pub fn a_link_left_out_changes_nothing_else()
     ensures { OthersStay }
 {
     erasure();
 }
 
-/// An outbox has the rest of one batch, or of the answers of one read.
+/// States that an outbox has the rest of one batch, or of the answers to one read.
 pub fn each_outbox_holds_one()
     ensures { OutboxesHoldOneOf }
 {
     outboxes_hold_one();
 }
 
-/// No poll waits while a link is owed bytes that may be written.
+/// States that no poll waits while a link has bytes that may be written.
 pub fn no_poll_waits_for_what_is_owed()
     ensures { WaitsForNoneThatIsOwed }
 {
@@ -48,14 +48,14 @@ pub fn no_poll_waits_for_what_is_owed()
     held_at_their_keys();
 }
 
-/// A link whose read or write fails is closed by the next call.
+/// States that a link whose read or write fails is closed by the next call.
 pub fn each_failure_closes()
     ensures { EachFailureCloses }
 {
     failures_close();
 }
 
-/// At each place of a turn where a link may be closed, it is closed exactly for the causes of that place, by the next call.
+/// States that at each point of a turn where a link may be closed, it is closed exactly for the causes of that point, by the next call.
 pub fn each_close_has_its_cause()
     ensures { EachCloseHasItsCause }
 {}

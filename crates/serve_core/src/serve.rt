@@ -18,7 +18,7 @@ use std::sync::Wait;
 pub enum ServeStatus {
     /// A `stop` line was accepted.
     Stopped,
-    /// There was no memory.
+    /// Memory ran out.
     Memory,
     /// A poll failed.
     LinksFault,

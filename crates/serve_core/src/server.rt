@@ -35,7 +35,7 @@ pub enum Turn {
 /// Why a turn ended early.
 #[derive(Clone, Copy, Debug, PartialEq, Eq)]
 pub enum ServeFault {
-    /// There was no memory. Each further turn returns this, without a call.
+    /// Memory ran out. Each further turn returns this, without a call.
     Memory,
     /// The poll failed.
     Links,
@@ -45,12 +45,12 @@ pub enum ServeFault {
 #[derive(Drop)]
 pub struct Server {
     turning: Turning,
-    /// Memory ran out once.
+    /// Whether memory ran out once.
     spent: bool,
 }
 
 impl Server {
-    /// A server that has no links, holds nothing, and is asked for nothing.
+    /// Creates a server without links, objects and subscriptions.
     pub fn new(alloc: Global, config: Config, limits: Limits) -> Result<Server, Memory>
         requires { 1 ≤ limits.frame_addrs }
         ensures going { IfOk result (λ server. server.spent ≡ false) }
@@ -71,7 +71,7 @@ impl Server {
         })
     }
 
-    /// Takes one turn: a poll, which waits if no link has work, then a read, a drain and a write of each link that has its turn.
+    /// Takes one turn: a poll, which waits if no link has work, then a read, a drain and a write of each link that has a turn.
     #[tactic(auto, using(crate::proofs::CallSteps::no_turn, feed_history::specs::KnownPatterns::goes_on_here))]
     pub fn turn<N: Links, P: Patterns>(
         &mut self,
@@ -138,7 +138,7 @@ impl Turning {
         }
     }
 
-    // What follows a poll that showed these events.
+    // The rest of a turn after a poll that reported these events.
     fn go_on<N: Links, P: Patterns>(
         &mut self,
         links: &mut N,
@@ -163,7 +163,7 @@ impl Turning {
         Ok(Turn::Stopped)
     }
 
-    // Reads, drains and writes each link that has its turn.
+    // Reads, drains and writes each link that has a turn.
     fn pass_over<N: Links, P: Patterns>(
         &mut self,
         links: &mut N,

@@ -1,4 +1,4 @@
-// What a turn does with one link, and with each link in their order.
+// The actions of a turn on one link, and on all links in the order of their numbers.
 ghost use Rattle.std.specs.Prelude.{◌≡◌, ◌≤◌, ◌<◌, ◌^◌, ℕ, Bool, List as TheList, Ok, Option as TheOption, None, option_map, IfOk, IfSome, OnOk};
 ghost use Rattle.route_match.specs.Matching.{Pat};
 ghost use Rattle.mesh_links.specs.Calls.{Continues, close_made};
@@ -34,7 +34,7 @@ use view_types::query::Query;
 /// The most bytes of one read.
 const ROOM: usize = 16384;
 
-/// What is done with each link that has its turn.
+/// What is done with each link that has a turn.
 #[derive(Clone, Copy, Debug, PartialEq, Eq)]
 pub(crate) enum Pass {
     Reads,
@@ -42,7 +42,7 @@ pub(crate) enum Pass {
     Writes,
 }
 
-/// What a server keeps while memory has not run out.
+/// The state of a server while memory has not run out.
 #[derive(Drop)]
 pub(crate) struct Turning {
     pub(crate) alloc: Global,
@@ -54,7 +54,7 @@ pub(crate) struct Turning {
     pub(crate) to_drain: BTreeSet<u32>,
 }
 
-// Ends the subscription of a link that was this.
+// Ends the subscription of a link that had this role.
 fn end_subscription(hub: &mut FedHub, role: Role)
     ensures ends { Ends role hub.old hub.new }
     ensures stopped { hub.new.stopped ≡ hub.old.stopped }
@@ -64,7 +64,7 @@ fn end_subscription(hub: &mut FedHub, role: Role)
     }
 }
 
-// Whether a drain of one of these subscriptions has its turn.
+// Whether one of these subscriptions is to be drained.
 fn drains_any(kept: &OpenLinks, ids: &[SubId]) -> bool
     ensures { IsSettled kept.now
         → IsAnyOf (passes_at (drains_among ids.now) (entries_of kept.now)) result }
@@ -77,7 +77,7 @@ fn drains_any(kept: &OpenLinks, ids: &[SubId]) -> bool
     false
 }
 
-// Adds the links of these subscriptions of which a drain has its turn.
+// Adds the links of those of these subscriptions that are to be drained.
 fn find_drains(kept: &OpenLinks, ids: &[SubId], numbers: &mut BTreeSet<u32>) -> Result<(), Memory>
     ensures { OnOk result (IsSettled kept.now
         → IsFoundAmong kept.now ids.now numbers.old numbers.new) }
@@ -88,7 +88,7 @@ fn find_drains(kept: &OpenLinks, ids: &[SubId], numbers: &mut BTreeSet<u32>) -> 
     Ok(())
 }
 
-// Puts a number that was found into a set.
+// Inserts a number, if there is one, into a set.
 fn put_in(numbers: &mut BTreeSet<u32>, found: Option<u32>) -> Result<(), Memory>
     ensures { OnOk result (IsPutIn found numbers.old numbers.new) }
 {
@@ -119,7 +119,7 @@ impl Turning {
 
     // ---- the events of a poll
 
-    /// Notes what a poll has shown.
+    /// Records the events of a poll.
     #[tactic(auto, using(crate::proofs::CallSteps::new_closes, crate::proofs::CallSteps::no_new))]
     pub(crate) fn show_all<N: Links>(
         &mut self,
@@ -150,7 +150,7 @@ impl Turning {
         }
     }
 
-    // Opens a new link, or closes it if as many are open as may be.
+    // Opens a new link, or closes it if the limit on links is reached.
     fn admit<N: Links>(&mut self, links: &mut N, number: u32) -> Result<(), Memory>
         ensures calls { Calls N.Links AllCloses links.old links.new }
         ensures shows { Shows (LinkEvent.New number) (N.trace links.old) self.old result
@@ -167,7 +167,7 @@ impl Turning {
 
     // ---- the passes
 
-    /// Takes a step with each link that has its turn, in the order of their numbers.
+    /// Takes a step of each link that has a turn, in the order of their numbers.
     pub(crate) fn each<N: Links, P: Patterns>(
         &mut self,
         pass: Pass,
@@ -191,7 +191,7 @@ impl Turning {
         Ok(())
     }
 
-    // The first link from a number on that has its turn.
+    // Returns the first link from a number on that has a turn.
     fn next(&self, pass: Pass, from: u32) -> Option<u32>
         ensures later { IfSome result (λ number. from ≤ number) }
         ensures first { IsSettled self.now.kept
@@ -322,7 +322,7 @@ impl Turning {
         }
     }
 
-    // Takes a piece of a link's bytes; the empty piece is their end. Returns whether they have no fault and meet no limit.
+    // Processes a piece of a link's bytes; the empty piece is their end. Returns whether they have no fault and reach no limit.
     fn hear<P: Patterns>(
         &mut self,
         patterns: &mut P,
@@ -341,7 +341,7 @@ impl Turning {
         }
     }
 
-    // Does what a link asks for, and puts the answers into its outbox. Returns whether no limit is met.
+    // Carries out the requests of a link, and puts the answers into its outbox. Returns whether no limit is reached.
     #[tactic(auto, using(feed_history::specs::KnownPatterns::goes_on_further, feed_history::specs::KnownPatterns::goes_on_here))]
     fn take_asks<P: Patterns>(
         &mut self,
@@ -396,7 +396,7 @@ impl Turning {
         }
     }
 
-    // Subscribes a link, unless as many are subscribed as may be.
+    // Subscribes a link, unless the limit on subscriptions is reached. Returns whether it did.
     fn subscribe(&mut self, number: u32, query: Query) -> Result<bool, Memory>
         ensures drains { OnOk result (self.new.to_drain ≡ self.old.to_drain) }
         ensures subscribes { IfOk result (λ goes. SubscribesBy number query self.old goes self.new) }
@@ -422,7 +422,7 @@ impl Turning {
         find_drains(&self.kept, self.hub.due(), &mut self.to_drain)
     }
 
-    // The subscription of a link.
+    // Returns the subscription of a link.
     fn subscription(&self, number: u32) -> Option<SubId>
         ensures { result ≡ sub_in (option_map (λ link. link.role)
             (link_at number (entries_of self.now.kept))) }

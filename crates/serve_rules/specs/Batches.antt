@@ -1,4 +1,4 @@
--- What a subscriber is sent by a drain, and when it is due. A place is a number of lines fed.
+-- What a drain sends a subscriber, and when the subscriber is due. A place is a number of lines fed.
 use Rattle.std.specs.Prelude.{ℕ, Bool, true, false, ◌&&◌, ◌||◌, List, [], ◌∷◌, Option, Some, None, length, nat_le, option_map}
 use Rattle.view_types.specs.Objects.{ObjectMap}
 use Rattle.view_types.specs.declared.message.Message.{Message}
@@ -10,16 +10,16 @@ use Rattle.feed_history.specs.Marks.{MarkedRow}
 use Rattle.feed_history.specs.Program.{Program}
 use Rattle.serve_rules.specs.FedLines.{FedRow, held_after, rows_fed, up_to}
 
--- what a server goes by
+-- the parameters of a server
 pub record Serving : Type 0 where
-  -- what its lines lead to
+  -- the effect of its lines
   pub program : Program
-  -- whether a row, after those before it, touches what a query reads
+  -- whether a row, after the rows before it, touches what a query reads
   pub touches : Query → List MarkedRow → MarkedRow → Bool
 
 -- ---- batches
 
--- the messages from the view over what was held, if a view was shown then, to the view over what is held
+-- the messages from the view over the earlier objects, if one was shown, to the view over the current objects
 abbrev pub messages_between : Program → Query → Option ObjectMap → ObjectMap → List Message
 messages_between program query before now = batch (view_before program.config query before) (view_of program.config now query) program.limits
 
@@ -30,13 +30,13 @@ frames_unless_long (Some bytes) messages = None
 abbrev pub frames_within : Program → List Message → Option (List (List ℕ))
 frames_within program messages = frames_unless_long (too_long program.limits.message messages) messages
 
--- the frames of a drain after these lines, whose previous drain, if any, was at this place; None where a message is too long
+-- the frames of a drain after these lines, whose previous drain, if any, was at this place; None if a message is too long
 unfoldable pub frames_due : Program → Query → Option ℕ → List FedRow → Option (List (List ℕ))
 frames_due program query place fed = frames_within program (messages_between program query (option_map (λ p. held_after program (up_to p fed)) place) (held_after program fed))
 
--- ---- who is due
+-- ---- which subscribers are due
 
--- one of the lines behind a place touches what the query reads
+-- one of the lines after a place touches what the query reads
 abbrev pub is_touched_since : Serving → Query → ℕ → List FedRow → Bool
 is_touched_since serving query place [] = false
 is_touched_since serving query place (f ∷ past) = nat_le place (length past) && (serving.touches query (rows_fed past) f.row || is_touched_since serving query place past)

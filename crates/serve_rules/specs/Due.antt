@@ -31,7 +31,7 @@ written_by k (calls.Close n) = []
 abbrev pub written : ℕ → List LinkCall → List ℕ
 written k made = flat_map (written_by k) made
 
--- ---- the link of a number
+-- ---- the link with a number
 
 abbrev pub find : ℕ → List LinkState → Option LinkState
 find k [] = None
@@ -53,7 +53,7 @@ abbrev pub answers_of : Serving → ℕ → List FedRow → List (List ℕ)
 answers_of serving k [] = []
 answers_of serving k (f ∷ past) = answers_of serving k past ++ (if f.link == k then answer_to serving.program past f else [])
 
--- those that came since this was fed
+-- the answers to the link's lines among those added since
 abbrev pub answered : Serving → ℕ → List FedRow → List FedRow → List (List ℕ)
 answered serving k fed now = drop (length (answers_of serving k fed)) (answers_of serving k now)
 
@@ -69,14 +69,14 @@ abbrev pub frames_for : Serving → Option Query → Option ℕ → List FedRow 
 frames_for serving None d fed = []
 frames_for serving (Some query) d fed = frames_or_none (frames_due serving.program query d fed)
 
--- the frames that a link was put, where the place of its last drain was one and is another
+-- the frames that were put into the outbox of a link, given the places of its last drain before and after
 abbrev pub put : Serving → Option Query → Option ℕ → Option ℕ → List FedRow → List (List ℕ)
 put serving query d None fed = []
 put serving query d (Some p) fed = if is_at d p then [] else frames_for serving query d (up_to p fed)
 
 -- ---- in one turn
 
--- no event shows the link as new
+-- no event reports the link as new
 abbrev pub NoNewEvents : ℕ → List LinkEvent → Type 0
 NoNewEvents k [] = Unit {0}
 NoNewEvents k (events.New n ∷ shown) = ((n == k) ≡ false) × NoNewEvents k shown
@@ -87,12 +87,12 @@ abbrev pub NoNew : ℕ → Option (List LinkEvent) → Type 0
 NoNew k None = Unit {0}
 NoNew k (Some shown) = NoNewEvents k shown
 
--- a link after a turn that began with it in this state
+-- a link after a turn, given its state before the turn
 pub record Served (serving : Serving) (k : ℕ) (fed : List FedRow) (s : LinkState) (r : Turn) : Type 0 where
   pub t : LinkState
   pub found : find k r.links ≡ Some t
   pub once : Once k r.links
-  -- What was written on it and what is left are what was left before, its answers and its frames.
+  -- What was written on it, with what is left, is what was left before, its answers and its frames.
   pub due : written k r.made ++ concat t.outbox ≡ concat s.outbox ++ concat (answered serving k fed r.fed ++ put serving (query_of serving t.bytes) s.drained t.drained r.fed)
 
 abbrev pub Due : Type 0
@@ -113,7 +113,7 @@ abbrev pub query_at : Serving → Option LinkState → Option Query
 query_at serving None = None
 query_at serving (Some s) = query_of serving s.bytes
 
--- the link is open after each turn, and none shows it as new
+-- the link is open after each turn, and none reports it as new
 abbrev pub Stays : ℕ → List Turn → Type 0
 Stays k [] = Unit {0}
 Stays k (r ∷ rounds) = NoNew k r.shown × ((t : LinkState) → find k r.links ≡ Some t → t.is_open ≡ true) × Stays k rounds
@@ -168,7 +168,7 @@ ByPlaces = (serving : Serving) (strict : Bool) (k : ℕ) (fed : List FedRow) (be
     → AreTurns serving strict fed before rounds → Once k before → find k before ≡ Some s → Stays k rounds → NoFeedIn serving k rounds
     → due_items serving k fed s.drained rounds ≡ batches serving (last_query serving k (query_of serving s.bytes) rounds) (fed_in fed rounds) s.drained (places k s.drained rounds)
 
--- ---- places never go back
+-- ---- places never decrease
 
 abbrev pub IsPlaced : Option ℕ → List FedRow → Type 0
 IsPlaced None fed = Unit {0}

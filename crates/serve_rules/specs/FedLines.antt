@@ -1,5 +1,4 @@
--- The lines of all feeds in the order in which they were applied, the newest first; what they lead to, and what each is
--- answered.
+-- The lines of all feeds in the order in which they were applied, the newest first; their effect, and the answers to them.
 use Rattle.std.specs.Prelude.{ℕ, ◌-◌, Bool, true, false, List, [], ◌∷◌, ◌++◌, Option, Some, None, Result, Ok, Err, codes, drop, length, map, take}
 use Rattle.std.specs.Fmt.{decimal}
 use Rattle.mesh_base.specs.declared.limits.Limits.{Limits}
@@ -17,7 +16,7 @@ use Rattle.feed_history.specs.Program.{Program, reading}
 use Rattle.feed_history.specs.Text.{refused_line}
 use Rattle.feed_history.specs.declared.refusal.Refusal.{Refusal}
 
--- The server subscribes, drains and cancels for its links; no line of a feed does.
+-- The server subscribes, drains and cancels for its links, so such lines have no place in a feed.
 abbrev pub has_place_in_serve : Line → Bool
 has_place_in_serve lines.Blank = true
 has_place_in_serve (lines.Event event) = true
@@ -39,7 +38,7 @@ pub record FedRow : Type 0 where
 abbrev pub rows_fed : List FedRow → List MarkedRow
 rows_fed fed = map (λ f. f.row) fed
 
--- the first so many of the lines
+-- the oldest of the lines, up to this number of lines
 abbrev pub up_to : ℕ → List FedRow → List FedRow
 up_to place fed = drop (length fed - place) fed
 
@@ -47,7 +46,7 @@ up_to place fed = drop (length fed - place) fed
 abbrev pub lines_since : List FedRow → List FedRow → List FedRow
 lines_since fed now = take (length now - length fed) now
 
--- what is held after these lines
+-- the objects held after these lines
 abbrev pub held_after : Program → List FedRow → ObjectMap
 held_after program fed = (after program (rows_fed fed)).objects
 
@@ -57,7 +56,7 @@ held_after program fed = (after program (rows_fed fed)).objects
 abbrev pub ok_line : ℕ → List ℕ
 ok_line number = codes "ok " ++ (decimal number ++ codes "\n")
 
--- the answer to an accepted line: `ok` for an event and for `stop`, the verdict of a simulation, nothing for a blank line
+-- the answer to an accepted line: `ok` for an event and for `stop`, the verdict for a simulation, nothing for a blank line
 abbrev pub line_answer : Program → ℕ → State → Result Line LineFault → List (List ℕ)
 line_answer program number now (Ok lines.Blank) = []
 line_answer program number now (Ok (lines.Event event)) = ok_line number ∷ []
@@ -72,7 +71,7 @@ abbrev pub row_answer : ℕ → Option Refusal → List (List ℕ) → List (Lis
 row_answer number None answers = answers
 row_answer number (Some refusal) answers = refused_line number refusal ∷ []
 
--- the answer to a line after those before it: its refusal where it is refused; at most one item
+-- the answer to a line after those before it, which is its refusal if it is refused; at most one item
 unfoldable pub answer_to : Program → List FedRow → FedRow → List (List ℕ)
 answer_to program past fed = row_answer fed.number (refusal_after program (rows_fed past) fed.row) (line_answer program fed.number (after program (rows_fed past)) (reading program fed.row))
 

@@ -1,4 +1,4 @@
--- The hub of a server: what it holds is told by what was fed, and its subscriptions by the links.
+-- The hub of a server: its objects are given by what was fed, and its subscriptions by the links.
 use Rattle.std.specs.Prelude.{◌≡◌, ◌<◌, ◌≤◌, ℕ, Bool, true, false, List, [], ◌∷◌, length, Option, Some, None, Result, Ok, Err, option_map}
 use Rattle.mesh_base.specs.declared.sub_id.SubId.{SubId}
 use Rattle.view_types.specs.declared.query.Query.{Query}
@@ -22,7 +22,7 @@ use Rattle.serve_rules.specs.Due.{IsPlaced}
 abbrev pub shown_at : Serving → List FedRow → Query → Option ℕ → Option View
 shown_at serving fed query drained = view_before serving.program.config query (option_map (λ p. held_after serving.program (up_to p fed)) drained)
 
--- its subscription in the hub, whose id tells which request it was
+-- its subscription in the hub, whose id is the number of its request
 abbrev pub sub_of : Serving → List FedRow → ℕ → Query → Option ℕ → LiveSubscription
 sub_of serving fed id query drained = record { id = record { 0 = id }; query = query; shown = shown_at serving fed query drained }
 
@@ -35,19 +35,19 @@ abbrev pub AreLive : Serving → List FedRow → (ℕ → ℕ) → List LiveSubs
 AreLive serving fed id_of all [] = Unit {0}
 AreLive serving fed id_of all (s ∷ ss) = (s.is_open ≡ true → IsLiveFor serving fed all (id_of s.number) s.drained (query_of serving s.bytes)) × AreLive serving fed id_of all ss
 
--- the hub that a server has when these lines were fed and these links are there, each with the id of its request
+-- the hub of a server after these lines were fed, with these links, each with the id of its request
 pub record IsHubOf (serving : Serving) (fed : List FedRow) (links : List LinkState) (id_of : ℕ → ℕ) (hub : HubState) : Type 0 where
   pub config : hub.config ≡ serving.program.config
   pub limits : hub.limits ≡ serving.program.limits
   pub objects : hub.objects ≡ held_after serving.program fed
   pub going : hub.spent ≡ false
   pub live : AreLive serving fed id_of hub.subs links
-  -- and there is no other
+  -- and there is no other subscription
   pub count : length hub.subs ≡ subs serving links
 
--- ---- what a hub answers
+-- ---- the results of a hub
 
--- the frames of a drain, or that one is too long
+-- the frames of a drain, or None if a message is too long
 abbrev pub IsDrainOf : Option (List (List ℕ)) → Result (List (List ℕ)) HubFault → Type 0
 IsDrainOf due (Ok frames) = due ≡ Some frames
 IsDrainOf due (Err (faults.Oversize bytes)) = due ≡ None
@@ -57,13 +57,13 @@ IsDrainOf due (Err (faults.TooManySubs live)) = ⊥
 IsDrainOf due (Err (faults.IdOrder last)) = ⊥
 IsDrainOf due (Err (faults.NoSuchId id)) = ⊥
 
--- A drain of a live subscriber answers its frames.
+-- A drain of a live subscriber returns the frames that are due.
 abbrev pub DrainsAsDue : Type 0
 DrainsAsDue = (serving : Serving) (fed : List FedRow) (hub : HubState) (id : ℕ) (query : Query) (drained : Option ℕ)
     → hub.config ≡ serving.program.config → hub.limits ≡ serving.program.limits → hub.objects ≡ held_after serving.program fed → IsLiveFor serving fed hub.subs id drained (Some query)
     → IsDrainOf (frames_due serving.program query drained fed) (frames_at hub id)
 
--- What a subscriber was shown stays while more is fed.
+-- What a subscriber was shown stays the same while more is fed.
 abbrev pub ShownStays : Type 0
 ShownStays = (serving : Serving) (fed : List FedRow) (f : FedRow) (query : Query) (drained : Option ℕ) → IsPlaced drained fed → shown_at serving (f ∷ fed) query drained ≡ shown_at serving fed query drained
 

@@ -35,7 +35,7 @@ call_without k (calls.Close n) = if n == k then [] else calls.Close n ∷ []
 abbrev pub calls_without : ℕ → List LinkCall → List LinkCall
 calls_without k made = flat_map (call_without k) made
 
--- what is left of a turn: what was fed stays as it is
+-- a turn without the link; what was fed stays the same
 abbrev pub round_without : ℕ → Turn → Turn
 round_without k r = record { waited = r.waited; shown = shown_without k r.shown; made = calls_without k r.made; fed = r.fed; links = without k r.links }
 
@@ -44,7 +44,7 @@ abbrev pub NoFeed : Serving → ℕ → List LinkState → Type 0
 NoFeed serving k [] = Unit {0}
 NoFeed serving k (s ∷ ss) = ((s.number == k) ≡ true → is_feed serving s.bytes ≡ false) × NoFeed serving k ss
 
--- A turn in which no limit was met is still a turn without one link that is no feed after it, except for whether its poll waits.
+-- A turn in which no limit was reached is still a turn without one link that is no feed after it, except for whether its poll waits.
 abbrev pub Erasure : Type 0
 Erasure = (serving : Serving) (k : ℕ) (fed : List FedRow) (before : List LinkState) (r : Turn) → IsTurn serving true fed before r → NoFeed serving k r.links → IsTurn serving true fed (without k before) (round_without k r)
 
@@ -52,10 +52,10 @@ abbrev pub NeverFeed : Serving → ℕ → List Turn → Type 0
 NeverFeed serving k [] = Unit {0}
 NeverFeed serving k (r ∷ rounds) = NoFeed serving k r.links × NeverFeed serving k rounds
 
--- The same holds of a list of turns.
+-- The same for a list of turns.
 abbrev pub TraceErasure : Type 0
 TraceErasure = (serving : Serving) (k : ℕ) (fed : List FedRow) (before : List LinkState) (rounds : List Turn) → AreTurns serving true fed before rounds → NeverFeed serving k rounds → AreTurns serving true fed (without k before) (map (round_without k) rounds)
 
--- A turn in which no limit was met is a turn where limits may be met.
+-- A turn in which no limit was reached is a turn under the rules that allow limits to be reached.
 abbrev pub StrictTurnsAreTurns : Type 0
 StrictTurnsAreTurns = (serving : Serving) (fed : List FedRow) (before : List LinkState) (r : Turn) → IsTurn serving true fed before r → IsTurn serving false fed before r

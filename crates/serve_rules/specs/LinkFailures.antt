@@ -12,7 +12,7 @@ use Rattle.serve_rules.specs.LinkStates.{LinkState, closed}
 use Rattle.serve_rules.specs.Turns.{ReadStep, Turn, IsTurn, WriteStep, room}
 use Rattle.serve_rules.specs.Due.{NoNew, Once, find}
 
--- The link is closed by the next call, nothing is fed, and of the link nothing else changes.
+-- The link is closed by the next call, nothing is fed, and nothing else of the link changes.
 pub record IsClosedAlone (fed : List FedRow) (s : LinkState) (rest : List LinkCall) (now : List FedRow) (t : LinkState) : Type 0 where
   pub closes : rest ≡ calls.Close s.number ∷ []
   pub fed_now : now ≡ fed
@@ -42,7 +42,7 @@ is_failure k (calls.Close n) = false
 abbrev pub has_failed : ℕ → List LinkCall → Bool
 has_failed k made = list_any (is_failure k) made
 
--- A link that fails in a turn isn't open after it.
+-- A link that fails in a turn is not open after it.
 abbrev pub FailureCloses : Type 0
 FailureCloses = (serving : Serving) (strict : Bool) (k : ℕ) (fed : List FedRow) (before : List LinkState) (r : Turn) (s : LinkState)
     → IsTurn serving strict fed before r → NoNew k r.shown → Once k before → find k before ≡ Some s → has_failed k r.made ≡ true

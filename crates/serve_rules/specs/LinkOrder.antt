@@ -1,4 +1,4 @@
--- Links stand in the order of their numbers.
+-- Links are in the order of their numbers.
 use Rattle.std.specs.Prelude.{◌<◌, ◌≤◌, ℕ, Bool, List, [], ◌∷◌, Option, Some, None}
 use Rattle.mesh_links.specs.Calls.{AreAbove, last_of_events}
 use Rattle.mesh_links.specs.declared.call.LinkEvent.{LinkEvent}
@@ -21,7 +21,7 @@ abbrev pub last_shown : ℕ → Option (List LinkEvent) → ℕ
 last_shown last None = last
 last_shown last (Some shown) = last_of_events last shown
 
--- each link that is shown as new has a number above all earlier ones
+-- each link that is reported as new has a number above all earlier ones
 abbrev pub NumbersRise : ℕ → List Turn → Type 0
 NumbersRise last [] = Unit {0}
 NumbersRise last (r ∷ rounds) = AreAboveIn last r.shown × NumbersRise (last_shown last r.shown) rounds
@@ -30,7 +30,7 @@ abbrev pub last_number : ℕ → List Turn → ℕ
 last_number last [] = last
 last_number last (r ∷ rounds) = last_number (last_shown last r.shown) rounds
 
--- So each step of a turn is done in the order of the numbers.
+-- So each step of a turn is taken in the order of the numbers.
 abbrev pub LinksAscend : Type 0
 LinksAscend = (serving : Serving) (strict : Bool) (fed : List FedRow) (before : List LinkState) (rounds : List Turn) (last : ℕ) → AreTurns serving strict fed before rounds → AreBetween 0 before last → NumbersRise last rounds
     → AreBetween 0 (links_in before rounds) (last_number last rounds)

@@ -1,4 +1,4 @@
--- The state of a link, and what each answer makes of it.
+-- The state of a link, and the effect of each result of a call on it.
 use Rattle.std.specs.Prelude.{ℕ, ◌+◌, Bool, true, false, not, ◌&&◌, ◌||◌, if◌then◌else◌, List, [], ◌∷◌, ◌++◌, length, drop, Option, Some, None, is_some, Result, is_ok, nat_lt}
 use Rattle.std.specs.List.{sum_by}
 use Rattle.line_run.specs.Rows.{Row}
@@ -17,8 +17,8 @@ use Rattle.session_core.specs.declared.session.SessionFault.{SessionFault}
 use Rattle.serve_rules.specs.FedLines.{FedRow, answer_to}
 use Rattle.serve_rules.specs.Batches.{Serving, frames_due, is_due_since}
 
--- A link: whether it is open; whether a read and a write may answer something else than Pending; whether its input has ended;
--- its bytes so far; its outbox; and how many lines had been fed at its last drain, if it was drained.
+-- A link: whether it is open; whether a read and a write may return something other than Pending; whether its input has ended; its bytes so
+-- far; its outbox; and how many lines had been fed at its last drain, if it was drained.
 pub record LinkState : Type 0 where
   pub number : ℕ
   pub is_open : Bool
@@ -39,7 +39,7 @@ abbrev pub is_empty : {A : Type 0} → List A → Bool
 is_empty [] = true
 is_empty (x ∷ xs) = false
 
--- ---- what its bytes come to
+-- ---- the contents of its bytes
 
 abbrev pub phase_in : Serving → List ℕ → Result Phase SessionFault
 phase_in serving bytes = phase_of serving.program.config serving.program.limits bytes
@@ -81,11 +81,11 @@ subs serving all = sum_by (one_sub serving) all
 abbrev pub may_read : Serving → LinkState → Bool
 may_read serving s = s.is_open && (s.readable && (not s.ended && (not (is_feed serving s.bytes) || is_empty s.outbox)))
 
--- a link that has become a feed (a subscriber) is within the limit, beside so many others
+-- a link that has become a feed (or a subscriber) is within the limit, given this number of others
 abbrev pub within : ℕ → ℕ → Bool → Bool → Bool
 within limit others was now = was || (not now || nat_lt others limit)
 
--- the limits admit what a link has come to, beside so many feeds and subscriptions of other links
+-- the limits admit the new phase of a link, given the numbers of feeds and subscriptions of other links
 abbrev pub admits_by : Limits → ℕ → ℕ → Result Phase SessionFault → Result Phase SessionFault → Bool
 admits_by limits other_feeds other_subs was now = within limits.feeds other_feeds (is_feeding was) (is_feeding now) && within limits.subs other_subs (is_some (query_in was)) (is_some (query_in now))
 
@@ -94,27 +94,27 @@ admits serving others old (reads.Bytes piece) = admits_by serving.program.limits
 admits serving others old reads.Pending = true
 admits serving others old reads.Failed = true
 
--- the rows that a link's bytes come to
+-- the rows in a link's bytes
 abbrev pub rows_by : Serving → Bool → List ℕ → List Row
 rows_by serving ended bytes = rows_in serving.program.limits.line ended (phase_in serving bytes)
 
--- rows of a link as lines numbered from one more than this, with the faults that lines of these numbers met
+-- rows of a link as lines, numbered from the next number, with the faults that the lines with these numbers met
 abbrev pub fed_rows : ℕ → (ℕ → Option SimFault) → ℕ → List Row → List FedRow
 fed_rows link met before [] = []
 fed_rows link met before (row ∷ rows) = record { link = link; number = before + 1; row = (row, met (before + 1)) } ∷ fed_rows link met (before + 1) rows
 
--- the lines that become whole with a piece; the empty piece is the end of the input
+-- the lines that a piece completes; the empty piece is the end of the input
 unfoldable pub came : Serving → (ℕ → Option SimFault) → LinkState → List ℕ → List FedRow
 came serving met s piece =
     let before = length (rows_by serving false s.bytes) in
     fed_rows s.number met before (drop before (rows_by serving (is_empty piece) (s.bytes ++ piece)))
 
--- what was fed after these lines too
+-- the lines fed before, followed by these lines
 abbrev pub fed_then : List FedRow → List FedRow → List FedRow
 fed_then fed [] = fed
 fed_then fed (f ∷ more) = fed_then (f ∷ fed) more
 
--- what these lines are answered, one after another
+-- the answers to these lines, one after another
 abbrev pub answers_then : Serving → List FedRow → List FedRow → List (List ℕ)
 answers_then serving fed [] = []
 answers_then serving fed (f ∷ more) = answer_to serving.program fed f ++ answers_then serving (f ∷ fed) more
@@ -153,7 +153,7 @@ is_due serving fed s = is_due_for serving fed s.drained (query_of serving s.byte
 abbrev pub may_drain : Serving → List FedRow → LinkState → Bool
 may_drain serving fed s = s.is_open && (s.writable && (is_empty s.outbox && is_due serving fed s))
 
--- The frames of a drain go into the outbox. Where a message is too long, the link is closed.
+-- The frames of a drain are put into the outbox. If a message is too long, the link is closed.
 abbrev pub filled : List FedRow → LinkState → Option (List (List ℕ)) → LinkState
 filled fed s None = closed s
 filled fed s (Some frames) = record s { outbox = frames; drained = Some (length fed) }

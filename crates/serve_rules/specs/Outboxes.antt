@@ -1,4 +1,4 @@
--- An outbox holds what is left of one batch, or of the answers of one read.
+-- An outbox has the rest of one batch, or of the answers to one read.
 use Rattle.std.specs.Prelude.{◌≡◌, ◌⊎◌, ℕ, Bool, true, false, List, [], ◌∷◌, ◌++◌, Option, Some, None}
 use Rattle.std.specs.List.{concat}
 use Rattle.view_types.specs.declared.query.Query.{Query}
@@ -16,7 +16,7 @@ pub record AreOneBatch (serving : Serving) (items : List (List ℕ)) : Type 0 wh
   pub fed : List FedRow
   pub frames : frames_due serving.program query place fed ≡ Some items
 
--- the answers to the lines that came with a read
+-- the answers to the lines of one read
 pub record AreOneRead (serving : Serving) (items : List (List ℕ)) : Type 0 where
   pub link : LinkState
   pub met : ℕ → Option SimFault
@@ -27,19 +27,19 @@ pub record AreOneRead (serving : Serving) (items : List (List ℕ)) : Type 0 whe
 abbrev pub AreOne : Serving → List (List ℕ) → Type 0
 AreOne serving items = (items ≡ []) ⊎ (AreOneBatch serving items ⊎ AreOneRead serving items)
 
--- what is left of these items, of which the front was written
+-- the rest of these items, the beginning of which was written
 pub record HoldsOne (serving : Serving) (s : LinkState) : Type 0 where
   pub items : List (List ℕ)
   pub front : List ℕ
   pub left : front ++ concat s.outbox ≡ concat items
   pub one : AreOne serving items
-  -- nothing where the link is neither a feed nor a subscriber
+  -- it is empty if the link is neither a feed nor a subscriber
   pub quiet : s.is_open ≡ true → is_feed serving s.bytes ≡ false → query_of serving s.bytes ≡ None → s.outbox ≡ []
 
 abbrev pub EachHoldsOne : Serving → List LinkState → Type 0
 EachHoldsOne serving [] = Unit {0}
 EachHoldsOne serving (s ∷ ss) = HoldsOne serving s × EachHoldsOne serving ss
 
--- So it is after each list of turns.
+-- The same after each list of turns.
 abbrev pub OutboxesHoldOne : Type 0
 OutboxesHoldOne = (serving : Serving) (strict : Bool) (fed : List FedRow) (before : List LinkState) (rounds : List Turn) → AreTurns serving strict fed before rounds → EachHoldsOne serving before → EachHoldsOne serving (links_in before rounds)

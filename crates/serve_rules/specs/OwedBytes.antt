@@ -12,7 +12,7 @@ use Rattle.serve_rules.specs.Due.{IsPlaced}
 abbrev pub view_after : Serving → Query → List FedRow → View
 view_after serving query fed = view_of serving.program.config (held_after serving.program fed) query
 
--- A subscriber is owed a batch where it was never drained, or where its view isn't what it was at its last drain.
+-- A subscriber is owed a batch if it was never drained, or if its view differs from that at its last drain.
 abbrev pub IsOwedBatch : Serving → List FedRow → Option ℕ → Query → Type 0
 IsOwedBatch serving fed None query = Unit {0}
 IsOwedBatch serving fed (Some place) query = view_after serving query (up_to place fed) ≢ view_after serving query fed
@@ -21,7 +21,7 @@ abbrev pub IsOwedFor : Serving → List FedRow → Option ℕ → Option Query �
 IsOwedFor serving fed drained None = ⊥
 IsOwedFor serving fed drained (Some query) = IsOwedBatch serving fed drained query
 
--- An open link is owed bytes where something is left to write, or where it is owed a batch.
+-- An open link is owed bytes if something is left to write, or if it is owed a batch.
 pub record IsOwed (serving : Serving) (fed : List FedRow) (s : LinkState) : Type 0 where
   pub is_open : s.is_open ≡ true
   pub owed : (is_empty s.outbox ≡ false) ⊎ IsOwedFor serving fed s.drained (query_of serving s.bytes)
@@ -30,6 +30,6 @@ pub record IsOwed (serving : Serving) (fed : List FedRow) (s : LinkState) : Type
 abbrev pub ChangesTouch : Serving → Type 0
 ChangesTouch serving = (query : Query) (past : List FedRow) (f : FedRow) → serving.touches query (rows_fed past) f.row ≡ false → view_after serving query (f ∷ past) ≡ view_after serving query past
 
--- A link that is owed bytes, and whose last write wasn't answered `Pending`, has work.
+-- A link that is owed bytes has work, unless its last write returned `Pending`.
 abbrev pub OwedHasWork : Type 0
 OwedHasWork = (serving : Serving) → ChangesTouch serving → (fed : List FedRow) (s : LinkState) → IsPlaced s.drained fed → IsOwed serving fed s → s.writable ≡ true → has_work serving fed s ≡ true

@@ -1,4 +1,4 @@
--- How a turn extends a lawful trace.
+-- The extension of a lawful trace by a turn.
 use Rattle.std.specs.Prelude.{◌≡◌, ℕ, Bool, false, List, [], ◌++◌, Option, Some}
 use Rattle.mesh_links.specs.declared.call.LinkCall.{LinkCall}
 use Rattle.mesh_links.specs.declared.call.LinkEvent.{LinkEvent}
@@ -10,7 +10,7 @@ use Rattle.serve_rules.specs.Turns.{Turn, IsTurn, calls_of}
 use Rattle.serve_rules.specs.Traces.{IsLawful, StandsFor, opened, waits}
 use Rattle.route_match.specs.Asking.{PatternFacts}
 
--- A new server stands for the empty trace.
+-- A new server represents the empty trace.
 abbrev pub BeginsWithNothing : Type 0
 BeginsWithNothing = (serving : Serving) (facts : PatternFacts) → StandsFor serving facts [] [] []
 
@@ -24,12 +24,12 @@ abbrev pub TurnExtends : Type 0
 TurnExtends = (serving : Serving) (facts : PatternFacts) (trace : List LinkCall) (fed : List FedRow) (links : List LinkState) (r : Turn)
     → StandsFor serving facts trace fed links → IsNext serving facts fed links r → StandsFor serving facts (trace ++ calls_of r) r.fed (opened r.links)
 
--- The first calls of a turn extend it to a trace whose last turn is cut.
+-- With the first calls of a turn, the trace becomes one whose last turn is cut short.
 abbrev pub CutExtends : Type 0
 CutExtends = (serving : Serving) (facts : PatternFacts) (trace : List LinkCall) (fed : List FedRow) (links : List LinkState) (r : Turn) (part more : List LinkCall)
     → StandsFor serving facts trace fed links → IsNext serving facts fed links r → calls_of r ≡ part ++ more → IsLawful serving facts (trace ++ part)
 
--- a turn whose poll showed this
+-- a turn whose poll reported these events
 pub record IsPolled (serving : Serving) (fed : List FedRow) (links : List LinkState) (shown : Option (List LinkEvent)) : Type 0 where
   pub round : Turn
   pub wait : round.waited ≡ waits serving fed links
@@ -37,6 +37,6 @@ pub record IsPolled (serving : Serving) (fed : List FedRow) (links : List LinkSt
   pub same : round.fed ≡ fed
   pub turn : IsTurn serving false fed links round
 
--- Whatever a poll shows, some turn that feeds nothing goes on from it.
+-- Whatever a poll reports, some turn that feeds nothing continues from it.
 abbrev pub SomeTurnGoesOn : Type 0
 SomeTurnGoesOn = (serving : Serving) (fed : List FedRow) (links : List LinkState) (shown : Option (List LinkEvent)) → IsPolled serving fed links shown

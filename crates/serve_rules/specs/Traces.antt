@@ -1,4 +1,4 @@
--- Traces of whole turns, of which the last may be cut where memory ran out, and what they lead to.
+-- Traces of whole turns, the last of which may be cut short if memory ran out, and their effect.
 use Rattle.std.specs.Prelude.{◌≡◌, ℕ, Bool, false, not, List, [], ◌∷◌, ◌++◌, Option}
 use Rattle.std.specs.List.{filter, flat_map, list_any}
 use Rattle.mesh_links.specs.declared.call.LinkCall.{LinkCall}
@@ -13,12 +13,12 @@ use Rattle.route_match.specs.Asking.{PatternFacts}
 abbrev pub opened : List LinkState → List LinkState
 opened all = filter (λ s. s.is_open) all
 
--- whole turns, one after the other; the links that a turn leaves open go on
+-- whole turns, one after another; the links that a turn leaves open are those of the next
 abbrev pub AreTurns : Serving → Bool → List FedRow → List LinkState → List Turn → Type 0
 AreTurns serving strict fed before [] = Unit {0}
 AreTurns serving strict fed before (r ∷ rounds) = IsTurn serving strict fed before r × AreTurns serving strict r.fed (opened r.links) rounds
 
--- a poll waits exactly where no link has work
+-- a poll waits exactly if no link has work
 abbrev pub waits : Serving → List FedRow → List LinkState → Bool
 waits serving fed before = not (list_any (has_work serving fed) before)
 
@@ -38,7 +38,7 @@ links_in before (r ∷ rounds) = links_in (opened r.links) rounds
 abbrev pub trace_of : List Turn → List LinkCall
 trace_of rounds = flat_map calls_of rounds
 
--- A trace of whole turns leads from what was fed and the links before it to those after it.
+-- A trace of whole turns, what was fed and the links before it, and what was fed and the links after it.
 pub record Leads (serving : Serving) (fed : List FedRow) (before : List LinkState) (trace : List LinkCall) (now : List FedRow) (after : List LinkState) : Type 0 where
   pub rounds : List Turn
   pub turns : AreTurns serving false fed before rounds
@@ -47,8 +47,8 @@ pub record Leads (serving : Serving) (fed : List FedRow) (before : List LinkStat
   pub fed_is : now ≡ fed_in fed rounds
   pub links_are : after ≡ links_in before rounds
 
--- A trace is lawful where it is one of whole turns, or where more calls would make it one, so that its last turn is cut. A line
--- has a pattern fault only where it simulates a request that may meet it.
+-- A trace is lawful if it is one of whole turns, or if more calls would make it one, so that its last turn is cut short. A line has a
+-- pattern fault only if it simulates a request that may meet it.
 pub record IsLawful (serving : Serving) (facts : PatternFacts) (trace : List LinkCall) : Type 0 where
   pub whole : List LinkCall
   pub part : List LinkCall
@@ -62,7 +62,7 @@ pub record IsLawful (serving : Serving) (facts : PatternFacts) (trace : List Lin
   pub last : Leads serving now after (part ++ more) last_fed last_links
   pub fair : AreFair serving.program facts (rows_fed last_fed)
 
--- The trace of whole turns leads from nothing to what was fed and the links that are open.
+-- The trace of whole turns from the start gives these lines fed and these open links.
 pub record StandsFor (serving : Serving) (facts : PatternFacts) (trace : List LinkCall) (fed : List FedRow) (links : List LinkState) : Type 0 where
   pub leads : Leads serving [] [] trace fed links
   pub fair : AreFair serving.program facts (rows_fed fed)

@@ -13,11 +13,11 @@ use Rattle.serve_rules.specs.FedLines.{FedRow, is_stop, lines_since}
 use Rattle.serve_rules.specs.Batches.{Serving}
 use Rattle.serve_rules.specs.LinkStates.{LinkState, fresh, closed, open_links, may_read, admits, read_to, read_feeds, drain_to, may_write, write_to, closing}
 
--- the room of a read
+-- the buffer size of a read
 abbrev pub room : ℕ
 room = 16384
 
--- Where the law is on turns that meet no limit, this test of a limit holds.
+-- In a law on turns that reach no limit, this test of a limit holds.
 abbrev pub Unmet : Bool → Bool → Type 0
 Unmet true test = test ≡ true
 Unmet false test = Unit {0}
@@ -59,7 +59,7 @@ Events serving strict (e ∷ shown) all made ts = (rest : List LinkCall) × (mad
 abbrev pub Step : Type 1
 Step = List LinkState → List FedRow → LinkState → List LinkCall → List FedRow → LinkState → Type 0
 
--- a step of each link in their order
+-- a step of each link, in the order of the links
 abbrev pub Each : Step → List LinkState → List FedRow → List LinkState → List LinkCall → List FedRow → List LinkState → Type 0
 Each step done fed [] made now [] = (made ≡ []) × (now ≡ fed)
 Each step done fed [] made now (t ∷ ts) = ⊥
@@ -75,7 +75,7 @@ pub record Reads (serving : Serving) (strict : Bool) (others : List LinkState) (
   pub link : t ≡ read_to serving (admits serving others s.bytes got) met fed s got
   pub unmet : Unmet strict (admits serving others s.bytes got)
 
--- nothing is called, and all stays
+-- no call is made, and nothing changes
 pub record Rests (fed : List FedRow) (s : LinkState) (made : List LinkCall) (now : List FedRow) (t : LinkState) : Type 0 where
   pub calls : made ≡ []
   pub fed_now : now ≡ fed
@@ -88,7 +88,7 @@ ReadIf false serving strict others fed s made now t = Rests fed s made now t
 abbrev pub ReadStep : Serving → Bool → Step
 ReadStep serving strict others fed s made now t = ReadIf (may_read serving s) serving strict others fed s made now t
 
--- no call but the close of a link that has become this
+-- no call is made except the close of a link that has become this
 pub record Becomes (fed : List FedRow) (s : LinkState) (made : List LinkCall) (now : List FedRow) (t expected : LinkState) : Type 0 where
   pub calls : made ≡ closing s t
   pub fed_now : now ≡ fed
@@ -110,7 +110,7 @@ WriteIf false serving others fed s made now t = Rests fed s made now t
 abbrev pub WriteStep : Serving → Step
 WriteStep serving others fed s made now t = WriteIf (may_write s) serving others fed s made now t
 
--- where a stop was fed, each link is closed
+-- if a stop was fed, each link is closed
 abbrev pub StopStep : Bool → Step
 StopStep stopped others fed s made now t = Becomes fed s made now t (if stopped then closed s else s)
 
@@ -135,13 +135,13 @@ pub record Passes (serving : Serving) (strict : Bool) (fed : List FedRow) (polle
 
 -- ---- the turn
 
--- What follows a poll that showed these events. A poll that failed ends the turn.
+-- The calls after a poll that reported these events. A poll that failed ends the turn.
 abbrev pub AfterPoll : Serving → Bool → Option (List LinkEvent) → List FedRow → List LinkState → List LinkCall → List FedRow → List LinkState → Type 0
 AfterPoll serving strict None fed before made now after = (made ≡ []) × (now ≡ fed) × (after ≡ before)
 AfterPoll serving strict (Some shown) fed before made now after = (closes : List LinkCall) × (rest : List LinkCall) × (polled : List LinkState) × (made ≡ closes ++ rest) × Events serving strict shown before closes polled × Passes serving strict fed polled rest now after
 
--- a turn: whether its poll waited, the events that it showed, the calls after the poll, all lines fed when it ended, and the
--- links then, with those that it closed
+-- A turn: whether its poll waited, the events that it reported, the calls after the poll, all lines fed when it ended, and the links then,
+-- including those that it closed.
 pub record Turn : Type 0 where
   pub waited : Bool
   pub shown : Option (List LinkEvent)

@@ -1,5 +1,5 @@
--- What was written on a link since the server began, against all that it was due; and what other links see when a link is
--- left out.
+-- What was written on a link since the server began, compared with all that it was due; and what other links are sent if a link is left
+-- out.
 use Rattle.std.specs.Prelude.{◌≡◌, ◌⊎◌, ℕ, ◌==◌, Bool, true, false, List, [], ◌∷◌, ◌++◌, map, Option, Some, None}
 use Rattle.std.specs.List.{concat}
 use Rattle.mesh_links.specs.declared.call.LinkEvent.{LinkEvent}
@@ -13,7 +13,7 @@ use Rattle.serve_rules.specs.Traces.{AreTurns, fed_in, links_in}
 use Rattle.serve_rules.specs.LinkErasure.{round_without}
 use Rattle.serve_rules.specs.Due.{Ascend, NoFeedIn, NoNewEvents, NoNew, all_written, batches, due_items, find, places, query_at}
 
--- the link is shown as new once
+-- the link is reported as new once
 abbrev pub NewOnceEvents : ℕ → List LinkEvent → Type 0
 NewOnceEvents k [] = ⊥
 NewOnceEvents k (events.New n ∷ shown) = (((n == k) ≡ true) × NoNewEvents k shown) ⊎ (((n == k) ≡ false) × NewOnceEvents k shown)
@@ -28,31 +28,30 @@ abbrev pub NeverNew : ℕ → List Turn → Type 0
 NeverNew k [] = Unit {0}
 NeverNew k (r ∷ rounds) = NoNew k r.shown × NeverNew k rounds
 
--- the link is shown as new at most once
+-- the link is reported as new at most once
 abbrev pub NewAtMostOnce : ℕ → List Turn → Type 0
 NewAtMostOnce k [] = Unit {0}
 NewAtMostOnce k (r ∷ rounds) = (NoNew k r.shown × NewAtMostOnce k rounds) ⊎ (NewOnce k r.shown × NeverNew k rounds)
 
--- what was written, and a rest that is due and isn't written; it is the outbox of a link that is open
+-- what was written, and a rest that is due and unwritten; if the link is open, the rest is its outbox
 pub record IsFrontOfDue (written : List ℕ) (due : List (List ℕ)) (k : ℕ) (links : List LinkState) : Type 0 where
   pub rest : List ℕ
   pub joined : written ++ rest ≡ concat due
   pub unwritten : (t : LinkState) → find k links ≡ Some t → rest ≡ concat t.outbox
 
--- What was written on a link is a prefix of its answers and its frames, and all of them where the link is open and its outbox is
--- empty.
+-- What was written on a link is a prefix of its answers and its frames, and all of them if the link is open and its outbox is empty.
 abbrev pub WrittenIsDue : Type 0
 WrittenIsDue = (serving : Serving) (strict : Bool) (k : ℕ) (rounds : List Turn) → AreTurns serving strict [] [] rounds → NewAtMostOnce k rounds
     → IsFrontOfDue (all_written k rounds) (due_items serving k [] None rounds) k (links_in [] rounds)
 
 -- ---- by places
 
--- a query that was asked stays
+-- the query so far, or the current one if there is one
 abbrev pub kept : Option Query → Option Query → Option Query
 kept query None = query
 kept query (Some now) = Some now
 
--- the query that a link asked
+-- the query that a link requested
 abbrev pub asked_query : Serving → ℕ → Option Query → List Turn → Option Query
 asked_query serving k query [] = query
 asked_query serving k query (r ∷ rounds) = asked_query serving k (kept query (query_at serving (find k r.links))) rounds
@@ -62,11 +61,11 @@ abbrev pub DueByPlaces : Type 0
 DueByPlaces = (serving : Serving) (strict : Bool) (k : ℕ) (rounds : List Turn) → AreTurns serving strict [] [] rounds → NewAtMostOnce k rounds → NoFeedIn serving k rounds
     → due_items serving k [] None rounds ≡ batches serving (asked_query serving k None rounds) (fed_in [] rounds) None (places k None rounds)
 
--- The places of a link's drains never go back.
+-- The places of a link's drains never decrease.
 abbrev pub AllPlacesAscend : Type 0
 AllPlacesAscend = (serving : Serving) (strict : Bool) (k : ℕ) (rounds : List Turn) → AreTurns serving strict [] [] rounds → NewAtMostOnce k rounds → NoFeedIn serving k rounds → Ascend None (places k None rounds)
 
--- ---- for the others, where a link is left out
+-- ---- the other links, if a link is left out
 
 pub record SameFor (serving : Serving) (j : ℕ) (fed : List FedRow) (d : Option ℕ) (some all : List Turn) : Type 0 where
   pub due : due_items serving j fed d some ≡ due_items serving j fed d all

@@ -9,19 +9,19 @@ ghost use Rattle.serve_rules.specs.Outboxes.{OutboxesHoldOne};
 ghost use Rattle.serve_rules.specs.OwedBytes.{OwedHasWork};
 ghost use Rattle.serve_rules.specs.WrittenBytes.{AllPlacesAscend, DueByPlaces, SameForOthers, WrittenIsDue};
 
-/// What one link that is no feed does or fails to do changes nothing for the others: in one turn, and in any number of them.
+/// States that one link that is no feed changes nothing for the others, whatever it does: in one turn, and in any number of them.
 pub fn erasure()
     ensures turn { Erasure }
     ensures trace { TraceErasure }
     ensures others { SameForOthers }
 {}
 
-/// A turn in which no limit was met is a turn where limits may be met.
+/// States that a turn in which no limit was reached is a turn under the rules that allow limits to be reached.
 pub fn strict_turns()
     ensures { StrictTurnsAreTurns }
 {}
 
-/// What is written on a link, with its outbox after it, is its outbox before, the answers to its lines and the frames of its
+/// States that what is written on a link, with its outbox after it, is its outbox before, the answers to its lines and the frames of its
 /// drains: in one turn, in any number of them, and since the server began.
 pub fn due()
     ensures turn { Due }
@@ -29,8 +29,8 @@ pub fn due()
     ensures whole { WrittenIsDue }
 {}
 
-/// What a link that is no feed is due is a function of the lines fed, of its query and of the places of its drains, which never
-/// go back.
+/// States that what a link that is no feed is due is a function of the lines fed, of its query and of the places of its drains, which
+/// never decrease.
 pub fn places()
     ensures due { ByPlaces }
     ensures ascend { PlacesAscend }
@@ -38,29 +38,29 @@ pub fn places()
     ensures all_ascend { AllPlacesAscend }
 {}
 
-/// A link whose read or write failed is closed directly after it, and nothing else changes.
+/// States that a link whose read or write failed is closed directly after it, and nothing else changes.
 pub fn failures_close()
     ensures read { FailedReadCloses }
     ensures write { FailedWriteCloses }
     ensures turn { FailureCloses }
 {}
 
-/// An outbox holds what is left of one batch, or of the answers of one read.
+/// States that an outbox has the rest of one batch, or of the answers to one read.
 pub fn outboxes_hold_one()
     ensures { OutboxesHoldOne }
 {}
 
-/// A link that is owed bytes, and whose last write wasn't answered Pending, has work, so that no poll waits.
+/// States that a link that is owed bytes, and whose last write did not return Pending, has work, so that no poll waits.
 pub fn what_is_owed_is_work()
     ensures { OwedHasWork }
 {}
 
-/// Links stand in the order of their numbers, where new ones have numbers above all earlier ones.
+/// States that links are in the order of their numbers, if new ones have numbers above all earlier ones.
 pub fn links_ascend()
     ensures { LinksAscend }
 {}
 
-/// A turn extends a lawful trace, and so do its first calls; and whatever a poll shows, some turn goes on from it.
+/// States that a turn extends a lawful trace, and so do its first calls; and that whatever a poll reports, some turn continues from it.
 pub fn turns_extend()
     ensures nothing { BeginsWithNothing }
     ensures turn { TurnExtends }
@@ -68,8 +68,8 @@ pub fn turns_extend()
     ensures some { SomeTurnGoesOn }
 {}
 
-/// A hub that holds what the lines fed lead to answers a drain with the frames that are due. What a subscriber was shown stays
-/// while more is fed, and no line subscribes.
+/// States that a hub that holds the effect of the lines fed returns from a drain the frames that are due, that what a subscriber was shown
+/// stays while more is fed, and that no line subscribes.
 pub fn hubs_serve()
     ensures drains { DrainsAsDue }
     ensures shown { ShownStays }

@@ -1,17 +1,17 @@
-// A call that fails, at each place of a script: what it does to the other link.
+// A call that fails, at each point of a script, and its effect on the other link.
 use crate::scripts::play;
 use crate::told::{is_closed, written};
 use serve_core::server::{ServeFault, Turn};
 use std::alloc::Global;
 use std::test::Fail;
 
-// A feed and a Get. Each line is sent once the link of the Get has what the one before leads to.
+// A feed and a Get. Each line is sent after the link of the Get was sent the effect of the line before.
 const SCRIPT: &str =
     "arrive:1 arrive:2 bytes:2:@+#request tick tick bytes:1:/feed+#0a+service tick tick bytes:1:slice tick tick bytes:1:slice_moved tick tick tick bytes:1:slice_gone tick tick";
 
 const ANSWERS: &str = "ok 1\nok 2\nok 3\nok 4\n";
 
-// What the Get is written: no Service, the Service, its endpoint, another in its place in two frames, and none.
+// What is written to the Get: no Service, the Service, its endpoint, another endpoint in its place in two frames, and none.
 const FRAMES: &str =
     "00000000021a0000000000041a02080100000000130a110a0f0a0a0a050d0302010a10903f18904e00000000130a110a0f0a0a0a050d0402010a10903f18904e000000000e120c0a0a0a050d0302010a10903f00000000041a020801";
 
@@ -21,7 +21,7 @@ failwrite:1 2
 failread:2 1
 failwrite:2 1";
 
-// The polls of the script that end before a place.
+// Returns the polls of the script that end before an index.
 fn polls_before(alloc: Global, place: usize) -> Result<String, Fail> {
     let mut text = String::new(alloc);
     let mut poll = String::new(alloc);
@@ -39,7 +39,7 @@ fn polls_before(alloc: Global, place: usize) -> Result<String, Fail> {
     Ok(text)
 }
 
-// The script with a step more before a place.
+// Returns the script with a step inserted at an index.
 fn with_step(alloc: Global, place: usize, step: &str) -> Result<String, Fail> {
     let mut text = String::new(alloc);
     for (at, word) in SCRIPT.split(' ').enumerate() {
@@ -52,7 +52,7 @@ fn with_step(alloc: Global, place: usize, step: &str) -> Result<String, Fail> {
     Ok(text)
 }
 
-// All that a link is written if no call fails.
+// Returns all that is written on a link if no call fails.
 fn due(alloc: Global, link: u32) -> Result<Vec<u8>, Fail> {
     if link == 1 {
         return Ok(ANSWERS.as_bytes().to_vec(alloc)?);
@@ -60,8 +60,8 @@ fn due(alloc: Global, link: u32) -> Result<Vec<u8>, Fail> {
     Ok(hex::decode(alloc, FRAMES)?)
 }
 
-// Whether the other link stays open, and is written what it is due before the poll of this place, and a front of what it is due
-// in all. The answers to a feed do not depend on who subscribes.
+// Whether the other link stays open, is written what it is due before the poll at this index, and in all a prefix of what it is due. The
+// answers to a feed do not depend on which links subscribe.
 fn spares(alloc: Global, place: usize, fault: &str, other: u32) -> Result<bool, Fail> {
     let before = play(alloc, "usual", &polls_before(alloc, place)?, 100)?;
     let before = written(alloc, before.links.trace(), other)?;
@@ -77,7 +77,7 @@ fn spares(alloc: Global, place: usize, fault: &str, other: u32) -> Result<bool, 
     )
 }
 
-// Whether a poll that fails ends the turn with its fault, and both links were written fronts of what they are due.
+// Whether a poll that fails ends the turn with its fault, and both links were written prefixes of what they are due.
 fn ends(alloc: Global, place: usize) -> Result<bool, Fail> {
     let played = play(alloc, "usual", &with_step(alloc, place, "failpoll")?, 100)?;
     let trace = played.links.trace();

@@ -1,7 +1,7 @@
-//! Tests of a server over links in memory: what is written on each link, in which order it is called, and which are closed, also where
-//! a call fails. They stand apart, since a crate with tests is proved twice.
+//! Tests of a server over links in memory: what is written on each link, in which order the links are called, and which are closed, also if
+//! a call fails. They are in a crate of their own, since a crate with tests is proved twice.
 //!
-//! Stands on serve_core and mem_links.
+//! Depends on serve_core and mem_links.
 #![tactic(auto)]
 
 #[cfg(test)]

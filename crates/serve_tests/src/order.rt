@@ -1,4 +1,4 @@
-// In which order links are called.
+// The order in which links are called.
 use crate::rows::ORDERED;
 use crate::scripts::{number, play};
 use crate::told::calls;

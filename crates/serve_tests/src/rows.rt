@@ -1,6 +1,6 @@
 // Rows of scripts.
 
-/// What a row is about, the limits, the script, and what is written on each link, which are closed, and how the last turn ended.
+/// A description of the row, the limits, the script, what is written on each link, which links are closed, and how the last turn ended.
 pub const WRITTEN: &str =
     "a feed and a Get: usual | arrive:1 arrive:2 bytes:1:/feed+#0a+service+slice bytes:2:@+#request => 1 ok 1,ok 2; 2 00000000130a110a0f0a0a0a050d0302010a10903f18904e; Going
 room for one byte of each write: usual | arrive:1 arrive:2 room:2:1 bytes:1:/feed+#0a+service+slice bytes:2:@+#request => 1 ok 1,ok 2; 2 00000000130a110a0f0a0a0a050d0302010a10903f18904e; Going
@@ -109,7 +109,7 @@ a line feed behind a request: usual | arrive:1 bytes:1:@+#request+#0a => closed 
 a change, and then a line that changes nothing for it: usual | arrive:1 arrive:2 bytes:1:/feed+#0a+service bytes:2:@+#request tick tick tick bytes:1:slice+pod => 1 ok 1,ok 2,ok 3; 2 00000000041a02080100000000130a110a0f0a0a0a050d0302010a10903f18904e; Going
 a list as long as may be, and a longer one: objects=1 | arrive:1 bytes:1:/feed+#0a+{\"kind\":\"ServiceList\",\"apiVersion\":\"v1\",\"items\":[{\"metadata\":{\"name\":\"web\",\"namespace\":\"app\"}},{\"metadata\":{\"name\":\"api\",\"namespace\":\"app\"}}]}+#0a+{\"kind\":\"ServiceList\",\"apiVersion\":\"v1\",\"items\":[{\"metadata\":{\"name\":\"web\",\"namespace\":\"app\"}}]}+#0a => 1 refused 1 Full 0,ok 2; Going";
 
-/// What a row is about, the limits, the script, the number of turns, and the calls.
+/// A description of the row, the limits, the script, the number of turns, and the calls.
 pub const ORDERED: &str = "nothing: usual | tick 2 => wait:0 wait:0
 a new link is read, and then not until an event: usual | arrive:1 3 => wait:1 r1? wait:0 wait:0
 a feed that gets an answer: usual | arrive:1 bytes:1:/feed+#0a+bookmark 3 => wait:2 r1:38 w1:5 poll:0 r1? wait:0

@@ -1,4 +1,4 @@
-// Scripts in words, and servers that play them.
+// Scripts written as words, and servers that play them.
 ghost use Rattle.std.specs.Prelude.{◌≤◌, IfOk};
 
 use mem_links::mem::MemLinks;
@@ -37,7 +37,7 @@ stop {\"control\":\"stop\"}";
 // The request of a Get of the Service `web`.
 const REQUEST: &str = "000000001e121c7765622e6170702e7376632e636c75737465722e6c6f63616c3a3830";
 
-/// A number in a word.
+/// Reads a number from a word.
 pub fn number(word: &str) -> Result<u32, Fail> {
     match word.parse() {
         Ok(number) => Ok(number),
@@ -45,8 +45,8 @@ pub fn number(word: &str) -> Result<u32, Fail> {
     }
 }
 
-// The bytes of a part: hex after `#`, the request, so many `a` after `*`, a line by its name, or a text. A line ends with a line
-// feed.
+// Appends the bytes of a part: hex after `#`, the request, this number of `a` after `*`, a line by its name, or a string. A line ends
+// with a line feed.
 fn push_part(alloc: Global, bytes: &mut List<u8>, part: &str) -> Result<(), Fail> {
     if let Some(count) = part.strip_prefix('*') {
         for _ in 0..number(count)? {
@@ -102,7 +102,7 @@ fn step(alloc: Global, word: &str) -> Result<MemStep, Fail> {
     }
 }
 
-// Adds the steps of a word. The steps of `each:1:` are the bytes behind it one by one, with a tick after each.
+// Appends the steps of a word. The steps of `each:1:` are the bytes after it one by one, with a tick after each.
 fn add_steps(alloc: Global, steps: &mut List<MemStep>, word: &str) -> Result<(), Fail> {
     let Some(of) = word.strip_prefix("each:") else {
         return Ok(steps.add(step(alloc, word)?)?);
@@ -126,7 +126,7 @@ fn script(alloc: Global, words: &str) -> Result<List<MemStep>, Fail> {
     Ok(steps)
 }
 
-// Limits in words, as `links=1 feeds=1`.
+// Reads limits from words, as `links=1 feeds=1`.
 fn limits(words: &str) -> Result<Limits, Fail>
     ensures { IfOk result (λ limits. 1 ≤ limits.frame_addrs) }
 {
@@ -149,14 +149,14 @@ fn limits(words: &str) -> Result<Limits, Fail>
     Ok(limits)
 }
 
-/// Links that played a script, and how the last turn ended.
+/// The links after a script, and how the last turn ended.
 #[derive(Drop)]
 pub struct Played {
     pub links: MemLinks,
     pub last: Result<Turn, ServeFault>,
 }
 
-/// Plays a script for so many turns, or until one is not the last.
+/// Plays a script for this number of turns, or until the server ends.
 pub fn play(alloc: Global, limit_words: &str, words: &str, turns: u32) -> Result<Played, Fail> {
     let mut links = MemLinks::new(alloc, script(alloc, words)?);
     let mut server = Server::new(alloc, Config::usual(alloc)?, limits(limit_words)?)?;

@@ -1,4 +1,4 @@
-// What a trace tells, in words.
+// The contents of a trace, as words.
 use mesh_links::call::{LinkCall, LinkEvent, ReadGot, WriteGot};
 use std::alloc::Global;
 use std::test::Fail;
@@ -13,7 +13,7 @@ fn push_lines(text: &mut String, shown: &str) -> Result<(), Fail> {
     Ok(())
 }
 
-// Bytes as text with a `,` between its lines, or as hex if one is no character of a line.
+// Appends bytes as text with a `,` between its lines, or as hex if one is no character of a line.
 fn push_bytes(alloc: Global, text: &mut String, bytes: &[u8]) -> Result<(), Fail> {
     if bytes.iter().any(|byte| *byte < 32 && *byte != b'\n') {
         let hex = hex::encode(alloc, bytes)?;
@@ -25,7 +25,7 @@ fn push_bytes(alloc: Global, text: &mut String, bytes: &[u8]) -> Result<(), Fail
     push_lines(text, shown)
 }
 
-/// The bytes that were written on a link.
+/// Returns the bytes that were written on a link.
 pub fn written(alloc: Global, trace: &[LinkCall], number: u32) -> Result<Vec<u8>, Fail> {
     let mut bytes = Vec::new(alloc);
     for call in trace {
@@ -62,7 +62,7 @@ fn push_closes(text: &mut String, trace: &[LinkCall]) -> Result<(), Fail> {
     Ok(())
 }
 
-/// What was written on each of the links 1 to 4, and which links were closed.
+/// Returns what was written on each of the links 1 to 4, and which links were closed.
 pub fn outcome(alloc: Global, trace: &[LinkCall]) -> Result<String, Fail> {
     let mut text = String::new(alloc);
     for link in 1..5 {
@@ -108,7 +108,7 @@ fn push_events(text: &mut String, word: &str, events: &[LinkEvent]) -> Result<()
     Ok(write!(text, "{word}:{n}")?)
 }
 
-/// The calls in their order: `wait` and `poll` with the number of events, `r` and `w` with the link and the number of bytes, `?`
+/// Returns the calls in their order: `wait` and `poll` with the number of events, `r` and `w` with the link and the number of bytes, `?`
 /// for Pending and `!` for a failure, `c` for a close.
 pub fn calls(alloc: Global, trace: &[LinkCall]) -> Result<String, Fail> {
     let mut text = String::new(alloc);

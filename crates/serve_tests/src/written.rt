@@ -4,7 +4,7 @@ use crate::scripts::play;
 use crate::told::outcome;
 use std::test::Fail;
 
-/// The parts of a row behind what it is about.
+/// Returns the parts of a row after its description.
 pub fn parts(row: &str) -> Result<(&str, &str, &str), Fail> {
     let Some((_, row)) = row.split_once(": ") else {
         return Err(Fail::new("a row does not say what it is about"));

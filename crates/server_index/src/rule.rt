@@ -1,5 +1,4 @@
 // How what the ports of Pods are served by is found and kept.
-ghost use Rattle.std.specs.Prelude.{◌≡◌};
 ghost use Rattle.mark_rules.specs.Reads.{server_reads};
 ghost use Rattle.mark_rules.specs.Rows.{server_part};
 ghost use Rattle.server_index.specs.Matches.{AreRight};

@@ -4,7 +4,7 @@ use Rattle.view_types.specs.declared.query.Method.TheVariants as methods
 use Rattle.session_core.specs.declared.session.Path.{Path}
 use Rattle.session_core.specs.declared.session.Path.TheVariants.{Feed, Asks}
 
--- a byte before the first line
+-- a byte put before the first line
 abbrev pub onto_line : ℕ → List ℕ × List ℕ → List ℕ × List ℕ
 onto_line byte cut = (byte ∷ cut.0, cut.1)
 

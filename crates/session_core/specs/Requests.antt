@@ -1,11 +1,11 @@
--- What a piece of a request comes to.
+-- The result of a piece of a request.
 use Rattle.std.specs.Prelude.{◌≡◌, Option, Some, None, Result, Ok, Err}
 use Rattle.view_types.specs.declared.query.Query.{Query}
 use Rattle.session_core.specs.Phases.{Phase, Asking, Asked}
 use Rattle.session_core.specs.declared.session.SessionFault.{SessionFault}
 use Rattle.session_core.specs.declared.session.SessionFault.TheVariants as faults
 
--- This is the phase: the request isn't whole, or it reads, or it has the fault. Want of memory says nothing of it.
+-- This is the phase: the request is not complete, or it is valid, or it has the fault. Out of memory says nothing about it.
 abbrev pub GivesPhase : Result (Option Query) SessionFault → Result Phase SessionFault → Type 0
 GivesPhase (Ok None) phase = phase ≡ Ok Asking
 GivesPhase (Ok (Some query)) phase = phase ≡ Ok (Asked query)

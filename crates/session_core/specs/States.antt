@@ -1,4 +1,4 @@
--- What a session keeps of its input in place of the bytes themselves.
+-- The state that a session keeps in place of the bytes of its input.
 use Rattle.std.specs.Prelude.{◌≡◌, ◌<◌, ℕ, true, false, List, [], ◌∷◌, ◌++◌, length, Option, Result, Ok, Err}
 use Rattle.line_run.specs.Rows.{NoBreak, rows_of}
 use Rattle.mesh_base.specs.declared.limits.Limits.{Limits}
@@ -27,7 +27,7 @@ IsFault faults.BadPath found = found ≡ Err faults.BadPath
 IsFault (faults.Proto fault) found = found ≡ Err (faults.Proto fault)
 IsFault faults.Extra found = found ≡ Err faults.Extra
 
--- ---- what each state keeps
+-- ---- the contents of each state
 
 -- all bytes so far
 pub record Opens (part : List ℕ) (given : Given) : Type 0 where
@@ -36,7 +36,7 @@ pub record Opens (part : List ℕ) (given : Given) : Type 0 where
   pub short : length part < path_bound
   pub line : NoBreak part
 
--- the part behind which a feed's text goes on, and the number of its whole lines
+-- the incomplete line of a feed, and the number of its complete lines
 pub record Cuts (limit : ℕ) (text : List ℕ) (feed : FeedPart) : Type 0 where
   pub lines : feed.lines ≡ length (rows_so_far limit false text)
   pub cut : (more : List ℕ) → rows_of limit (text ++ more) ≡ rows_so_far limit false text ++ rows_of limit (feed.part ++ more)
@@ -66,7 +66,7 @@ pub record HasEnded (config : Config) (limits : Limits) (given : Given) : Type 0
   pub last : Phase
   pub phase : phase_of config limits given.bytes ≡ Ok last
 
--- This state is kept of what was given.
+-- This is the state after what was passed.
 abbrev pub Keeps : Config → Limits → State → Given → Type 0
 Keeps config limits (states.Opening part) given = Opens part given
 Keeps config limits (states.Feeding feed) given = Feeds config limits feed given
@@ -75,9 +75,9 @@ Keeps config limits states.Asked given = HasAsked config limits given
 Keeps config limits states.Ended given = HasEnded config limits given
 Keeps config limits (states.Fault fault) given = IsFault fault (phase_of config limits given.bytes)
 
--- ---- what a piece adds
+-- ---- the effect of a piece
 
--- What is given next asks these beyond what was asked.
+-- What is passed next adds these requests.
 pub record Adds (config : Config) (limits : Limits) (given next : Given) (added : List Ask) : Type 0 where
   pub before : List Ask
   pub was : asks_so_far config limits given ≡ Ok before
@@ -87,24 +87,24 @@ pub record Goes (config : Config) (limits : Limits) (given next : Given) (step :
   pub adds : Adds config limits given next step.asks
   pub keeps : Keeps config limits step.state next
 
--- A piece leads from what was given to what is given next: by a step, or with the fault.
+-- A piece leads from what was passed to what is passed next: by a step, or with the fault.
 abbrev pub Steps : Config → Limits → Given → Given → Result Step SessionFault → Type 0
 Steps config limits given next (Ok step) = Goes config limits given next step
 Steps config limits given next (Err fault) = IsFault fault (phase_of config limits next.bytes)
 
--- The bytes of a request go on to these.
+-- The bytes of a request continue with these.
 pub record ToRequest (config : Config) (limits : Limits) (given next : Given) (method : Method) (rest : List ℕ) : Type 0 where
   pub none : asks_so_far config limits given ≡ Ok []
   pub live : next.ended ≡ false
   pub asks : (more : List ℕ) → phase_of config limits (next.bytes ++ more) ≡ asked_in config method (head_of limits.request (rest ++ more))
 
--- All that came so far are the path line and these bytes behind it.
+-- All bytes so far are the path line and these bytes after it.
 pub record Begins (config : Config) (limits : Limits) (given next : Given) (path : Option Path) (rest : List ℕ) : Type 0 where
   pub none : asks_so_far config limits given ≡ Ok []
   pub live : next.ended ≡ false
   pub phase : (more : List ℕ) → phase_of config limits (next.bytes ++ more) ≡ phase_behind config limits path (rest ++ more)
 
--- The text of a feed goes on by the piece, where these are asked already.
+-- The text of a feed continues with the piece, of which these lines are requested already.
 pub record ToFeed (config : Config) (limits : Limits) (given next : Given) (text piece : List ℕ) (asked : List Ask) : Type 0 where
   pub live : next.ended ≡ false
   pub before : List Ask
@@ -112,7 +112,7 @@ pub record ToFeed (config : Config) (limits : Limits) (given next : Given) (text
   pub asks : before ++ asked ≡ asks.FeedBegins ∷ line_asks 0 (rows_so_far limits.line false text)
   pub phase : phase_of config limits next.bytes ≡ Ok (Feeding (text ++ piece))
 
--- ---- what is answered
+-- ---- answers
 
 -- This is the answer, unless memory ran out.
 abbrev pub Answers : Result (List Ask) SessionFault → Result (List Ask) SessionFault → Type 0

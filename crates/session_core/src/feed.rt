@@ -27,7 +27,7 @@ fn ask(alloc: Global, number: u64, row: Option<&[u8]>) -> Result<Ask, Memory>
     }
 }
 
-/// A feed: the part of the line that isn't whole yet, and the number of lines before it.
+/// The state of a feed: the incomplete line, and the number of lines before it.
 #[derive(Drop)]
 pub struct Feed {
     cutter: Cutter,
@@ -46,7 +46,7 @@ impl Model for Feed {
 }
 
 impl Feed {
-    /// A feed before its first byte.
+    /// Creates a feed before its first byte.
     pub fn new(alloc: Global) -> Feed
         ensures { result ≡ record { part = []; lines = 0 } }
     {
@@ -56,14 +56,14 @@ impl Feed {
         }
     }
 
-    /// Whether so many lines more can be numbered.
+    /// Whether this number of further lines can be numbered.
     pub fn has_room(&self, more: u64) -> bool
         ensures { IsTrue result ↔ self.now.lines + more < 2 ^ 64 }
     {
         more <= u64::MAX - self.lines
     }
 
-    // Asks the line that is whole, and begins the next.
+    // Appends the complete line to the requests, and begins the next line.
     fn give(&mut self, alloc: Global, limit: u64, asks: &mut List<Ask>) -> Result<(), Memory>
         requires { self.old.lines + 1 < 2 ^ 64 }
         ensures lines { OnOk result (self.new.lines ≡ self.old.lines + 1) }
@@ -80,7 +80,7 @@ impl Feed {
         Ok(())
     }
 
-    /// Asks each line that is whole now, and keeps the part of the next.
+    /// Appends each line that is now complete to the requests, and keeps the beginning of the next line.
     pub fn take(
         &mut self,
         alloc: Global,
@@ -106,7 +106,7 @@ impl Feed {
         }
     }
 
-    /// Asks the last line, if bytes without an LF are left.
+    /// Appends the last line to the requests, if bytes without LF are left.
     pub fn end(&mut self, alloc: Global, limit: u64, asks: &mut List<Ask>) -> Result<(), Memory>
         requires room { self.old.lines + 1 < 2 ^ 64 }
         ensures asks { OnOk result (asks.new

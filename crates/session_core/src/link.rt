@@ -22,7 +22,7 @@ use std::marker::Model;
 use std::mem;
 use view_types::config::Config;
 
-/// The session of one link: what its bytes so far ask for, and what is still to be written on it.
+/// The session of one link: what its bytes so far request, and what is still to be written on it.
 #[derive(Drop)]
 pub struct Session {
     alloc: Global,
@@ -46,7 +46,7 @@ impl Model for Session {
 }
 
 impl Session {
-    /// A session that was given nothing, with an empty outbox.
+    /// Creates a session without input, with an empty outbox.
     pub fn new(alloc: Global, config: &Config, limits: &Limits) -> Result<Session, Memory>
         ensures stands { IfOk result (λ session. Stands config.now limits.now given_first session) }
         ensures outbox { IfOk result (λ session. session.outbox ≡ []) }
@@ -60,8 +60,8 @@ impl Session {
         })
     }
 
-    /// Takes the next piece of the link's bytes and answers what it asks for. The empty piece is the end of the input. After a
-    /// fault each further piece is answered with that fault.
+    /// Processes the next piece of the link's bytes, and returns the requests that it completes. The empty piece is the end of the input.
+    /// After a fault each further piece has that fault as its result.
     pub fn feed(&mut self, piece: &[u8]) -> Result<List<Ask>, SessionFault>
         ensures answers { (config : Config) (limits : Limits) (given : Given)
             → Stands config limits given self.old
@@ -87,7 +87,7 @@ impl Session {
         }
     }
 
-    /// Puts frames into the outbox, which is empty.
+    /// Puts frames into the outbox, which must be empty.
     pub fn put(&mut self, frames: List<Bytes>) -> Result<(), Memory>
         requires none { self.old.outbox ≡ [] }
         requires some { NoneEmpty frames }
@@ -98,7 +98,7 @@ impl Session {
         Ok(())
     }
 
-    /// The rest of the outbox's first item: no bytes exactly where the outbox is empty.
+    /// Returns the rest of the outbox's first item, which is empty exactly if the outbox is.
     pub fn head(&self) -> &[u8]
         ensures head { result.now ≡ head self.now.outbox }
         ensures none { result.now ≡ [] → self.now.outbox ≡ [] }
@@ -106,7 +106,7 @@ impl Session {
         self.outbox.head()
     }
 
-    /// Notes that so many bytes of the head were written.
+    /// Records that this number of bytes of the head were written.
     pub fn wrote(&mut self, n: usize)
         requires { n ≤ length (head self.old.outbox) }
         ensures { self.new ≡ record self.old { outbox = wrote n self.old.outbox } }

@@ -8,7 +8,7 @@ use std::alloc::Global;
 use std::collections::VecDeque;
 use std::marker::Model;
 
-// Takes the next item, or no bytes where there is none.
+// Removes the next item and returns it, or no bytes if there is none.
 fn pop(items: &mut VecDeque<Bytes>) -> Bytes
     ensures left { NoneEmpty items.old.items → left_of result items.new.items ≡ items.old.items }
     ensures is { NoneEmpty items.old.items → IsLeft result items.new.items }
@@ -19,10 +19,10 @@ fn pop(items: &mut VecDeque<Bytes>) -> Bytes
     }
 }
 
-/// Items that are to be written, of which the first may be written in part.
+/// Items that are to be written, the first of which may be written in part.
 #[derive(Drop)]
 pub struct Outbox {
-    // What is left of the first item: no bytes where there is none.
+    // The rest of the first item; no bytes if there is none.
     first: Bytes,
     rest: VecDeque<Bytes>,
 }
@@ -39,7 +39,7 @@ impl Model for Outbox {
 }
 
 impl Outbox {
-    /// The empty outbox.
+    /// Creates an empty outbox.
     pub fn new(alloc: Global) -> Outbox
         ensures { result ≡ [] }
     {
@@ -49,7 +49,7 @@ impl Outbox {
         }
     }
 
-    /// Puts these items in place of what is there.
+    /// Replaces the contents by these items.
     pub fn put(&mut self, items: List<Bytes>)
         requires { NoneEmpty items }
         ensures { self.new ≡ items }
@@ -59,7 +59,7 @@ impl Outbox {
         *self = Outbox { first, rest };
     }
 
-    /// The rest of the first item: no bytes exactly where the outbox is empty.
+    /// Returns the rest of the first item, which is empty exactly if the outbox is.
     pub fn head(&self) -> &[u8]
         ensures head { result.now ≡ head self.now }
         ensures none { result.now ≡ [] → self.now ≡ [] }
@@ -67,7 +67,7 @@ impl Outbox {
         self.first.as_slice()
     }
 
-    /// Notes that so many bytes of the first item were written.
+    /// Records that this number of bytes of the first item were written.
     pub fn wrote(&mut self, n: usize)
         requires { n ≤ length (head self.old) }
         ensures { self.new ≡ wrote n self.old }

@@ -5,7 +5,7 @@ ghost use Rattle.session_core.specs.Paths.{path_of};
 use crate::session::Path;
 use view_types::query::Method;
 
-/// The path that a line names, if it names one.
+/// Returns the path that a line names, if it names one.
 #[tactic(auto, unfolding(crate::specs::Paths::path_of))]
 pub fn path_of(line: &[u8]) -> Option<Path>
     ensures { result ≡ path_of line.now }

@@ -14,7 +14,7 @@ use std::alloc::Global;
 use view_types::config::Config;
 use view_types::query::{Method, Query};
 
-// What a whole message asks for, behind which these bytes stand.
+// Reads the request of a complete message, which these bytes follow.
 fn read_before(
     alloc: Global,
     config: &Config,
@@ -37,7 +37,7 @@ fn read_before(
     }
 }
 
-/// Takes a piece of a request frame: None while the frame isn't whole.
+/// Processes a piece of a request frame. Returns None while the frame is not complete.
 pub fn read_piece(
     alloc: Global,
     config: &Config,

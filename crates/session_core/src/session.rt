@@ -1,4 +1,4 @@
-// What a link's bytes ask for, and their faults.
+// The requests in a link's bytes, and their faults.
 use bytes::Bytes;
 use proxy_proto::fault::ProtoFault;
 use view_types::query::{Method, Query};
@@ -12,12 +12,12 @@ pub enum Path {
     Asks(Method),
 }
 
-/// What the bytes of a link ask the server to do.
+/// A request to the server in the bytes of a link.
 #[derive(Drop)]
 pub enum Ask {
     /// The link subscribes to the query.
     Subscribe(Query),
-    /// Lines follow.
+    /// The link becomes a feed.
     FeedBegins,
     /// A line, numbered from 1 after the path line.
     Line { number: u64, text: Bytes },
@@ -32,10 +32,10 @@ pub enum Ask {
 pub enum SessionFault {
     /// Out of memory.
     Memory,
-    /// The first line isn't one of the paths.
+    /// The first line is none of the paths.
     BadPath,
-    /// The request frame doesn't read.
+    /// The request frame cannot be read.
     Proto(ProtoFault),
-    /// Bytes follow a request that reads.
+    /// Bytes follow a valid request.
     Extra,
 }

@@ -1,4 +1,4 @@
-// What is kept of a link's input.
+// The state of a link's input.
 use crate::feed::Feed;
 use crate::session::{Ask, SessionFault};
 use mesh_base::list::List;
@@ -8,21 +8,21 @@ use view_types::query::Method;
 /// What a session keeps in place of the bytes of its link.
 #[derive(Drop)]
 pub enum State {
-    /// The path line isn't whole: all bytes so far.
+    /// The path line is not complete. These are all bytes so far.
     Opening(List<u8>),
-    /// Lines come.
+    /// The link is a feed.
     Feeding(Feed),
-    /// The request isn't whole.
+    /// The request is not complete.
     Asking(Method, Unframer),
-    /// The request reads, and nothing may follow.
+    /// The request is valid, and nothing may follow it.
     Asked,
-    /// The empty piece came.
+    /// The empty piece was read.
     Ended,
-    /// Each further piece is answered so.
+    /// Each further piece has this fault as its result.
     Fault(SessionFault),
 }
 
-/// What a piece comes to.
+/// The result of a piece.
 #[derive(Drop)]
 pub struct Step {
     pub asks: List<Ask>,

@@ -1,4 +1,4 @@
-// What a piece makes of what a session keeps.
+// The effect of a piece on the state of a session.
 ghost use Rattle.std.specs.Prelude.{◌≡◌, ◌≢◌, ◌+◌, ◌<◌, ℕ, true, false, length, take, drop, List, [], ◌∷◌, ◌++◌, Ok, Err, Some, IfOk, IfSome, IfNone};
 ghost use Rattle.line_run.specs.Rows.{NoBreak, rows_of};
 ghost use Rattle.mesh_base.specs.declared.limits.Limits.{Limits};
@@ -29,7 +29,7 @@ use view_types::query::Method;
 
 const LINE_FEED: u8 = b'\n';
 
-// A path line is shorter.
+// A path line is shorter than this.
 const PATH_BOUND: usize = 128;
 
 fn one(alloc: Global, ask: Ask) -> Result<List<Ask>, Memory>
@@ -110,7 +110,7 @@ fn begin_feed(alloc: Global, limits: &Limits, rest: &[u8]) -> Result<Step, Sessi
 
 // ---- a piece of the path line
 
-// Takes the bytes behind the path line.
+// Processes the bytes after the path line.
 fn begin(
     alloc: Global,
     config: &Config,
@@ -130,7 +130,7 @@ fn begin(
     }
 }
 
-// Where the first LF stands.
+// Returns the index of the first LF.
 fn first_break(bytes: &[u8]) -> Option<usize>
     ensures within { IfSome result (λ at. at < length bytes.now) }
     ensures cut { IfSome result (λ at. bytes.now ≡ take at bytes.now ++ 10 ∷ drop (at + 1) bytes.now) }
@@ -140,7 +140,7 @@ fn first_break(bytes: &[u8]) -> Option<usize>
     memchr(LINE_FEED, bytes)
 }
 
-// Adds bytes up to the first LF to the path line, and answers those behind it; or adds them all where there is no LF.
+// Appends bytes up to the first LF to the path line, and returns those after it; without an LF it appends all bytes and returns None.
 fn fill_path<'a>(part: &mut List<u8>, piece: &'a [u8]) -> Result<Option<&'a [u8]>, Memory>
     ensures path { IfOk result (λ found.
         IfSome found (λ rest. NoBreak part.old
@@ -217,7 +217,7 @@ fn more(
 
 // ---- the empty piece
 
-// Nothing more comes of what asks nothing at its end.
+// Returns the step at the end of the input, if the only request that the end adds is `Ended`.
 fn end_one(alloc: Global) -> Result<Step, SessionFault>
     ensures { (config : Config) (limits : Limits) (given : Given) (phase : Phase)
         → given.ended ≡ false → phase_of config limits given.bytes ≡ Ok phase
@@ -277,7 +277,7 @@ fn end(alloc: Global, limits: &Limits, state: State) -> Result<Step, SessionFaul
     }
 }
 
-/// What a piece makes of a state. The empty piece is the end.
+/// Returns the effect of a piece on a state. The empty piece is the end of the input.
 pub fn step(
     alloc: Global,
     config: &Config,

@@ -1,4 +1,4 @@
--- The streams of all keys in a map.
+-- The streams of all keys, in a map by key.
 use Rattle.std.specs.Prelude.{◌≡◌, ◌||◌, ℕ, nat_eq, false, List, Option, Some, None, if◌then◌else◌, is_some}
 use Rattle.std.specs.BTreeMap as tree
 use Rattle.std.specs.BTreeMap.{BTreeMap}
@@ -21,9 +21,9 @@ key_cmp = key_order.TheImpl.cmp-value.it
 abbrev pub streams_at : BTreeMap EndpointKey Streams → EndpointKey → Option Streams
 streams_at by_key key = tree.get key_cmp by_key key
 
--- ---- what becomes of the streams of a key
+-- ---- changes of the streams of a key
 
--- a stream is opened under the id, which had none
+-- a stream was opened under the id, which had none
 pub record Joined (id : ℕ) (old new : Streams) : Type 0 where
   pub ids : (n : ℕ) → has_stream new n ≡ (nat_eq n id || has_stream old n)
   pub shown : has_stream old id ≡ false → (now : EndpointView) → SetsShown now id None old new
@@ -35,7 +35,7 @@ JoinedAt id None (Some new) = ⊥
 JoinedAt id (Some old) None = ⊥
 JoinedAt id (Some old) (Some new) = Joined id old new
 
--- the streams of the key become these, and those of all others stay
+-- the streams of the key become these; those of other keys stay
 abbrev pub SetsAt : EndpointKey → Option Streams → BTreeMap EndpointKey Streams → BTreeMap EndpointKey Streams → Type 0
 SetsAt key value old new = (k : EndpointKey) → streams_at new k ≡ (if eq_by_cmp key_cmp k key then value else streams_at old k)
 

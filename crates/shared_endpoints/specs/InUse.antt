@@ -30,7 +30,7 @@ use Rattle.shared_endpoints.specs.Sharing.{AreTied, HasOneAt, has_at}
 use Rattle.shared_endpoints.specs.Standing.{StandsExactly, key_of_id, users}
 use Rattle.shared_endpoints.specs.declared.shared.SharedEndpoints.{SharedEndpoints}
 
--- how many users the row of a key has, which only a row of endpoints has
+-- how many users the row of a key has; only rows of endpoints have users here
 abbrev pub row_users : SharedEndpoints → RowKey → ℕ
 row_users s (row.Endpoint key) = users s.index key
 row_users s _ = 0
@@ -53,15 +53,15 @@ module _ {Key F : Type 0} (cmp : Key → Key → Ordering) (total : IsTotalOrder
   pub has_streams : (id : ℕ) (key : Key) → key_of id ≡ Some key → is_some (streams key) ≡ true
   has_streams id key is = some_at (streams key) id (has_stream_at id key is)
 
--- the row of a query of endpoints is that of its key
+-- the row of a query for endpoints is that of its key
 row_asked : (config : Config) (held : ObjectMap) (asked : Option EndpointKey) (key : RowKey) → Contains (rows_at config held (option_map query_for asked)) key → (k : EndpointKey) × (asked ≡ Some k) × (row.Endpoint k ≡ key)
 row_asked config held None key of = absurd (none_there of)
 row_asked config held (Some k) key of = (k, refl, only_there of)
 
--- ---- streams that stand exactly
+-- ---- the state without unused keys
 
 module _ (config : Config) (limits : Limits) (held : ObjectMap) (s : SharedEndpoints) (st : StandsExactly config limits held s) where
-  -- a key that has streams is that of one that is open
+  -- a key that has streams is the key of an open stream
   pub in_use : (key : EndpointKey) → is_some (streams_at s.by_key key) ≡ true → IsInUse config held (asked_at s) (row.Endpoint key)
   in_use key some = by (streams_at s.by_key key) refl (st.each key)
     where

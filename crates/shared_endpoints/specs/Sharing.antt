@@ -13,29 +13,29 @@ use Rattle.key_streams.specs.Streams.{AreRight, HasSame, has_stream, shown_for}
 use Rattle.row_views.specs.Ids.{is_key}
 
 module _ {F : Type 0} where
-  -- the id has one of the streams of a key, if it has any
+  -- the id has a stream of the key
   abbrev pub has_at : Option (KeyStreams F) → ℕ → Bool
   has_at None id = false
   has_at (Some streams) id = has_stream streams id
 
-  -- what the subscriber of the id was last shown of the endpoints of the key
+  -- the endpoints that the subscriber of the id was last shown
   abbrev pub shown_at : Option (KeyStreams F) → ℕ → EndpointView → Option EndpointView
   shown_at None id now = None
   shown_at (Some streams) id now = shown_for streams id now
 
-  -- what is kept as the encoding of messages to the endpoints now is that
+  -- each kept encoding is the encoding of the messages to the current endpoints
   abbrev pub AreRightAt : (Option EndpointView → Option F) → EndpointView → Option (KeyStreams F) → Type 0
   AreRightAt encode now None = Unit {0}
   AreRightAt encode now (Some streams) = AreRight encode now streams
 
-  -- if the key has streams at all, one of them is open
+  -- if the key has streams, one of them is open
   abbrev pub HasOneAt : Option (KeyStreams F) → Type 0
   HasOneAt None = Unit {0}
   HasOneAt (Some streams) = (id : ℕ) × (has_stream streams id ≡ true)
 
-  -- ---- what becomes of the streams of a key
+  -- ---- changes of the streams of a key
 
-  -- The rows at these addresses have changed: each subscriber was last shown what it was, and no encoding is kept.
+  -- The rows at these addresses have changed: each subscriber was last shown what it was before, and no encoding is kept.
   pub record Changed (before : List Stood) (old new : KeyStreams F) : Type 0 where
     pub ids : HasSame old new
     pub shown : (now was : EndpointView) → earlier_rows before now.rows ≡ was.rows → (id : ℕ) → shown_for new id now ≡ shown_for old id was
@@ -48,7 +48,7 @@ module _ {F : Type 0} where
   ChangedAt true before (Some old) None = ⊥
   ChangedAt true before (Some old) (Some new) = Changed before old new
 
-  -- the stream of the id is closed
+  -- the stream of the id was closed
   pub record LeftAt (id : ℕ) (old new : Option (KeyStreams F)) : Type 0 where
     pub ids : (n : ℕ) → has_at new n ≡ (not (nat_eq n id) && has_at old n)
     pub shown : (now : EndpointView) (n : ℕ) → has_at new n ≡ true → shown_at new n now ≡ shown_at old n now
@@ -56,32 +56,32 @@ module _ {F : Type 0} where
 
 module _ {Key : Type 0} (cmp : Key → Key → Ordering) where
   module _ {F : Type 0} where
-    -- each stream is one of its key
+    -- an id has a stream of a key exactly if the key is its own
     abbrev pub AreTied : (Key → Option (KeyStreams F)) → (ℕ → Option Key) → Type 0
     AreTied streams key_of = (key : Key) (id : ℕ) → has_at (streams key) id ≡ is_key cmp key (key_of id)
 
-    -- Each stream is one of its key, and what is kept as the encoding of messages to the endpoints of a key is that.
+    -- Each stream belongs to its key, and each kept encoding is that of the messages to the current endpoints of the key.
     pub record AreShared (encode : EndpointView → Option EndpointView → Option F) (row : Key → EndpointView) (streams : Key → Option (KeyStreams F)) (key_of : ℕ → Option Key) : Type 0 where
       pub tied : AreTied streams key_of
       pub right : (key : Key) → AreRightAt (encode (row key)) (row key) (streams key)
 
-    -- each other key that has streams at all has one that is open
+    -- each other key that has streams has one that is open
     abbrev pub OthersHaveOne : Key → (Key → Option (KeyStreams F)) → Type 0
     OthersHaveOne key streams = (k : Key) → eq_by_cmp cmp k key ≡ false → HasOneAt (streams k)
 
-    -- this stands at the key, and at each other key what did
+    -- the streams of the key become these; those of other keys stay
     abbrev pub PutsStreams : Key → Option (KeyStreams F) → (Key → Option (KeyStreams F)) → (Key → Option (KeyStreams F)) → Type 0
     PutsStreams key value old new = (k : Key) → new k ≡ (if eq_by_cmp cmp k key then value else old k)
 
-    -- the streams of some keys change by what stood there before
+    -- the streams of some keys follow a change of their rows; the notes say what was there before it
     abbrev pub ChangesAt : (Key → Bool) → (Key → List Stood) → (Key → Option (KeyStreams F)) → (Key → Option (KeyStreams F)) → Type 0
     ChangesAt some notes old new = (k : Key) → ChangedAt (some k) (notes k) (old k) (new k)
 
--- what the subscriber of an id was last shown of the endpoints of its key, if it has one
+-- what the subscriber of an id was last shown of the endpoints of its key, if it has a key
 abbrev pub shown_by : {Key F : Type 0} → (Key → Option (KeyStreams F)) → (Key → EndpointView) → ℕ → Option Key → Option EndpointView
 shown_by streams row id None = None
 shown_by streams row id (Some key) = shown_at (streams key) id (row key)
 
--- The frames of the messages to the endpoints now, from those that were last shown, if each message is short enough.
+-- The frames of the messages that bring a subscriber to the current endpoints, if no message is too long.
 abbrev pub encoding : Limits → EndpointView → Option EndpointView → Option (List (List ℕ))
 encoding limits now shown = result_ok (frames_within limits.message (endpoint_batch shown now limits))

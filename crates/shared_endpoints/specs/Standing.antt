@@ -1,4 +1,4 @@
--- When shared streams stand for the objects held.
+-- The state of shared streams over the objects held.
 use Rattle.std.specs.Prelude.{◌≡◌, ℕ, Bool, false, Option, Some, None, if◌then◌else◌, is_some}
 use Rattle.std.specs.BTreeMap.{BTreeMap}
 use Rattle.mesh_base.specs.declared.limits.Limits.{Limits}
@@ -24,13 +24,13 @@ row_at = the_index.row_at
 abbrev pub users : EndpointIndex → EndpointKey → ℕ
 users = the_index.users
 
--- The index has the endpoints of the keys that are used, over the objects held, and each has one user.
+-- The index has the endpoints of the used keys over the objects held, and each used key has one user.
 pub record IsIndexed (config : Config) (held : ObjectMap) (index : EndpointIndex) (used : EndpointKey → Bool) : Type 0 where
   pub stands : index_stands index held
   pub filter : the_index.filter index ≡ record { row_of = endpoint_row config; reads = endpoint_reads }
   pub one_user : (key : EndpointKey) → users index key ≡ (if used key then 1 else 0)
 
--- The index has the endpoints of the keys that have streams, and each stream that is open is one of its key.
+-- The index has the endpoints of the keys that have streams, and each open stream belongs to its key.
 pub record Standing (config : Config) (limits : Limits) (held : ObjectMap) (index : EndpointIndex) (by_key : BTreeMap EndpointKey Streams) (by_id : BTreeMap ℕ EndpointKey) (within : Limits) : Type 0 where
   pub indexed : IsIndexed config held index (λ key. is_some (streams_at by_key key))
   pub shared : AreShared key_cmp (encoding limits) (endpoint_row config held) (streams_at by_key) (key_at by_id)
@@ -39,20 +39,20 @@ pub record Standing (config : Config) (limits : Limits) (held : ObjectMap) (inde
 abbrev pub Stands : Config → Limits → ObjectMap → SharedEndpoints → Type 0
 Stands config limits held s = Standing config limits held s.index s.by_key s.by_id s.limits
 
--- each key that has streams at all has one that is open
+-- each key that has streams has one that is open
 abbrev pub AllHaveOne : BTreeMap EndpointKey Streams → Type 0
 AllHaveOne by_key = (key : EndpointKey) → HasOneAt (streams_at by_key key)
 
--- They stand, and no key is there without an open stream.
+-- The same, and no key is left without an open stream.
 pub record StandsExactly (config : Config) (limits : Limits) (held : ObjectMap) (s : SharedEndpoints) : Type 0 where
   pub stands : Stands config limits held s
   pub each : AllHaveOne s.by_key
 
--- the key of the stream of an id
+-- the key of the stream under an id
 abbrev pub key_of_id : SharedEndpoints → ℕ → Option EndpointKey
 key_of_id s id = key_at s.by_id id
 
--- what the subscriber of the id was last shown, by the endpoints now
+-- the endpoints that the subscriber of the id was last shown, given the current ones
 abbrev pub shown_now : Option Streams → ℕ → Option EndpointView → Option EndpointView
 shown_now streams id None = None
 shown_now streams id (Some now) = shown_at streams id now
@@ -64,7 +64,7 @@ shown_of index by_key id (Some key) = shown_now (streams_at by_key key) id (row_
 abbrev pub shown_to_id : SharedEndpoints → ℕ → Option EndpointView
 shown_to_id s id = shown_of s.index s.by_key id (key_of_id s id)
 
--- A key has one user where a stream of it is open, and none elsewhere.
+-- A key has one user while a stream of it is open, and none otherwise.
 pub record HasOneUser (s : SharedEndpoints) (key : EndpointKey) : Type 0 where
   pub one : (id : ℕ) → key_of_id s id ≡ Some key → users s.index key ≡ 1
   pub none : ((id : ℕ) → is_key key_cmp key (key_of_id s id) ≡ false) → users s.index key ≡ 0

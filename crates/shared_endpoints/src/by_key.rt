@@ -23,7 +23,7 @@ use view_types::endpoint::EndpointRow;
 /// The streams of each key that has any.
 pub(crate) type StreamsByKey = BTreeMap<EndpointKey, KeyStreams<List<Bytes>>>;
 
-/// Opens a stream of a key that has streams, under an id that has none.
+/// Opens a stream under an id that has none. The key must have streams.
 pub(crate) fn open_at(by_key: &mut StreamsByKey, key: &EndpointKey, id: u64) -> Result<(), Memory>
     ensures { OnOk result (JoinsAt id key.now by_key.old by_key.new) }
 {
@@ -33,7 +33,7 @@ pub(crate) fn open_at(by_key: &mut StreamsByKey, key: &EndpointKey, id: u64) -> 
     }
 }
 
-/// Closes the stream of an id, which is one of the key's. Answers whether it was the last of these.
+/// Closes the stream of an id of the key. Returns whether it was the key's last stream.
 pub(crate) fn close_at(by_key: &mut StreamsByKey, key: &EndpointKey, id: u64) -> bool
     ensures left { LeavesAt id key.now by_key.old by_key.new }
     ensures last { result ≡ true
@@ -55,8 +55,7 @@ fn leave_streams(streams: &mut KeyStreams<List<Bytes>>, id: u64) -> bool
     streams.is_empty()
 }
 
-/// Lets the streams of these keys, each given once, follow the last change of the index. Answers
-/// their ids.
+/// Updates the streams of these keys after a change of the index. Each key occurs once. Returns the ids of the streams.
 pub(crate) fn change_all(
     alloc: Global,
     index: &EndpointIndex,
@@ -93,7 +92,7 @@ fn change_at(
     }
 }
 
-// Lets streams follow the change of their rows, and puts their ids behind those of the list.
+// Updates streams after a change of their rows, and appends their ids to the list.
 fn change_streams(
     before: &[(Ip, u16, Option<EndpointRow>)],
     streams: &mut KeyStreams<List<Bytes>>,

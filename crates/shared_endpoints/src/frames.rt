@@ -16,8 +16,8 @@ use mesh_base::memory::Memory;
 use std::alloc::Global;
 use view_types::endpoint::EndpointView;
 
-/// The frames that bring the subscriber of an id from the endpoints that it was last shown to those
-/// now. Where it fails nobody was shown anything.
+/// Returns the frames that bring a subscriber from the endpoints that it was last shown to the current ones. If this fails, what
+/// subscribers were shown stays as it was.
 pub(crate) fn drain(
     alloc: Global,
     streams: &mut KeyStreams<List<Bytes>>,
@@ -42,7 +42,7 @@ pub(crate) fn drain(
     Ok(frames)
 }
 
-// The frames of a stream, which are kept for others that were shown the same.
+// The frames of a stream, which are kept for other subscribers that were last shown the same.
 fn shared_frames(
     alloc: Global,
     streams: &mut KeyStreams<List<Bytes>>,
@@ -84,7 +84,7 @@ fn new_frames(
     frames_within(alloc, limits.message, messages.as_slice())
 }
 
-// The same frames once more. They share their bytes.
+// Copies a list of frames. The copies share their bytes.
 fn copy_frames(alloc: Global, frames: &List<Bytes>) -> Result<List<Bytes>, Memory>
     ensures { IfOk result (λ copy. copy ≡ frames.now) }
 {

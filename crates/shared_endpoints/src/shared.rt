@@ -22,11 +22,11 @@ use std::collections::BTreeMap;
 use view_rules::laws::endpoints_are_orderly;
 use view_types::config::Config;
 
-/// The streams of endpoints. Those of one key share its endpoints, and frames where their
-/// subscribers were last shown the same.
+/// The streams of endpoints. The streams of a key share its endpoints, and subscribers that were last shown the same endpoints share
+/// frames.
 #[derive(Drop)]
 pub struct SharedEndpoints {
-    /// Each key that has streams is one user of its endpoints.
+    /// The endpoints by key. A key that has streams counts as one user.
     index: EndpointIndex,
     by_key: StreamsByKey,
     /// The key of each stream.
@@ -48,7 +48,7 @@ impl SharedEndpoints {
     ghost use Rattle.shared_endpoints.specs.Sharing.{OthersHaveOne};
     ghost use Rattle.shared_endpoints.specs.Standing.{AllHaveOne, HasOneUser, Stands, key_of_id, shown_to_id};
 
-    /// No streams, whose messages are made within these limits.
+    /// Creates an empty set of streams. The limits apply to their messages.
     pub fn new(alloc: Global, config: &Config, limits: &Limits) -> Result<SharedEndpoints, Memory>
         requires { 1 ≤ limits.now.frame_addrs }
         ensures keys { IfOk result (λ shared. (id : ℕ)
@@ -65,14 +65,14 @@ impl SharedEndpoints {
         })
     }
 
-    /// A key has one user of its endpoints while a stream of it is open, and none otherwise.
+    /// States that a key has one user of its endpoints while a stream of it is open, and none otherwise.
     pub fn keys_have_one_user(&self)
         ensures { (config : TheConfig) (limits : TheLimits) (held : ObjectMap)
             → ⟦<SharedEndpoints as EndpointStreams>⟧.stands self.now config limits held
             → (key : TheKey) → HasOneUser self.now key }
     {}
 
-    // Makes room for streams of a key, if it has none.
+    // Adds an empty entry for the streams of a key, if it has none.
     fn enter<L>(
         &mut self,
         store: &Store,
@@ -102,7 +102,7 @@ impl SharedEndpoints {
         Ok(())
     }
 
-    // Opens a stream of a key that has room, under an id that has none.
+    // Opens a stream under an id that has none. The key must have an entry.
     fn add(&mut self, id: u64, key: EndpointKey) -> Result<(), Memory>
         requires free { key_of_id self.old id ≡ None }
         requires there { is_some (streams_at self.old.by_key key) ≡ true }

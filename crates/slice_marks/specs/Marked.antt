@@ -24,15 +24,15 @@ marks_given (Some marks) = marks
 abbrev pub marks_at : MarksBySlice → ObjKey → List Mark
 marks_at by key = marks_given (tree.get key_cmp by key)
 
--- at each mark stand the keys of the slices that read it
+-- each mark has the keys of the slices that read it
 pub record Agree (s : SliceMarks) : Type 0 where
   pub keys : (mark : Mark) (key : ObjKey) → key_at mark_cmp s.by_mark mark key ≡ has_mark (marks_at s.by_slice key) mark
 
--- each of the marks before is among those now or left out
+-- each of the earlier marks is among the current ones or the removed ones
 abbrev pub Leaves : List Mark → List Mark → List Mark → Type 0
 Leaves before marks left = (mark : Mark) → has_mark left mark ≡ false → has_mark before mark ≡ true → has_mark marks mark ≡ true
 
--- ---- which marks are read
+-- ---- the marks that are read
 
 -- a slice reads the mark
 abbrev pub is_read : KeysByMark → Mark → Bool
@@ -42,6 +42,6 @@ is_read by mark = list_any (λ key. true) (keys_at mark_cmp by mark)
 abbrev pub marks_read : KeysByMark → List Mark
 marks_read by = filter (is_read by) (tree.keys by)
 
--- each mark but these is read where it was
+-- for each mark except these, whether a slice reads it is as before
 abbrev pub OthersStay : List Mark → KeysByMark → KeysByMark → Type 0
 OthersStay marks old new = (mark : Mark) → has_mark marks mark ≡ false → is_read new mark ≡ is_read old mark

@@ -1,4 +1,4 @@
-//! The keys of slices at marks.
+//! The keys of slices by mark.
 ghost use Rattle.std.specs.Prelude.{◌≡◌, ◌&&◌, ◌||◌, ◌++◌, ◌∷◌, [], not, OnOk};
 ghost use Rattle.mesh_base.specs.declared.key.ObjKey.{ObjKey};
 ghost use Rattle.mesh_base.specs.KeyOrder.{key_cmp};
@@ -18,7 +18,7 @@ use std::cmp::Ordering;
 use std::collections::BTreeMap;
 use view_types::mark::Mark;
 
-/// The keys at a mark.
+/// Returns the keys at a mark.
 pub(crate) fn keys_at<'a>(by: &'a BTreeMap<Mark, KeyList>, mark: &Mark) -> &'a [ObjKey]
     ensures value { result.now ≡ keys_at mark_cmp by.now mark.now }
     ensures rise { Rises (keys_at mark_cmp by.now mark.now) }
@@ -26,7 +26,7 @@ pub(crate) fn keys_at<'a>(by: &'a BTreeMap<Mark, KeyList>, mark: &Mark) -> &'a [
     by_mark::keys_at(by, mark)
 }
 
-/// Puts the key of a slice to each of its marks. Those that didn't have it are added to those that moved.
+/// Adds the key of a slice at each of its marks. The marks that did not have it are appended to `moved`.
 pub(crate) fn put_keys(
     alloc: Global,
     by: &mut BTreeMap<Mark, KeyList>,
@@ -73,7 +73,7 @@ pub(crate) fn add_copy(alloc: Global, marks: &mut List<Mark>, mark: &Mark) -> Re
     marks.add(mark.copy(alloc)?)
 }
 
-/// Whether a key is among keys that rise.
+/// Whether a key is in a sorted list of keys.
 pub fn has_key(keys: &[ObjKey], key: &ObjKey) -> bool
     requires { Rises keys.now }
     ensures { result ≡ has_key key.now keys.now }
@@ -100,7 +100,7 @@ fn put_key(
     by_mark::put_one(alloc, by, mark, key)
 }
 
-/// Takes the key of a slice from each of its marks.
+/// Removes the key of a slice at each of its marks.
 pub(crate) fn take_keys(by: &mut BTreeMap<Mark, KeyList>, marks: &[Mark], key: &ObjKey)
     ensures { (m : Mark) (k : ObjKey)
         → key_at mark_cmp by.new m k

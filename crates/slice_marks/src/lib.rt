@@ -1,8 +1,7 @@
-//! The slices of a Service by the marks that their rows read, so that a Pod that changes leads to
-//! the slices that name it.
+//! The EndpointSlices of a Service by the marks that their rows read, so that the slices that name a changed Pod are found.
 //!
-//! Stands on mark_rules and key_lists, on mark_graph for the marks that go and come, and on endpoint_rows for
-//! lemmas about keys at items of lists. The contracts cite `specs/Marked`.
+//! Depends on mark_rules and key_lists, on mark_graph for the marks that a change removes and adds, and on endpoint_rows for lemmas about
+//! keys at items of lists. The contracts cite `specs/Marked`.
 #![tactic(auto)]
 
 pub mod keys;

@@ -28,7 +28,7 @@ pub struct SliceMarks {
 }
 
 impl SliceMarks {
-    /// No slice is known.
+    /// Creates an empty set of slices.
     pub fn new(alloc: Global) -> SliceMarks
         ensures agree { Agree result }
         ensures none { (k : ObjKey) → marks_at result.by_slice k ≡ [] }
@@ -40,7 +40,7 @@ impl SliceMarks {
         }
     }
 
-    /// The keys of the slices that read the mark, in order.
+    /// Returns the keys of the slices that read the mark, in order.
     pub fn at(&self, mark: &Mark) -> &[ObjKey]
         ensures value { result.now ≡ keys_at mark_cmp self.now.by_mark mark.now }
         ensures rise { Rises (keys_at mark_cmp self.now.by_mark mark.now) }
@@ -48,7 +48,7 @@ impl SliceMarks {
         keys_at(&self.by_mark, mark)
     }
 
-    /// The marks that a slice reads.
+    /// Returns the marks that a slice reads.
     pub fn of(&self, key: &ObjKey) -> &[Mark]
         ensures { result.now ≡ marks_at self.now.by_slice key.now }
     {
@@ -68,14 +68,14 @@ impl SliceMarks {
         }
     }
 
-    /// How many marks slices read.
+    /// Returns the number of marks that slices read.
     pub fn count(&self) -> usize
         ensures { result ≡ btree_map_len self.now.by_mark }
     {
         self.by_mark.len()
     }
 
-    /// The marks that slices read, in order.
+    /// Returns the marks that slices read, in order.
     pub fn all(&self, alloc: Global) -> Result<List<Mark>, Memory>
         ensures { IfOk result (λ marks. marks ≡ marks_read self.now.by_mark) }
     {
@@ -88,8 +88,8 @@ impl SliceMarks {
         Ok(marks)
     }
 
-    /// Lets the slice read these marks, and no others. Gives marks that moved: all others are read as before. Where one mark comes,
-    /// goes or stands in the place of another, those that stay aren't given (no clause says so).
+    /// Sets the marks that the slice reads. Returns the marks that may have changed: all others are read as before. If one mark is added,
+    /// removed or replaced, the marks that stay are not returned (no clause says so).
     pub fn put(&mut self, key: ObjKey, marks: List<Mark>) -> Result<List<Mark>, Memory>
         ensures agree { Agree self.old → OnOk result (Agree self.new) }
         ensures put { OnOk result ((k : ObjKey)
@@ -125,7 +125,7 @@ impl SliceMarks {
         Ok(moved)
     }
 
-    /// Lets the slice read nothing, and gives the marks that it read.
+    /// Removes the slice, and returns the marks that it read.
     pub fn take(&mut self, key: &ObjKey) -> List<Mark>
         ensures agree { Agree self.old → Agree self.new }
         ensures taken { (k : ObjKey)
@@ -138,7 +138,7 @@ impl SliceMarks {
         marks
     }
 
-    /// Tells of each of these marks whether a slice reads it now. One that a slice reads no more may be read by another.
+    /// Splits marks by whether a slice reads them now. A mark that one slice no longer reads may be read by another.
     pub fn moves(&self, alloc: Global, marks: List<Mark>) -> Result<MarkMoves<Mark>, Memory>
         ensures gone { IfOk result (λ moves. moves.gone
             ≡ filter (λ mark. not (is_read self.now.by_mark mark)) marks) }
@@ -158,7 +158,7 @@ impl SliceMarks {
     }
 }
 
-/// Whether the marks are those that there were.
+/// Whether the marks are the same as before.
 fn are_same(marks: &[Mark], before: &[Mark]) -> bool
     ensures { result ≡ true → marks.now ≡ before.now }
 {
@@ -168,8 +168,8 @@ fn are_same(marks: &[Mark], before: &[Mark]) -> bool
     }
 }
 
-/// The marks before that are no more, and maybe others: both lists are passed side by side, and a mark that doesn't stand where it is
-/// looked for is left out.
+/// Returns the earlier marks that are no longer there, and maybe others: both lists are compared side by side, and a mark that is not
+/// found at its expected index is returned.
 fn left_out(alloc: Global, before: &[Mark], marks: &[Mark]) -> Result<List<Mark>, Memory>
     ensures { IfOk result (Leaves before.now marks.now) }
 {
@@ -185,7 +185,7 @@ fn left_out(alloc: Global, before: &[Mark], marks: &[Mark]) -> Result<List<Mark>
     Ok(left)
 }
 
-/// Whether the mark stands at the place.
+/// Whether the mark is at the index.
 fn stands_at(marks: &[Mark], place: usize, mark: &Mark) -> bool
     ensures { result ≡ true → has_mark marks.now mark.now ≡ true }
 {
@@ -195,7 +195,7 @@ fn stands_at(marks: &[Mark], place: usize, mark: &Mark) -> bool
     }
 }
 
-/// Adds a copy of the mark to those that are left out, unless it stands where it was looked for.
+/// Appends a copy of the mark, unless it was found.
 fn leave_unless(
     alloc: Global,
     stands: bool,
@@ -210,7 +210,7 @@ fn leave_unless(
     add_copy(alloc, left, mark)
 }
 
-/// Where the next mark is looked for: at this place still where it stands there, and the one before doesn't.
+/// Returns the index at which the next mark is expected: the same one if the next mark is there and the last one was not found.
 fn place_after(marks: &[Mark], place: usize, stood: bool, next: Option<&Mark>) -> usize {
     match next {
         Some(next) if !stood && stands_at(marks, place, next) => place,
@@ -218,7 +218,7 @@ fn place_after(marks: &[Mark], place: usize, stood: bool, next: Option<&Mark>) -
     }
 }
 
-/// Adds copies of marks to a list.
+/// Appends copies of marks to a list.
 pub fn add_copies(alloc: Global, marks: &mut List<Mark>, others: &[Mark]) -> Result<(), Memory>
     ensures { OnOk result (marks.new ≡ marks.old ++ others.now) }
 {

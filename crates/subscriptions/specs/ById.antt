@@ -1,4 +1,4 @@
--- Subscriptions in the entries of a map.
+-- Subscriptions in a map by id.
 use Rattle.std.specs.Prelude.{◌≡◌, ℕ, List, Option, Some, None}
 use Rattle.std.specs.BTreeMap as tree
 use Rattle.std.specs.BTreeMap.{BTreeMap, Updates, is_at}
@@ -8,11 +8,11 @@ use Rattle.std.specs.Ordering.{nat_cmp}
 use Rattle.view_types.specs.declared.view.View.{View}
 use Rattle.subscriptions.specs.Live.{LiveSubscription, id_of, showing}
 
--- each stands at its own id
+-- each is stored under its own id
 abbrev pub AreByIds : List (ℕ × LiveSubscription) → Type 0
 AreByIds entries = AllByRecursion (λ entry. id_of entry.1 ≡ entry.0) entries
 
--- The subscription, if it stands at the id, was shown the view, and nothing else changed.
+-- The subscription under the id, if there is one, was shown the view, and nothing else changed.
 abbrev pub ShowsOne : ℕ → View → BTreeMap ℕ LiveSubscription → BTreeMap ℕ LiveSubscription → Option LiveSubscription → Type 0
 ShowsOne id view old new None = new.entries ≡ old.entries
 ShowsOne id view old new (Some sub) = (new.entries ≡ set_value (is_at (nat_cmp id)) old.entries (showing view sub)) × Updates nat_cmp old new id (Some (showing view sub))

@@ -1,4 +1,4 @@
--- That the live subscriptions stand is a fact in one way only, which a field of a struct has to be.
+-- The state of the live subscriptions is a proposition, as the type of a struct's field must be.
 use Rattle.std.specs.Prelude.{ℕ, Option}
 use Rattle.std.specs.Coded.{codes}
 use Rattle.mesh_base.specs.declared.limits.Limits.{Limits}

@@ -1,11 +1,11 @@
-// A view in memory of its own.
+// A view behind a pointer.
 use mesh_base::memory::Memory;
 use std::alloc::Global;
 use std::boxed::Box;
 use std::marker::Model;
 use view_types::view::View;
 
-/// A view in memory of its own, so that a subscription that was shown none has no room for one. Contracts see it as the view.
+/// A boxed view, so that a subscription that was shown none needs no room for one. Contracts see it as the view.
 #[derive(Drop)]
 pub struct BoxedView {
     inner: Box<View>,

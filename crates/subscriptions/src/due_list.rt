@@ -1,4 +1,4 @@
-// Ids of subscriptions in order.
+// Sorted lists of subscription ids.
 ghost use Rattle.std.specs.Prelude.{◌≡◌, ◌<◌, ◌&&◌, ◌||◌, not, ℕ, nat_eq, [], length, OnOk, IfOk, IfErr};
 ghost use Rattle.std.specs.List.{remove};
 ghost use Rattle.mesh_base.specs.Places.{IsHit, IsGap};
@@ -10,10 +10,10 @@ use std::alloc::Global;
 use std::cmp::Ordering;
 use std::marker::Model;
 
-/// Ids in order, each once. Contracts see them as a list.
+/// Ids in ascending order, each once. Contracts see them as a list.
 #[derive(Drop)]
 pub struct DueList {
-    /// Those before `start` were taken. They go once they are more than the others.
+    /// The ids from `start` on; those before it were removed. They are dropped once they outnumber the others.
     ids: Vec<SubId>,
     start: usize,
 }
@@ -43,7 +43,7 @@ impl DueList {
         }
     }
 
-    /// The ids in order.
+    /// Returns the ids in ascending order.
     pub fn as_slice(&self) -> &[SubId]
         ensures value { result.now ≡ self.now }
         ensures rise { Rises self.now }
@@ -61,7 +61,7 @@ impl DueList {
         }
     }
 
-    /// Puts the id into the list, if it isn't there.
+    /// Inserts the id, unless it is in the list.
     pub fn put(&mut self, id: SubId) -> Result<(), Memory>
         ensures { OnOk result ((n : ℕ)
             → is_among n self.new ≡ (nat_eq n id.0 || is_among n self.old)) }
@@ -75,7 +75,7 @@ impl DueList {
         Ok(())
     }
 
-    /// Takes the id out of the list.
+    /// Removes the id, if it is in the list.
     pub fn take(&mut self, id: SubId)
         ensures { (n : ℕ) → is_among n self.new ≡ (not (nat_eq n id.0) && is_among n self.old) }
     {
@@ -85,7 +85,7 @@ impl DueList {
         }
     }
 
-    // Takes the id at this place of the list. Those on its shorter side are moved.
+    // Removes the id at an index. The ids on its shorter side are moved.
     fn take_at(&mut self, at: usize)
         requires { at < length self.old }
         ensures { self.new ≡ remove self.old at }
@@ -97,7 +97,7 @@ impl DueList {
         }
     }
 
-    // Takes the id at this place, onto which those before it are moved up.
+    // Removes the id at an index by moving the ids before it up.
     fn take_forward(&mut self, at: usize)
         requires { at < length self.old }
         ensures { self.new ≡ remove self.old at }
@@ -115,7 +115,7 @@ impl DueList {
     }
 }
 
-/// Where the id stands, or where it would go.
+/// Returns the index of the id, or as an error the index at which it would be inserted.
 fn place(ids: &[SubId], id: SubId) -> Result<usize, usize>
     requires { Rises ids.now }
     ensures hit { IfOk result (IsHit (λ other. id_cmp other id) ids.now) }

@@ -20,7 +20,8 @@ use view_types::view::View;
 pub struct Subscription {
     pub id: SubId,
     pub query: Query,
-    /// The view that its subscriber was last shown, if it was drained. Its rows are in order. Of endpoints their stream knows it.
+    /// The view that the subscriber was last shown, with its rows in order; None before the first drain. For endpoints it is None, since
+    /// the stream of the subscription knows what was shown.
     shown: Option<BoxedView>,
 }
 
@@ -41,7 +42,7 @@ impl Model for Subscription {
 }
 
 impl Subscription {
-    /// A subscription that was not drained yet.
+    /// Creates a subscription that was not drained yet.
     pub fn new(id: SubId, query: Query) -> Subscription
         ensures { result ≡ record { id = id; query = query; shown = None } }
     {
@@ -52,7 +53,7 @@ impl Subscription {
         }
     }
 
-    /// The view that its subscriber was last shown.
+    /// Returns the view that the subscriber was last shown.
     pub fn shown(&self) -> Option<&View>
         ensures value { option_copied result ≡ self.now.shown }
         ensures orderly { IsOrderlyIfShown self.now.shown }
@@ -63,7 +64,7 @@ impl Subscription {
         }
     }
 
-    // Notes the view that its subscriber was shown.
+    // Records that the subscriber was shown the view.
     fn show(&mut self, view: BoxedView)
         requires { IsOrderlyIfShown (Some view) }
         ensures { self.new ≡ showing view self.old }
@@ -72,7 +73,7 @@ impl Subscription {
     }
 }
 
-/// The live subscriptions, each by its id. Contracts see them as a list in the order of their ids.
+/// The live subscriptions by id. Contracts see them as a list in ascending order of the ids.
 #[derive(Drop)]
 pub struct Subscriptions {
     by_id: BTreeMap<u64, Subscription>,
@@ -105,28 +106,28 @@ impl Subscriptions {
         }
     }
 
-    /// How many are live.
+    /// Returns the number of live subscriptions.
     pub fn len(&self) -> usize
         ensures { result ≡ length self.now }
     {
         self.by_id.len()
     }
 
-    /// Their ids rise.
+    /// States that the ids are in ascending order.
     pub fn stand_in_order(&self)
         ensures { IdsRise self.now }
     {
         let _len = self.by_id.len();
     }
 
-    /// The subscription under the id.
+    /// Returns the subscription under the id.
     pub fn get(&self, id: u64) -> Option<&Subscription>
         ensures { option_copied result ≡ sub_at id self.now }
     {
         self.by_id.get(&id)
     }
 
-    /// Adds a subscription whose id is above those of all others.
+    /// Adds a subscription. Its id must be above all others.
     pub fn add(&mut self, sub: Subscription) -> Result<(), Memory>
         requires { AreBelow (id_of sub) self.old }
         ensures ok { OnOk result (self.new ≡ self.old ++ sub ∷ []) }
@@ -137,7 +138,7 @@ impl Subscriptions {
         Ok(())
     }
 
-    /// Ends the subscription under the id. Answers whether there was one.
+    /// Removes the subscription under the id. Returns whether there was one.
     pub fn end(&mut self, id: u64) -> bool
         ensures there { result ≡ is_some (sub_at id self.old) }
         ensures gone { self.new ≡ in_place id_of id ended self.old }
@@ -146,7 +147,7 @@ impl Subscriptions {
         self.by_id.remove(&id).is_some()
     }
 
-    /// Notes the view that the subscriber of the id was shown.
+    /// Records that the subscriber under the id was shown the view.
     pub fn show(&mut self, id: u64, view: BoxedView)
         requires { IsOrderlyIfShown (Some view) }
         ensures shown { self.new ≡ in_place id_of id (shown_in_place view) self.old }

@@ -1,4 +1,4 @@
-// What a query asks for.
+// What a query requests.
 ghost use Rattle.std.specs.Prelude.{◌≡◌, IfOk, is_some};
 ghost use Rattle.view_rules.specs.Views.{as_asked};
 ghost use Rattle.subscriptions.specs.Live.{endpoint_key};
@@ -8,7 +8,7 @@ use mesh_base::memory::Memory;
 use view_types::query::Query;
 use view_types::view::View;
 
-/// The key of the endpoints that a query asks for, if it asks for endpoints.
+/// Returns the key of the endpoints that a query requests, or None if it is not for endpoints.
 pub fn endpoint_key(query: &Query) -> Result<Option<EndpointKey>, Memory>
     ensures { IfOk result (λ key. key ≡ endpoint_key query.now) }
 {
@@ -22,7 +22,7 @@ pub fn endpoint_key(query: &Query) -> Result<Option<EndpointKey>, Memory>
     }
 }
 
-/// Whether a query asks for endpoints.
+/// Whether a query is for endpoints.
 pub fn asks_for_endpoints(query: &Query) -> bool
     ensures { result ≡ is_some (endpoint_key query.now) }
 {
@@ -32,7 +32,7 @@ pub fn asks_for_endpoints(query: &Query) -> bool
     }
 }
 
-/// A view that is kept, told as its query asks.
+/// Converts a kept view to the form in which the query's method sends it.
 pub fn as_asked(query: &Query, view: View) -> View
     ensures { result ≡ as_asked query.now view }
 {

@@ -17,9 +17,8 @@ use mesh_base::memory::Memory;
 use mesh_base::sub_id::SubId;
 use std::alloc::Global;
 use view_types::query::Query;
-use view_types::view::View;
 
-/// The live subscriptions, of which some are due.
+/// The live subscriptions, and the ids of those that are due.
 #[derive(Drop)]
 pub struct Roster {
     subs: Subscriptions,
@@ -27,7 +26,7 @@ pub struct Roster {
 }
 
 impl Roster {
-    /// None.
+    /// Creates an empty roster.
     pub fn new(alloc: Global) -> Roster
         ensures subs { result.subs ≡ [] }
         ensures due { result.due ≡ [] }
@@ -39,28 +38,28 @@ impl Roster {
         }
     }
 
-    /// How many are live.
+    /// Returns the number of live subscriptions.
     pub fn len(&self) -> usize
         ensures { result ≡ length self.now.subs }
     {
         self.subs.len()
     }
 
-    /// Their ids rise.
+    /// States that the ids are in ascending order.
     pub fn stand_in_order(&self)
         ensures { IdsRise self.now.subs }
     {
         self.subs.stand_in_order();
     }
 
-    /// The subscription under the id.
+    /// Returns the subscription under the id.
     pub fn get(&self, id: SubId) -> Option<&Subscription>
         ensures { option_copied result ≡ sub_at id.0 self.now.subs }
     {
         self.subs.get(id.0 as u64)
     }
 
-    /// The ids that are due, in order.
+    /// Returns the ids that are due, in ascending order.
     pub fn due(&self) -> &[SubId]
         ensures value { result.now ≡ self.now.due }
         ensures rise { Rises self.now.due }
@@ -75,7 +74,7 @@ impl Roster {
         self.due.has(id)
     }
 
-    /// Makes a subscription live, whose id is above those of all others. It is due.
+    /// Adds a subscription, which is due. Its id must be above all others.
     pub fn add(&mut self, id: SubId, query: Query) -> Result<(), Memory>
         requires { AreBelow id.0 self.old.subs }
         ensures subs { OnOk result (self.new.subs ≡ self.old.subs ++ new_sub id query ∷ []) }
@@ -92,7 +91,7 @@ impl Roster {
         Ok(())
     }
 
-    /// Ends the subscription under the id. Answers whether there was one.
+    /// Removes the subscription under the id. Returns whether there was one.
     pub fn end(&mut self, id: SubId) -> bool
         ensures there { result ≡ is_some (sub_at id.0 self.old.subs) }
         ensures subs { self.new.subs ≡ in_place id_of id.0 ended self.old.subs }
@@ -106,7 +105,7 @@ impl Roster {
         self.subs.end(id.0 as u64)
     }
 
-    /// Notes the view that the subscriber of the id was shown. It is due no more.
+    /// Records that the subscriber under the id was shown the view. The id is no longer due.
     pub fn show(&mut self, id: SubId, view: BoxedView)
         requires { IsOrderlyIfShown (Some view) }
         ensures subs { self.new.subs ≡ in_place id_of id.0 (shown_in_place view) self.old.subs }
@@ -122,7 +121,7 @@ impl Roster {
         self.subs.show(id.0 as u64, view);
     }
 
-    /// Notes that the subscriber of the id was shown its endpoints. It is due no more.
+    /// Records that the subscriber under the id was shown its endpoints. The id is no longer due.
     pub fn show_endpoints(&mut self, id: SubId)
         ensures subs { self.new.subs ≡ self.old.subs }
         ensures due { (n : ℕ)

@@ -1,4 +1,4 @@
-// The live subscriptions, with the streams of those that ask for endpoints, and the views of the others.
+// The live subscriptions, with the streams of those to endpoints and the kept views of the others.
 ghost use Rattle.std.specs.Prelude.{◌≡◌, ◌≤◌, ◌+◌, ◌&&◌, ◌||◌, ◌++◌, ◌∷◌, [], ℕ, nat_eq, not, true, None, IfOk, OnErr, OnOk, is_some, length, option_map, Some};
 ghost use Rattle.std.specs.Option.{option_copied};
 ghost use Rattle.mesh_base.specs.declared.limits.Limits.{Limits};
@@ -41,8 +41,7 @@ use std::alloc::Global;
 use view_types::query::Query;
 use view_types::view::View;
 
-/// The live subscriptions, some of which are due. Those that ask for endpoints have a stream each, and the others share the views
-/// that are kept.
+/// The live subscriptions, some of which are due. Those to endpoints have a stream each; the others share kept views.
 #[derive(Drop)]
 pub struct Subscribers<E: EndpointStreams, V: QueryViews> {
     live: Roster,
@@ -51,7 +50,7 @@ pub struct Subscribers<E: EndpointStreams, V: QueryViews> {
 }
 
 impl<E: EndpointStreams, V: QueryViews> Subscribers<E, V> {
-    /// None. No stream is open yet, and no view is kept.
+    /// Creates an empty set of subscriptions. It must be given no open stream and no kept view.
     pub fn new(alloc: Global, endpoints: E, views: V) -> Subscribers<E, V>
         requires closed { (id : ℕ) → E.key_of endpoints id ≡ None }
         requires unkept { (id : ℕ) → V.query_of views id ≡ None }
@@ -69,21 +68,21 @@ impl<E: EndpointStreams, V: QueryViews> Subscribers<E, V> {
         }
     }
 
-    /// How many are live.
+    /// Returns the number of live subscriptions.
     pub fn len(&self) -> usize
         ensures { result ≡ length self.now.live.subs }
     {
         self.live.len()
     }
 
-    /// The subscription under the id. What one of endpoints has shown is known by its stream.
+    /// Returns the subscription under the id. For endpoints, the stream knows what the subscriber was shown.
     pub fn get(&self, id: SubId) -> Option<&Subscription>
         ensures { option_copied result ≡ sub_at id.0 self.now.live.subs }
     {
         self.live.get(id)
     }
 
-    /// The ids that are due, in order.
+    /// Returns the ids that are due, in ascending order.
     pub fn due(&self) -> &[SubId]
         ensures value { result.now ≡ self.now.live.due }
         ensures rise { Rises self.now.live.due }
@@ -98,8 +97,8 @@ impl<E: EndpointStreams, V: QueryViews> Subscribers<E, V> {
         self.live.is_due(id)
     }
 
-    /// The rows that have users, in the indexes of endpoints and of views together, are exactly those of the queries of the live
-    /// subscriptions.
+    /// States that the rows that have users, in the indexes of endpoints and of other views together, are exactly those of the queries
+    /// of the live subscriptions.
     pub fn rows_in_use_are_those_of_queries(&self)
         ensures { (config : Config) (limits : Limits) (held : ObjectMap) → Covers V.kept_query
             → AllStand E.key_of E.shown_to E.stands V.kept_query V.query_of V.stands
@@ -108,7 +107,7 @@ impl<E: EndpointStreams, V: QueryViews> Subscribers<E, V> {
             (λ key. E.users self.now.endpoints key + V.users self.now.views key) }
     {}
 
-    /// Makes a subscription live, whose id is above those of all others. It is due.
+    /// Adds a subscription, which is due. Its id must be above all others.
     pub fn add<L>(
         &mut self,
         store: &Store,
@@ -144,7 +143,7 @@ impl<E: EndpointStreams, V: QueryViews> Subscribers<E, V> {
         Ok(())
     }
 
-    /// Ends the subscription under the id. Answers whether there was one. It allocates nothing.
+    /// Removes the subscription under the id. Returns whether there was one. It does not allocate.
     pub fn end(&mut self, id: SubId) -> bool
         ensures there { result ≡ is_some (sub_at id.0 self.old.live.subs) }
         ensures subs { self.new.live.subs ≡ in_place id_of id.0 ended self.old.live.subs }
@@ -166,7 +165,8 @@ impl<E: EndpointStreams, V: QueryViews> Subscribers<E, V> {
         self.live.end(id)
     }
 
-    /// The view of the query under the id, if it is kept. It is a copy.
+    /// Returns a copy of the kept view of the subscription under the id. For endpoints, and for an id without a subscription, it returns
+    /// None.
     pub fn view(&self, id: SubId) -> Result<Option<View>, Memory>
         ensures { IfOk result (λ view. (config : Config) (limits : Limits)
             (held : ObjectMap) → AtKeys held → AreLawful held → Covers V.kept_query
@@ -181,8 +181,8 @@ impl<E: EndpointStreams, V: QueryViews> Subscribers<E, V> {
         }
     }
 
-    /// The view of a query over the objects of the store, if it is one that is kept, whether or not somebody subscribed to it. Nothing
-    /// is kept of it.
+    /// Returns the view of a query over the objects of the store, whether or not there is a subscription with this query. For a query for
+    /// endpoints it returns None. The view is not kept.
     pub fn peek<L>(
         &self,
         store: &Store,
@@ -203,7 +203,7 @@ impl<E: EndpointStreams, V: QueryViews> Subscribers<E, V> {
         Ok(told(query, self.views.peek(store, query, steps)?))
     }
 
-    /// Notes the view that the subscriber of the id was shown, which asks for no endpoints. It is due no more.
+    /// Records that the subscriber under the id was shown the view, which is not of endpoints. The id is no longer due.
     pub fn show(&mut self, id: SubId, view: BoxedView)
         requires orderly { IsOrderlyIfShown (Some view) }
         requires other { key_at id.0 self.old.live.subs ≡ None }
@@ -224,8 +224,9 @@ impl<E: EndpointStreams, V: QueryViews> Subscribers<E, V> {
         self.live.show(id, view);
     }
 
-    /// The frames that bring the subscriber of the id from the endpoints that it was last shown to those now. It is due no more.
-    /// `Oversize` comes where a message is longer than may be; it tells the first such length. An error shows nobody anything.
+    /// Returns the frames that bring the subscriber of the id from the endpoints that it was last shown to the current ones. The id is
+    /// no longer due. Returns `Oversize`, with the length of the first such message, if a message is longer than the limit. After an
+    /// error, what subscribers were shown is as before.
     pub fn drain(&mut self, id: SubId) -> Result<List<Bytes>, HubFault>
         requires standing { (config : Config) × (limits : Limits) × (held : ObjectMap)
             × E.stands self.old.endpoints config limits held }
@@ -267,7 +268,7 @@ impl<E: EndpointStreams, V: QueryViews> Subscribers<E, V> {
         }
     }
 
-    /// Makes those due whose queries read a mark of this change of the store, which is that of an event.
+    /// Makes those subscriptions due whose queries read a mark of this change of the store, which must be that of an event.
     pub fn follow<L>(
         &mut self,
         store: &Store,
@@ -300,7 +301,7 @@ impl<E: EndpointStreams, V: QueryViews> Subscribers<E, V> {
     }
 }
 
-// A view that is kept, if there is one, told as the query asks.
+// Converts a kept view, if there is one, to the form in which the query's method sends it.
 fn told(query: &Query, view: Option<View>) -> Option<View>
     ensures { result ≡ option_map (as_asked query.now) view }
 {
@@ -310,7 +311,7 @@ fn told(query: &Query, view: Option<View>) -> Option<View>
     }
 }
 
-// Opens a stream for a subscription that asks for endpoints.
+// Opens a stream, if the subscription is to endpoints.
 fn open_stream<E: EndpointStreams, L>(
     endpoints: &mut E,
     store: &Store,

@@ -11,8 +11,7 @@ use std::alloc::Global;
 use view_types::endpoint::{EndpointRow, EndpointView};
 use view_types::message::Message;
 
-/// The messages that bring a subscriber from the old endpoints, or from none, to the new ones. The rows that they carry
-/// are copied.
+/// Returns the messages that bring a subscriber from the old endpoints, or from none, to the new ones. Their rows are copies.
 pub fn endpoint_batch(
     alloc: Global,
     old: Option<&EndpointView>,
@@ -42,7 +41,7 @@ fn to_none(alloc: Global, old: Option<&EndpointView>, exists: bool) -> Result<Li
     Ok(messages)
 }
 
-/// Whether it is news that there are no rows.
+/// Whether a subscriber must be sent that there are no rows.
 fn is_news(old: Option<&EndpointView>, exists: bool) -> bool
     ensures { result ≡ is_news (option_copied old.entry) exists }
 {

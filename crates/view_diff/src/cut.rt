@@ -6,7 +6,7 @@ use mesh_base::memory::Memory;
 use std::alloc::Global;
 use std::mem;
 
-/// The items in pieces of `size` items, of which the last may have fewer.
+/// Splits the items into pieces of `size` items each. The last piece may have fewer.
 pub fn in_pieces<T: Drop>(
     alloc: Global,
     items: List<T>,

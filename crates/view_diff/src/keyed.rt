@@ -1,4 +1,4 @@
-//! The messages of rows that stand at keys.
+//! The messages for a change of rows that have keys.
 ghost use Rattle.std.specs.Prelude.{◌≡◌, ◌≤◌, ◌++◌, IfOk, OnOk, map};
 ghost use Rattle.mesh_base.specs.Keyed.{IsKeyed};
 ghost use Rattle.view_rules.specs.Batch.{messages_of};
@@ -12,7 +12,7 @@ use row_places::keyed::KeyedRow;
 use std::alloc::Global;
 use view_types::message::Message;
 
-/// The messages from the old rows to the new ones. Both lists are in the order of the keys, each key once.
+/// Returns the messages from the old rows to the new ones. Both lists must be sorted by key, each key once.
 pub(crate) fn keyed_batch<T: KeyedRow>(
     alloc: Global,
     old: &[T],
@@ -28,8 +28,8 @@ pub(crate) fn keyed_batch<T: KeyedRow>(
     messages_of::<T>(alloc, find_changes(alloc, old, new)?, size)
 }
 
-/// First the changed rows, then the keys gone, each in messages of `size` entries, of which the
-/// last may have fewer.
+/// The messages for the changed rows, followed by those for the removed keys. Each has `size` entries; the last of either kind may
+/// have fewer.
 pub(crate) fn messages_of<T: KeyedRow>(
     alloc: Global,
     found: Changes<T, T::Key>,

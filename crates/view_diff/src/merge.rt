@@ -1,4 +1,4 @@
-//! What a view shows that the one before it did not, by one pass over both.
+//! The differences between two lists of rows, found by one merge.
 ghost use Rattle.std.specs.Prelude.{◌≡◌, ◌≢◌, ◌∷◌, ◌++◌, [], IfOk, OnOk, map, if◌then◌else◌};
 ghost use Rattle.mesh_base.specs.Keyed.{IsKeyed};
 ghost use Rattle.view_rules.specs.ByKey.{changed_from, gone_keys};
@@ -12,17 +12,17 @@ use row_places::keyed::KeyedRow;
 use std::alloc::Global;
 use std::cmp::Ordering;
 
-/// What has changed between two views.
+/// The differences between two views.
 #[derive(Drop)]
 pub struct Changes<T, K> {
     /// The rows that are new or have changed.
     pub changed: List<T>,
-    /// The keys at which there is no row any more.
+    /// The keys whose rows were removed.
     pub gone: List<K>,
 }
 
 impl<T, K> Changes<T, K> {
-    /// Nothing has changed yet.
+    /// Creates an empty set of differences.
     pub fn new(alloc: Global) -> Changes<T, K>
         ensures { result ≡ record { changed = []; gone = [] } }
     {
@@ -33,7 +33,7 @@ impl<T, K> Changes<T, K> {
     }
 }
 
-/// Both lists are in the order of the keys, each key once.
+/// Finds the differences. Both lists must be sorted by key, each key once.
 pub fn find_changes<T: KeyedRow>(
     alloc: Global,
     old: &[T],
@@ -55,7 +55,7 @@ pub fn find_changes<T: KeyedRow>(
     Ok(found)
 }
 
-/// Passes the lesser of the first two rows, or both where they are at one key.
+/// Advances past the first row with the lesser key, or past both first rows if their keys are equal.
 fn pass<'a, T: KeyedRow>(
     alloc: Global,
     found: &mut Changes<T, T::Key>,
@@ -94,7 +94,7 @@ fn first<'a, T>(rows: &'a [T]) -> (&'a T, &'a [T])
     (&rows[0], &rows[1..])
 }
 
-/// Adds the row, unless it is the same as the one that was there.
+/// Adds the new row, unless it is the same as the old one.
 pub fn add_if_changed<T: KeyedRow>(
     alloc: Global,
     changed: &mut List<T>,

@@ -1,4 +1,4 @@
-//! The messages of an inbound view that is told by what changes of its authorizations.
+//! The messages for an inbound view that is sent as changes of its authorizations.
 ghost use Rattle.std.specs.Prelude.{◌≡◌, ◌≤◌, IfOk};
 ghost use Rattle.std.specs.Option.{option_copied};
 ghost use Rattle.mesh_base.specs.Keyed.{IsKeyed};
@@ -15,8 +15,8 @@ use std::alloc::Global;
 use view_types::message::Message;
 use view_types::server_view::{AuthzRow, ServerView};
 
-/// The messages that bring a subscriber from the old view of a port, or from none, to the new one: what differs of the
-/// Server's authorizations, where nothing else differs, and otherwise the view whole.
+/// Returns the messages that bring a subscriber from the old view of a port, or from none, to the new one: the differences of the
+/// Server's authorizations if nothing else differs, and otherwise the whole view.
 pub(crate) fn port_batch(
     alloc: Global,
     old: Option<&ServerView>,
@@ -36,7 +36,7 @@ pub(crate) fn port_batch(
     whole_batch::<PortRows>(alloc, old, new)
 }
 
-/// Whether both views are there, and nothing but the Server's own authorizations differs.
+/// Whether both views have a Server, and only its own authorizations differ.
 fn differ_in_authz(old: Option<&ServerView>, new: &ServerView) -> bool
     ensures { result ≡ differ_in_authz (option_copied old.entry) new.now }
 {

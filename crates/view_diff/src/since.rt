@@ -19,10 +19,9 @@ use std::alloc::Global;
 use view_types::endpoint::{EndpointRow, EndpointView};
 use view_types::message::Message;
 
-/// The messages that bring a subscriber from the endpoints that it saw to those now. What it saw is
-/// given by whether the Service was there, and by the addresses that may have changed since, each
-/// with the row that stood there. At all others it saw what is there now. Only these addresses are
-/// looked at.
+/// Returns the messages that bring a subscriber from the endpoints that it was shown to the current ones. `exists` says whether the
+/// Service existed then. `before` has the addresses that may have changed since, in order, each with the row that was there, if any. At
+/// all other addresses the subscriber was shown the current rows, which are not looked at.
 pub fn batch_since(
     alloc: Global,
     exists: bool,
@@ -61,7 +60,7 @@ fn to_none(
     Ok(messages)
 }
 
-/// Whether it is news that there are no rows.
+/// Whether a subscriber must be sent that there are no rows.
 fn is_news(existed: bool, before: &[(Ip, u16, Option<EndpointRow>)], exists: bool) -> bool
     requires { IsByAddress before.now }
     ensures { result
@@ -92,7 +91,7 @@ fn to_rows(
     messages_of::<EndpointRow>(alloc, found, size)
 }
 
-/// What has changed at these addresses.
+/// Finds the differences at these addresses.
 fn find_changes(
     alloc: Global,
     before: &[(Ip, u16, Option<EndpointRow>)],
@@ -112,7 +111,7 @@ fn find_changes(
     Ok(found)
 }
 
-/// Adds what has changed at an address, by the row that stood there and the one that does now.
+/// Adds the difference at one address, from the row that was there and the current one.
 fn add_change(
     alloc: Global,
     found: &mut Changes<EndpointRow, (Ip, u16)>,

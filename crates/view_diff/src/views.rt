@@ -16,8 +16,8 @@ use view_types::outbound::{OutboundView, ProfileView};
 use view_types::server_view::ServerView;
 use view_types::view::View;
 
-/// The messages that bring a subscriber from the old view, or from none, to the new one. Views of endpoints are sent by
-/// what has changed, and so are inbound views of which only the Server's authorizations have; the others are sent whole.
+/// Returns the messages that bring a subscriber from the old view, or from none, to the new one. Views of endpoints are sent as
+/// differences, and so are inbound views of which only the Server's authorizations have changed; all others are sent whole.
 pub fn batch(
     alloc: Global,
     old: Option<&View>,

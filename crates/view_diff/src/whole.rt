@@ -18,33 +18,33 @@ use view_types::message::Message;
 use view_types::outbound::{OutboundView, ProfileView};
 use view_types::server_view::ServerView;
 
-/// How views of one kind are sent whole.
+/// A kind of view that is sent whole.
 pub trait Whole {
     type View: Copied + Same;
 
     /// Whether two views are the same.
     ghost same: { Self.View → Self.View → Bool };
 
-    /// The message that has the view.
+    /// The message that carries the view.
     ghost whole: { Self.View → TheMessage };
 
     fn message(view: Self::View) -> Message
         ensures { result ≡ whole view };
 
-    /// The same views are equal, and equal ones the same.
+    /// States that views are the same exactly if they are equal.
     ghost decides: { (v w : Self.View) → Decides (same v w) (v ≡ w) };
 }
 
 /// Profiles of targets.
 pub struct Profiles;
 
-/// Inbound views of ports of Pods.
+/// Inbound views of Pod ports.
 pub struct Ports;
 
 /// Outbound views of targets.
 pub struct Targets;
 
-/// Inbound views of which later messages tell what changes.
+/// Inbound views of Pod ports whose later changes are sent as differences.
 pub struct PortRows;
 
 impl Whole for Profiles {
@@ -103,8 +103,8 @@ impl Whole for PortRows {
     }
 }
 
-/// The message that brings a subscriber from the old view, or from none, to the new one, unless it shows the same. The
-/// view that it carries is copied.
+/// Returns the message that brings a subscriber from the old view, or from none, to the new one, unless both are the same. The message
+/// has a copy of the view.
 pub fn whole_batch<T: Whole>(
     alloc: Global,
     old: Option<&T::View>,

@@ -1,4 +1,4 @@
--- The rows that are seen are in order.
+-- The rows of a folded view are in order.
 use Rattle.std.specs.Prelude.{Option, Some}
 use Rattle.std.specs.Coded.{Unit-prop}
 use Rattle.std.proofs.Math.Dec.{T_prop}

@@ -1,4 +1,4 @@
--- Keys in order, of which some may tie.
+-- Lists sorted by key, in which keys may repeat.
 use Rattle.std.specs.Prelude.{List}
 use Rattle.std.specs.List.Sorted.{IsSortedBy}
 use Rattle.std.specs.Ordering.{is_lt}

@@ -19,7 +19,7 @@ use view_types::message::Message;
 use view_types::server_view::{AuthzKind, AuthzRow, ServerView};
 use view_types::view::View;
 
-/// What is seen after messages.
+/// The view that a subscriber has after the messages so far.
 #[derive(Drop)]
 pub struct Fold {
     pub(crate) view: Option<View>,
@@ -27,14 +27,14 @@ pub struct Fold {
 }
 
 impl Fold {
-    /// Nothing is seen yet.
+    /// Creates a fold of no messages, which has no view yet.
     pub fn new() -> Fold
         ensures { result.view ≡ None }
     {
         Fold { view: None }
     }
 
-    /// Takes one more message. Where memory runs out what is seen stays as it is.
+    /// Applies one more message. If memory runs out, the view stays as it was.
     pub fn take(&mut self, alloc: Global, message: Message) -> Result<(), Memory>
         ensures ok { OnOk result (self.new.view ≡ Some (shown_after self.old.view message)) }
         ensures err { OnErr result (self.new ≡ self.old) }
@@ -117,7 +117,7 @@ impl Fold {
         Ok(())
     }
 
-    /// The view that the messages show, from the first on.
+    /// The view after the messages so far. It is None before the first message.
     pub fn view(&self) -> Option<&View>
         ensures { option_copied result ≡ self.now.view }
     {
@@ -144,7 +144,7 @@ fn add_rows(alloc: Global, view: &mut EndpointView, rows: List<EndpointRow>) -> 
     Ok(())
 }
 
-/// The authorizations of a Server in order, and of those with one kind and name the last alone.
+/// Sorts the authorizations of a Server. Of those with the same kind and name the last is kept.
 fn in_order(alloc: Global, view: ServerView) -> Result<ServerView, Memory>
     ensures { IfOk result (λ sorted. sorted ≡ with_authz (λ authz. authz) view) }
 {

@@ -1,6 +1,6 @@
 ghost use Rattle.view_fold.specs.Laws.{FoldsAreOrderly};
 
-/// What is seen by folding messages, whatever they are, has its rows in order, and none where a Service isn't there.
+/// States that the view folded from any messages has its rows in order, and none if the Service does not exist.
 pub fn folds_are_orderly()
     ensures { FoldsAreOrderly }
 {}

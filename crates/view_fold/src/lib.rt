@@ -1,7 +1,7 @@
-//! The view that messages leave.
+//! The view that results from applying messages in order.
 //!
-//! Stands on view_types, row_places and view_rules, whose `Fold` says what is seen by folding
-//! messages. A message costs what it changes, unless it has many rows or keys.
+//! Depends on view_types, row_places and view_rules, whose `Fold` defines the view after some messages. The cost of applying a message
+//! depends on what it changes, except that a message with many rows or keys is applied by one pass over all rows.
 #![tactic(auto)]
 
 pub mod folding;

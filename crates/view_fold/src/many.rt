@@ -1,4 +1,4 @@
-//! Many rows at once, put in order or taken out by one pass over all rows.
+//! Insertion and removal of many rows at once, by one pass over all rows.
 ghost use Rattle.std.specs.Prelude.{◌≡◌, OnOk, OnErr, not};
 ghost use Rattle.std.specs.FinMap.{values};
 ghost use Rattle.std.specs.List.{filter, list_any};
@@ -13,7 +13,7 @@ use mesh_base::memory::Memory;
 use row_places::keyed::KeyedRow;
 use std::cmp::Ordering;
 
-/// Puts rows in the places of those of their keys. Where memory runs out all stay as they are.
+/// Inserts rows by their keys, replacing those with the same key. If memory runs out, the rows stay as they were.
 pub fn put_many<T: KeyedRow>(rows: &mut Vec<T>, added: Vec<T>) -> Result<(), Memory>
     ensures ok { OnOk result (rows.new.items
         ≡ values (put_all T.cmp T.key_of added.items (map_of T.cmp T.key_of rows.old.items))) }
@@ -31,7 +31,7 @@ pub fn put_many<T: KeyedRow>(rows: &mut Vec<T>, added: Vec<T>) -> Result<(), Mem
     }
 }
 
-/// Takes the rows at these keys out. Where memory runs out all stay as they are.
+/// Removes the rows at these keys. If memory runs out, the rows stay as they were.
 pub fn take_many<T: KeyedRow>(rows: &mut Vec<T>, keys: Vec<T::Key>) -> Result<(), Memory>
     requires { IsKeyed T.cmp T.key_of (λ row. row) rows.old.items }
     ensures ok { OnOk result (rows.new.items
@@ -52,7 +52,7 @@ fn sort_keys<T: KeyedRow>(keys: &mut Vec<T::Key>) -> Result<(), Memory>
     Ok(())
 }
 
-/// The keys are sorted.
+/// Removes the rows at these keys, which must be sorted.
 fn drop_from<T: KeyedRow>(rows: &mut Vec<T>, gone: &[T::Key])
     requires { AreSorted T.cmp gone.now }
     ensures { rows.new.items ≡ filter (λ row. not
@@ -61,7 +61,7 @@ fn drop_from<T: KeyedRow>(rows: &mut Vec<T>, gone: &[T::Key])
     rows.retain(|row| !is_gone(gone, row));
 }
 
-/// Whether the row stands at one of the keys, where these are sorted.
+/// Whether the row's key is among these keys, which must be sorted.
 fn is_gone<T: KeyedRow>(gone: &[T::Key], row: &T) -> bool
     ensures { AreSorted T.cmp gone.now
         → result ≡ list_any (eq_by_cmp T.cmp (T.key_of row.now)) gone.now }

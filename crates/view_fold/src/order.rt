@@ -5,7 +5,7 @@ use mesh_base::memory::Memory;
 use row_places::keyed::KeyedRow;
 use row_places::order::keep_first;
 
-/// Puts rows into the order of their keys, each key once, by its last row. Where memory runs out they stay as they are.
+/// Sorts rows by key. Of the rows with one key the last is kept. If memory runs out, the rows stay as they were.
 pub fn put_in_order<T: KeyedRow>(rows: &mut Vec<T>) -> Result<(), Memory>
     ensures ok { OnOk result
         (rows.new.items ≡ in_order_by T.cmp T.key_of (reverse rows.old.items)) }

@@ -1,4 +1,4 @@
-//! Rows put in the places of their keys, and taken out.
+//! Insertion and removal of rows by their keys.
 ghost use Rattle.std.specs.Prelude.{◌≡◌, ◌<◌, ◌≤◌, ◌+◌, OnOk, OnErr};
 ghost use Rattle.std.specs.FinMap.{insert, remove, values};
 ghost use Rattle.std.specs.Vec.{vec_capacity, vec_len};
@@ -13,11 +13,11 @@ use row_places::place::{place, place_of};
 use std::alloc::Global;
 use std::mem;
 
-/// Up to so many rows at once are put, or taken out, each in its place, which moves the rows behind
-/// it only where a key comes or goes. More are by one pass over all rows.
+/// The most rows that are inserted or removed one by one, each at its place, which moves the rows after it only if a key is added or
+/// removed. For more rows, one pass goes over all of them.
 const FEW: usize = 16;
 
-/// Puts rows in the places of those of their keys. Where memory runs out all stay as they are.
+/// Inserts rows by their keys, replacing those with the same key. If memory runs out, the rows stay as they were.
 pub fn put_rows<T: KeyedRow>(
     alloc: Global,
     rows: &mut List<T>,
@@ -48,7 +48,7 @@ fn add_to<T: KeyedRow>(rows: &mut Vec<T>, added: Vec<T>) -> Result<(), Memory>
     Ok(())
 }
 
-/// Puts each row in its place. There is room for all of them.
+/// Inserts rows one by one. There must be room for all of them.
 fn put_each<T: KeyedRow>(rows: &mut Vec<T>, added: Vec<T>)
     requires keyed { IsKeyed T.cmp T.key_of (λ row. row) rows.old.items }
     requires room { vec_len rows.old + vec_len added ≤ vec_capacity rows.old }
@@ -60,7 +60,7 @@ fn put_each<T: KeyedRow>(rows: &mut Vec<T>, added: Vec<T>)
     }
 }
 
-/// Puts a row in its place. There is room for it.
+/// Inserts a row, or replaces the one with its key. There must be room for it.
 fn put_row<T: KeyedRow>(rows: &mut Vec<T>, row: T)
     requires keyed { IsKeyed T.cmp T.key_of (λ row. row) rows.old.items }
     requires room { vec_len rows.old < vec_capacity rows.old }
@@ -80,7 +80,7 @@ fn put_row<T: KeyedRow>(rows: &mut Vec<T>, row: T)
     }
 }
 
-/// Takes the rows at these keys out. Where memory runs out all stay as they are.
+/// Removes the rows at these keys. If memory runs out, the rows stay as they were.
 pub fn take_out<T: KeyedRow>(
     alloc: Global,
     rows: &mut List<T>,
