@@ -8,7 +8,7 @@ use std::alloc::Global;
 use view_types::query::Target;
 
 /// The key of the endpoints of a Service's port.
-#[derive(Drop, PartialEq, Eq, PartialOrd, Ord)]
+#[derive(Drop, PartialEq, Eq, PartialOrd, Ord, Hash)]
 pub struct EndpointKey {
     pub name: Text,
     pub ns: Text,
@@ -16,14 +16,14 @@ pub struct EndpointKey {
 }
 
 /// The key of a target's profile, for a client in this namespace if it names one.
-#[derive(Drop, PartialEq, Eq, PartialOrd, Ord)]
+#[derive(Drop, PartialEq, Eq, PartialOrd, Ord, Hash)]
 pub struct ProfileKey {
     pub target: Target,
     pub client: Option<Text>,
 }
 
 /// The key of what a Pod's port is served by: its protocol, its policy and its Server.
-#[derive(Drop, PartialEq, Eq, PartialOrd, Ord)]
+#[derive(Drop, PartialEq, Eq, PartialOrd, Ord, Hash)]
 pub struct ServerKey {
     pub pod: Text,
     pub ns: Text,
@@ -31,7 +31,7 @@ pub struct ServerKey {
 }
 
 /// The key of a Server's routes.
-#[derive(Drop, PartialEq, Eq, PartialOrd, Ord)]
+#[derive(Drop, PartialEq, Eq, PartialOrd, Ord, Hash)]
 pub struct RouteKey {
     pub server: Text,
     pub ns: Text,

@@ -19,7 +19,7 @@ pub enum Method {
 }
 
 /// Where traffic is to go. A port is from 1 to 65535.
-#[derive(Drop, PartialEq, Eq, PartialOrd, Ord)]
+#[derive(Drop, PartialEq, Eq, PartialOrd, Ord, Hash)]
 pub enum Target {
     Service { ns: Text, name: Text, port: u16 },
     Address { ip: Ip, port: u16 },
