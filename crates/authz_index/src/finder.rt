@@ -1,4 +1,4 @@
-// How the authorizations of a Server or of a route are found.
+// The lookup of the authorizations of a Server or of a route.
 ghost use Rattle.mark_rules.specs.Reads.{authz_reads};
 ghost use Rattle.mark_rules.specs.Rows.{authz_row};
 ghost use Rattle.mark_rules.proofs.Authz.{authz_stays};
@@ -16,7 +16,7 @@ use std::alloc::Global;
 use view_types::config::Config;
 use view_types::server_view::AuthzRow;
 
-/// Finds the authorizations of a Server or of a route under a configuration, by kind and name.
+/// Looks up the authorizations of a Server or of a route under a configuration, by kind and name.
 #[derive(Drop)]
 pub struct AuthzFinder {
     pub config: Config,

@@ -14,10 +14,10 @@ use row_table::table::RowTable;
 use std::alloc::Global;
 use view_types::config::Config;
 
-/// The authorizations of Servers and of routes by the keys of these.
+/// The authorizations of Servers and of routes, by the key of the Server or route.
 pub type AuthzIndex = RowTable<FindAnew<AuthzFinder>>;
 
-/// An index without users. It stands for all objects.
+/// Creates an index without users. It stands for all objects.
 pub fn new_index(alloc: Global, config: &Config) -> Result<AuthzIndex, Memory>
     ensures filter { IfOk result (λ index. ⟦<RowTable<FindAnew<AuthzFinder>> as RowIndex>⟧.filter
         index ≡ record { row_of = authz_row config.now; reads = authz_reads }) }

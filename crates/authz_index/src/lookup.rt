@@ -30,7 +30,7 @@ use view_types::mark::Mark;
 use view_types::object::Object;
 use view_types::server_view::AuthzRow;
 
-/// The authorizations of the Server or the route of a key. Another key has none.
+/// Returns the authorizations of the Server or the route of a key. Any other key has none.
 pub(crate) fn authz_of<L>(
     from: &Snapshot,
     key: &ObjKey,
@@ -74,7 +74,8 @@ fn server_authz<L>(
     Ok(PlainRow { row, marks })
 }
 
-// The rows of those among the objects with a mark of the Server that apply to it. None does where no Server is held.
+// Returns the rows of those of the objects with a mark of the Server that apply to it. There are
+// none if no Server is held.
 fn server_rows<L>(
     from: &Snapshot,
     key: &ObjKey,
@@ -96,7 +97,8 @@ fn server_rows<L>(
     }
 }
 
-// The mark of the Server, those of what can apply to it, and those of what these objects refer to.
+// Returns the mark of the Server, those of what may apply to it, and those of what these objects
+// refer to.
 fn marks_of_server(alloc: Global, key: &ObjKey, objects: &[&Object]) -> Result<List<Mark>, Memory>
     ensures { IfOk result (λ marks.
         marks ≡ Obj key.now ∷ (server_authz_marks key.now.ns key.now.name
@@ -133,7 +135,7 @@ fn route_authz<L>(
     Ok(PlainRow { row, marks })
 }
 
-// The mark of the policies that target the route, and those of what these objects refer to.
+// Returns the mark of the policies that target the route, and those of what these objects refer to.
 fn marks_of_route(
     alloc: Global,
     key: &ObjKey,

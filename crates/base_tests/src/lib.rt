@@ -1,7 +1,7 @@
-//! Tests of the base crates: outside vectors, and each call once with ample memory. They stand apart, since a crate with
-//! tests is proved twice.
+//! Tests of the base crates: external test vectors, and each call once with enough memory. They are
+//! in a crate of their own, since a crate with tests is proved twice.
 //!
-//! Stands on mesh_base, mesh_outside, line_run, net_cidr, label_select, k8s_meta and proto_wire.
+//! Depends on mesh_base, mesh_outside, line_run, net_cidr, label_select, k8s_meta and proto_wire.
 #![tactic(auto)]
 
 #[cfg(test)]

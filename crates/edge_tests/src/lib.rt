@@ -1,6 +1,7 @@
-//! A test of links over the loopback interface. It stands apart, since a crate with tests is proved twice.
+//! A test of links over the loopback interface. It is in a crate of its own, since a crate with
+//! tests is proved twice.
 //!
-//! Stands on mio_edge.
+//! Depends on mio_edge.
 #![tactic(auto)]
 
 #[cfg(test)]

@@ -1,4 +1,4 @@
--- What the slices of a Service give to one of its ports.
+-- What the slices of a Service contribute to one of its ports.
 use Rattle.std.specs.Prelude.{◌≡◌, ◌+◌, if◌then◌else◌, is_some, ℕ, Bool, false, not, ◌||◌, List, [], ◌∷◌, Option, Some, None, flat_map, option_and_then}
 use Rattle.std.specs.FinMap.{get}
 use Rattle.std.specs.Option.{option_to_list}
@@ -21,7 +21,7 @@ use Rattle.endpoint_rows.specs.Laws.{rows_in}
 use Rattle.key_lists.specs.Keys.{has_key, key_at}
 use Rattle.slice_marks.specs.Marked.{KeysByMark}
 
--- the Service is held, and isn't external
+-- the Service is held, and is not external
 abbrev pub has_endpoints : Option Service → Bool
 has_endpoints None = false
 has_endpoints (Some s) = not s.external
@@ -35,7 +35,7 @@ pub record IsPort (held : ObjectMap) (key : EndpointKey) (exists : Bool) (name :
 abbrev pub own_reads : EndpointKey → List Mark
 own_reads key = Obj (service_key key.ns key.name) ∷ SlicesOf key.ns key.name ∷ []
 
--- the object at a key, where it is a slice of the Service
+-- the object under a key, if it is a slice of the Service
 abbrev pub slice_at : ObjectMap → EndpointKey → ObjKey → Option Slice
 slice_at held key k = option_and_then (slice_in key.ns key.name) (get held k)
 
@@ -43,21 +43,22 @@ slice_at held key k = option_and_then (slice_in key.ns key.name) (get held k)
 abbrev pub pods_at : ObjectMap → EndpointKey → ObjKey → List Mark
 pods_at held key k = flat_map pods_of (option_to_list (slice_at held key k))
 
--- the rows that a slice gives at ports of the name
+-- the rows of a slice at ports with the name
 abbrev pub rows_named : RowFor → Option (List ℕ) → Option Slice → List EndpointRow
 rows_named row None slice = []
 rows_named row (Some name) slice = rows_in (slice_rows row name) slice
 
--- those of the slice at a key
+-- those of the slice under a key
 abbrev pub given_at : Config → ObjectMap → EndpointKey → Option (List ℕ) → ObjKey → List EndpointRow
 given_at config held key name k = rows_named (row_for config held) name (slice_at held key k)
 
--- the steps of bringing up the slice at a key
+-- the steps to update the slice under a key
 abbrev pub steps_of : ObjectMap → EndpointKey → ObjKey → ℕ
 steps_of held key k =
     if has_key k (keys_at held (SlicesOf key.ns key.name)) then (if is_some (get held k) then 1 else 0) + cost held (pods_at held key k)
     else 0
 
--- a change with the mark touches the slice at the key: the mark is the slice's own, or of a Pod that it names
+-- a change with the mark affects the slice under the key: the mark is the slice's own, or of a Pod
+-- that it names
 abbrev pub touches : KeysByMark → ObjKey → Mark → Bool
 touches by k mark = same_mark (Obj k) mark || key_at mark_cmp by mark k

@@ -44,7 +44,7 @@ any_of [] k e = e
 any_of (key ∷ keys) k e = refl
 
 module _ (held : ObjectMap) (key : EndpointKey) (m : Mark) where
-  -- those of a slice of the Service are among those of all
+  -- those of a slice of the Service are among those of all slices
   in_all : (k : ObjKey) (found : Option Object) → get held k ≡ found → (slice : Option Slice) → option_and_then (slice_in key.ns key.name) found ≡ slice
       → Among m (flat_map pods_of (option_to_list slice)) → Among m (flat_map pods_of (slices_held held key.ns key.name))
   in_all k found is None e at = absurd at
@@ -57,7 +57,7 @@ module _ (held : ObjectMap) (key : EndpointKey) (m : Mark) where
       ] in
       among_flat pods_of (slices_held held key.ns key.name) s m (among_found (slice_in key.ns key.name) (values held) o s (stands keys_total held k o is) e) here
 
-  -- and each of all is of a slice at some key
+  -- and each of these is of a slice under some key
   at_some : has_mark (flat_map pods_of (slices_held held key.ns key.name)) m ≡ true → (k : ObjKey) × (has_mark (pods_at held key k) m ≡ true)
   at_some e =
       let slice = from_flat pods_of (slices_held held key.ns key.name) m (among_mark (flat_map pods_of (slices_held held key.ns key.name)) m e) in

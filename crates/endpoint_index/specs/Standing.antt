@@ -1,4 +1,4 @@
--- What is kept of the endpoints of a port, over the objects held.
+-- What is stored for the endpoints of a port, over the objects held.
 use Rattle.std.specs.Prelude.{◌≡◌, ◌++◌, List}
 use Rattle.view_types.specs.Objects.{ObjectMap}
 use Rattle.view_types.specs.declared.config.Config.{Config}
@@ -18,7 +18,7 @@ pub record Stands (config : Config) (held : ObjectMap) (key : EndpointKey) (kept
   pub name : kept.name ≡ name_of_port key.port (service_held held key.ns key.name)
   pub own : kept.own ≡ own_reads key
 
--- the new notes are of the addresses at which the two differ
+-- the new notes are at the addresses where the two differ
 abbrev pub Tells : KeptEndpoints → KeptEndpoints → Type 0
 Tells old new = TellsBefore old.slices.rows.view.rows new.slices.rows.view.rows new.slices.rows.notes
 

@@ -1,4 +1,4 @@
--- What is kept of endpoints that read no mark of a change stands after it.
+-- What is stored for endpoints that read no mark of a change stands after it.
 use Rattle.std.proofs.Common.{◌≡◌, ℕ, Bool, true, false, not, cond, ◌||◌, List, [], Option, Some, None, refl, sym, ap, subst, ◌∙◌, append-nil}
 use Rattle.std.specs.FinMap.{get, values}
 use Rattle.std.specs.List.{flat_map}
@@ -59,7 +59,7 @@ module _ (key : EndpointKey) where
         | false ↦ λ t. not_in o t (slice_in key.ns key.name o) refl
       ] refl
 
--- ---- a slice stays, with its rows
+-- ---- a slice is unchanged, and so are its rows
 
 module _ {changed : List Mark} {before after : ObjectMap} (leads : Leads changed before after) (key : EndpointKey) where
   slices_stay : has_mark changed (SlicesOf key.ns key.name) ≡ false → (k : ObjKey) → slice_at before key k ≡ slice_at after key k
@@ -130,6 +130,6 @@ stands_still config key kept changed before after leads misses well =
 abbrev pub view_in : KeptEndpoints → EndpointView
 view_in kept = kept.slices.rows.view
 
--- what is kept gives the view and its marks
+-- what is stored determines the view and its marks
 pub stands_show : (config : Config) → KeptShows (record { row_of = endpoint_row config; reads = endpoint_reads }) (Stands config) view_in marks_in
 stands_show config held key kept well = record { is_filter = well.slices.view ∙ row_named config held key kept.name well.name; are_read = all_read held key kept well.own well.slices.agree (λ k. (well.slices.each k).pods) }

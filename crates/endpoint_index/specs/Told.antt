@@ -1,4 +1,4 @@
--- What the last change touched of the endpoints of a key.
+-- What the last change affected of the endpoints of a key.
 use Rattle.std.specs.Prelude.{if◌then◌else◌, List, [], Option, Some, None}
 use Rattle.std.specs.BTreeSet.{contains}
 use Rattle.mark_rules.specs.contracts.keys.EndpointKeyOrd as key_order
@@ -19,7 +19,7 @@ abbrev pub notes_in : Option KeptEndpoints → List Stood
 notes_in None = []
 notes_in (Some kept) = kept.slices.rows.notes
 
--- the notes of a key that the last change touched, and none of any other
+-- the notes of a key that the last change affected, and none for any other
 abbrev pub notes_at : EndpointIndex → EndpointKey → List Stood
 notes_at s key =
     if contains key_order.TheImpl.cmp-value.it s.touched key then notes_in (kept_in (row_at key_order.TheImpl.cmp-value.it s.rows.table.used s.rows.table.rows key))

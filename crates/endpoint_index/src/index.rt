@@ -39,18 +39,19 @@ use view_types::config::Config;
 use view_types::endpoint::{EndpointRow, EndpointView};
 use view_types::mark::Mark;
 
-/// The endpoints of ports by their keys, with what stood where the last change touched them.
+/// The endpoints of ports by their keys, with the old rows at the addresses that the last change
+/// affected.
 #[derive(Drop)]
 pub struct EndpointIndex {
     rows: RowTable<EndpointRule>,
-    /// The keys that the last change touched.
+    /// The keys that the last change affected.
     touched: BTreeSet<EndpointKey>,
     spent: bool,
     alloc: Global,
 }
 
 impl EndpointIndex {
-    /// An index without users. It stands for all objects.
+    /// Creates an index without users. It stands for all objects.
     pub fn new(alloc: Global, config: &Config) -> Result<EndpointIndex, Memory>
         ensures filter { IfOk result (λ index. ⟦<EndpointIndex as RowIndex>⟧.filter index
             ≡ record { row_of = endpoint_row config.now; reads = endpoint_reads }) }
@@ -70,7 +71,7 @@ impl EndpointIndex {
         })
     }
 
-    /// Does as `on_change`, and notes what stood where the endpoints of a key differ.
+    /// Does as `on_change`, and notes the old rows where the endpoints of a key differ.
     pub fn follow_change<L>(
         &mut self,
         store: &Store,
@@ -121,8 +122,8 @@ impl EndpointIndex {
         Ok(keys)
     }
 
-    /// The addresses and ports at which the endpoints of a key differ from those before the last
-    /// change, each with the row that stood there.
+    /// Returns the addresses and ports at which the endpoints of a key differ from those before the
+    /// last change, each with the old row.
     pub fn before(&self, key: &EndpointKey) -> &[(Ip, u16, Option<EndpointRow>)]
         ensures notes { result.now ≡ notes_at self.now key.now }
         ensures by_address { IsByAddress result.now }

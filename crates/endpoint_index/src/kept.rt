@@ -1,4 +1,4 @@
-// What is kept of the endpoints of a port.
+// What is stored for the endpoints of a port.
 ghost use Rattle.std.specs.Prelude.{◌≡◌, ◌≤◌, ◌+◌, ◌-◌, ◌^◌, ◌++◌, ◌∷◌, true, false, min, IfOk, OnOk};
 ghost use Rattle.std.specs.BTreeMap.{btree_map_len};
 ghost use Rattle.std.specs.List.{flat_map};
@@ -35,18 +35,18 @@ use slice_marks::slices::add_copies;
 use std::alloc::Global;
 use view_types::mark::Mark;
 
-/// The endpoints of a port, by the slices that give them, and the marks that they read.
+/// The endpoints of a port, by the slices that they come from, and the marks that they read.
 #[derive(Drop)]
 pub struct KeptEndpoints {
     pub(crate) slices: KeptSlices,
-    /// The name of the port, where the Service has it.
+    /// The name of the port, if the Service has it.
     pub(crate) name: Option<Text>,
     /// The marks of the Service and of its slices.
     pub(crate) own: List<Mark>,
 }
 
 impl KeptEndpoints {
-    /// A list of the marks that the endpoints read.
+    /// Returns a list of the marks that the endpoints read.
     pub(crate) fn marks(&self, alloc: Global) -> Result<List<Mark>, Memory>
         ensures { IfOk result (λ marks. marks ≡ marks_in self.now) }
     {
@@ -56,7 +56,7 @@ impl KeptEndpoints {
         Ok(marks)
     }
 
-    /// How many marks the endpoints read, about.
+    /// Returns roughly how many marks the endpoints read.
     fn count(&self) -> usize
         ensures { result ≡ min (btree_map_len self.now.slices.read.by_mark + 2) (2 ^ 64 - 1) }
     {
@@ -64,7 +64,7 @@ impl KeptEndpoints {
     }
 }
 
-/// Finds the endpoints of a port, and what they read.
+/// Computes the endpoints of a port, and what they read.
 pub(crate) fn find<L>(
     from: &Snapshot,
     key: &EndpointKey,
@@ -86,9 +86,9 @@ pub(crate) fn find<L>(
     Ok(kept)
 }
 
-/// Brings the endpoints of a port up to a change with these marks, and notes what stood where they
-/// differ. Slices that the change doesn't touch stay, unless the Service says something else of the
-/// port, or the change has more marks than the endpoints read.
+/// Updates the endpoints of a port for a change with these marks, and notes the old rows where they
+/// differ. Slices that the change does not affect are unchanged, unless the Service's port is
+/// different, or the change has more marks than the endpoints read.
 pub(crate) fn follow<L>(
     from: &Snapshot,
     key: &EndpointKey,
@@ -116,7 +116,7 @@ pub(crate) fn follow<L>(
     Ok(MarksAfter::Other)
 }
 
-/// Whether the endpoints are those of the port as the Service says it.
+/// Whether the endpoints are those of the port in the Service.
 fn has_port(kept: &KeptEndpoints, port: &ServicePort) -> bool
     ensures { result ≡ true → (kept.now.slices.rows.view.exists ≡ port.now.exists)
         × (kept.now.name ≡ option_copied port.now.name) }
@@ -134,7 +134,7 @@ fn is_name(kept: &Option<Text>, name: Option<&Text>) -> bool
     }
 }
 
-/// Brings the endpoints up to a change that leaves the port as it was.
+/// Updates the endpoints for a change that leaves the port unchanged.
 fn follow_in_place<L>(
     source: &PortSource,
     changed: &[Mark],
@@ -167,8 +167,8 @@ fn follow_in_place<L>(
     marks_after(source.from.alloc, moved, kept)
 }
 
-/// Tells of the marks, of which all but these are read as before. The Service's own are read in any
-/// case.
+/// Returns the changes of the marks, if all but these are read as before. The Service's own are
+/// read in any case.
 fn marks_after(alloc: Global, moved: List<Mark>, kept: &KeptEndpoints) -> Result<MarksAfter, Memory>
     ensures { IfOk result (λ after. (old : KeysByMark)
         → OthersStay moved old kept.now.slices.read.by_mark
@@ -182,7 +182,7 @@ fn marks_after(alloc: Global, moved: List<Mark>, kept: &KeptEndpoints) -> Result
     Ok(MarksAfter::Moved(MarkMoves { gone, come }))
 }
 
-/// Finds the endpoints again, and notes what stood where they differ.
+/// Computes the endpoints again, and notes the old rows where they differ.
 fn find_again<L>(
     source: &PortSource,
     kept: &mut KeptEndpoints,
@@ -204,7 +204,7 @@ fn find_again<L>(
     fill(source, kept, steps)
 }
 
-/// Finds the endpoints of a port of which no slice is kept.
+/// Computes the endpoints of a port without stored slices.
 fn fill<L>(
     source: &PortSource,
     kept: &mut KeptEndpoints,
@@ -245,7 +245,7 @@ fn copied(name: Option<&Text>) -> Result<Option<Text>, Memory>
     }
 }
 
-/// The mark of the Service, and that of its slices.
+/// Returns the mark of the Service, and that of its slices.
 fn own_marks(alloc: Global, key: &EndpointKey) -> Result<List<Mark>, Memory>
     ensures { IfOk result (λ marks. marks ≡ own_reads key.now) }
 {

@@ -1,4 +1,4 @@
-// How the endpoints of ports are found and kept.
+// The computation and update of the endpoints of ports.
 ghost use Rattle.mark_rules.specs.Reads.{endpoint_reads};
 ghost use Rattle.mark_rules.specs.Rows.{endpoint_row};
 ghost use Rattle.endpoint_index.specs.EndpointKeys.{endpoint_keys_exact};
@@ -18,7 +18,7 @@ use view_types::config::Config;
 use view_types::endpoint::EndpointView;
 use view_types::mark::Mark;
 
-/// Finds the endpoints of ports under a configuration.
+/// Computes the endpoints of ports under a configuration.
 #[derive(Drop)]
 pub struct EndpointRule {
     pub config: Config,

@@ -1,4 +1,4 @@
-// What a Service says of a port.
+// A port in a Service.
 ghost use Rattle.std.specs.Prelude.{◌≡◌, ◌≤◌, ◌+◌};
 ghost use Rattle.std.specs.Option.{option_copied};
 ghost use Rattle.view_types.specs.declared.mark.Mark.TheVariants.{Obj};
@@ -18,7 +18,7 @@ use view_types::service::Service;
 /// A port of a Service, as far as it has endpoints.
 #[derive(Clone, Copy)]
 pub(crate) struct ServicePort<'a> {
-    /// The Service is held, and isn't external.
+    /// Whether the Service is held, and is not external.
     pub(crate) exists: bool,
     pub(crate) name: Option<&'a Text>,
 }
@@ -31,7 +31,7 @@ pub(crate) struct PortSource<'a> {
     pub(crate) port: ServicePort<'a>,
 }
 
-/// The port of the key.
+/// Returns the port of the key.
 pub(crate) fn port_of<'a, L>(
     store: &'a Store,
     key: &EndpointKey,

@@ -1,4 +1,4 @@
-// The rows and the Pods of the slices of a Service, brought up slice by slice.
+// The rows and the Pods of the slices of a Service, updated slice by slice.
 ghost use Rattle.std.specs.Prelude.{◌≡◌, ◌≤◌, ◌+◌, ◌++◌, [], true, false, Some, None, IfOk, IfSome, OnOk, if◌then◌else◌, is_some};
 ghost use Rattle.std.specs.FinMap.{get};
 ghost use Rattle.std.specs.List.{sum_by};
@@ -34,7 +34,7 @@ use view_types::endpoint::EndpointRow;
 use view_types::mark::Mark;
 use view_types::slice::Slice;
 
-/// The rows that each slice gives to a port, and the Pods that it names.
+/// The rows of each slice for a port, and the Pods that it names.
 #[derive(Drop)]
 pub struct KeptSlices {
     pub(crate) rows: EndpointRows,
@@ -42,7 +42,7 @@ pub struct KeptSlices {
 }
 
 impl KeptSlices {
-    /// No slice is known.
+    /// Creates an empty set of slices.
     pub(crate) fn new(alloc: Global, exists: bool) -> KeptSlices
         ensures empty { AreEmpty result }
         ensures exists { result.rows.view.exists ≡ exists }
@@ -53,7 +53,7 @@ impl KeptSlices {
         }
     }
 
-    /// Lets all slices go. The rows that are shown stay until the view is brought up.
+    /// Removes all slices. The rows of the view are unchanged until it is updated.
     pub(crate) fn restart(&mut self, alloc: Global, exists: bool) -> Result<(), Memory>
         ensures empty { Keeps self.old.rows → OnOk result (AreEmpty self.new) }
         ensures exists { OnOk result (self.new.rows.view.exists ≡ exists) }
@@ -64,8 +64,8 @@ impl KeptSlices {
     }
 }
 
-/// Brings the slices at these keys up to the objects, and the view up to the slices. Gives the marks
-/// of Pods that these slices named or name now. All others are named where they were.
+/// Updates the slices under these keys, and the view. Returns the marks of Pods that these slices
+/// named or name now. Any other Pod is named by the same slices as before.
 pub(crate) fn bring_up<L>(
     source: &PortSource,
     touched: &[ObjKey],
@@ -92,7 +92,7 @@ pub(crate) fn bring_up<L>(
     Ok(moved)
 }
 
-/// Brings the slices at these keys up to the objects.
+/// Updates the slices under these keys to the objects.
 fn follow_slices<L>(
     source: &PortSource,
     touched: &[ObjKey],
@@ -138,7 +138,7 @@ pub(crate) fn append(marks: &mut List<Mark>, more: List<Mark>) -> Result<(), Mem
     Ok(())
 }
 
-/// Brings the slice at a key up to the objects. These are the keys of the Service's slices.
+/// Updates the slice under a key to the objects. `slices` are the keys of the Service's slices.
 fn follow_slice<L>(
     source: &PortSource,
     slices: &[ObjKey],
@@ -171,7 +171,7 @@ fn follow_slice<L>(
     }
 }
 
-/// The slice at a key, if it is among these keys of the Service's slices.
+/// Returns the slice under a key, if it is among these keys of the Service's slices.
 fn slice_of<'a, L>(
     source: &PortSource<'a>,
     slices: &[ObjKey],
@@ -247,7 +247,7 @@ fn take_slice(at: &ObjKey, kept: &mut KeptSlices) -> Result<List<Mark>, Memory>
     Ok(kept.read.take(at))
 }
 
-/// The rows that a slice gives at ports of the name.
+/// Returns the rows of a slice at ports with the name.
 fn rows_of_slice<L>(
     source: &PortSource,
     slice: &Slice,

@@ -1,4 +1,4 @@
-// Which slices a change touches.
+// The slices that a change affects.
 ghost use Rattle.std.specs.Prelude.{◌≡◌, ◌||◌, IfOk, OnOk};
 ghost use Rattle.std.specs.List.{list_any};
 ghost use Rattle.key_lists.specs.Keys.{has_key};
@@ -15,8 +15,8 @@ use slice_marks::slices::SliceMarks;
 use std::alloc::Global;
 use view_types::mark::Mark;
 
-/// The slices that have one of these marks or name a Pod that does. Other objects of the marks are
-/// among them.
+/// Returns the keys of the slices that have one of these marks or name a Pod that does. There may
+/// be keys of other objects with the marks among them.
 pub(crate) fn touched_slices(
     alloc: Global,
     read: &SliceMarks,

@@ -1,7 +1,7 @@
 //! Tests of the rows of endpoints by slices, and of slices by the marks that their rows read. They
-//! stand apart, since a crate with tests is proved twice.
+//! are in a crate of their own, since a crate with tests is proved twice.
 //!
-//! Stands on endpoint_rows and slice_marks.
+//! Depends on endpoint_rows and slice_marks.
 #![tactic(auto)]
 
 #[cfg(test)]

@@ -12,7 +12,7 @@ is_divisible_by k i = i % k == 0
 unfoldable pub address : ℕ → List ℕ
 address i = codes "10.0." ++ (decimal (i / 250) ++ (codes "." ++ decimal (i % 250 + 1)))
 
--- what a Pod has behind its other label: every second one is meshed
+-- what follows the other label of a Pod: every second one is meshed
 unfoldable pub mesh_label : ℕ → List ℕ
 mesh_label i = if is_divisible_by 2 i then codes ",\"linkerd.io/control-plane-ns\":\"linkerd\"" else []
 
@@ -31,7 +31,7 @@ pod_line i =
     ++ (codes "}},\"spec\":{\"containers\":[{\"ports\":[{\"name\":\"http\",\"containerPort\":8080}]}]},\"status\":{\"podIP\":\"" ++ (address i
     ++ codes "\"}}}\n")))))))
 
--- the slice of the Service, which has the address of the Pod
+-- the slice of the Service, with the address of the Pod
 unfoldable pub slice_line : ℕ → List ℕ
 slice_line i =
     codes "{\"type\":\"ADDED\",\"object\":{\"apiVersion\":\"discovery.k8s.io/v1\",\"kind\":\"EndpointSlice\",\"metadata\":{\"name\":\"s" ++ (decimal i
@@ -72,7 +72,7 @@ unfoldable pub drain_line : ℕ → List ℕ
 drain_line id =
     codes "{\"control\":\"drain\",\"id\":" ++ (decimal id ++ codes "}\n")
 
--- the end of the slice
+-- the deletion of the slice
 unfoldable pub delete_line : ℕ → List ℕ
 delete_line i =
     codes "{\"type\":\"DELETED\",\"object\":{\"apiVersion\":\"discovery.k8s.io/v1\",\"kind\":\"EndpointSlice\",\"metadata\":{\"name\":\"s" ++ (decimal i
@@ -96,7 +96,7 @@ subscribe_lines i = get_line (get_id i) i ++ watch_line (watch_id i) i
 abbrev pub below : ℕ → List ℕ
 below n = range_with_len 0 n
 
--- a cluster of n Services, and what is asked of it
+-- a cluster of n Services, and the requests to it
 abbrev pub generated : ℕ → List ℕ
 generated n =
     flat_map object_lines (below n)

@@ -98,8 +98,9 @@ fn push_deletions(alloc: Global, n: u32, out: &mut List<u8>) -> Result<(), Memor
     Ok(())
 }
 
-/// The lines of a cluster of so many Services, each with one Pod, one EndpointSlice and one Server; then two subscriptions
-/// for each, some simulated requests, drains, and deletions of some slices.
+/// Generates the lines of a cluster of n Services, each with one Pod, one EndpointSlice and one
+/// Server; then two subscriptions for each, some simulated requests, drains, and deletions of some
+/// slices.
 pub fn generate(alloc: Global, n: u32) -> Result<List<u8>, Memory>
     ensures { IfOk result (λ lines. lines ≡ generated n) }
 {

@@ -1,7 +1,8 @@
-//! The generated cluster: the lines of a feed that a number of Pods gives, without randomness, for a run that anybody can
-//! repeat.
+//! The generated cluster: the lines of a feed for a number of Pods, without randomness, for runs
+//! that anybody can repeat.
 //!
-//! Stands on mesh_base alone. `specs/Generated` has the lines, each as it is read.
+//! Depends on mesh_base alone. `specs/Generated` has the lines, each in the form in which it is
+//! read.
 #![tactic(auto)]
 
 pub mod cluster;

@@ -1,4 +1,4 @@
-// Each function writes one line: of the number i, of a subscription's id, or of both.
+// Each function writes one line: for the number i, for the id of a subscription, or for both.
 ghost use Rattle.std.specs.Prelude.{◌≡◌, ◌++◌, OnOk};
 ghost use Rattle.gen_cluster.specs.Generated.{service_line, pod_line, slice_line, server_line, get_line, watch_line, simulate_line, drain_line, delete_line};
 

@@ -1,4 +1,4 @@
-// Parts of lines, to be written: of a Pod, by its number.
+// Parts of lines, as values to format: those of a Pod, by its number.
 ghost use Rattle.std.specs.Prelude.{Some};
 ghost use Rattle.gen_cluster.specs.Generated.{address, mesh_label};
 
@@ -18,7 +18,7 @@ impl fmt::Display for Address {
     }
 }
 
-// The label of a meshed Pod, behind another label; nothing for other Pods.
+// The label of a meshed Pod, after another label; nothing for other Pods.
 #[derive(Clone, Copy, Drop)]
 pub(crate) struct MeshLabel(pub(crate) u32);
 

@@ -1,4 +1,4 @@
--- What is looked up as ports are opened, and as their rows follow a change.
+-- The objects that are looked up when ports are opened, and when their rows follow a change.
 use Rattle.std.specs.Prelude.{◌≡◌, ◌≤◌, ◌+◌, ℕ, Bool, true, false, List, Option}
 use Rattle.std.specs.List.{AllByRecursion, IsDistinct, sum_by}
 use Rattle.std.specs.Ordering.{eq_by_cmp}
@@ -27,16 +27,16 @@ pub record ComeInUse {Key : Type 0} (cmp : Key → Key → Ordering) (used : Key
   pub once : IsDistinct (eq_by_cmp cmp) keys
 
 module _ (held : ObjectMap) where
-  -- what these routes read, all together
+  -- what these routes read in total
   abbrev pub cost_of_routes : List RouteKey → ℕ
   cost_of_routes keys = sum_by (λ key. cost held (route_reads key)) keys
 
-  -- and what these authorizations do
+  -- what these authorizations read in total
   abbrev pub cost_of_authz : List ObjKey → ℕ
   cost_of_authz keys = sum_by (λ key. cost held (authz_reads held key)) keys
 
 module _ (config : Config) (held : ObjectMap) where
-  -- New keys read all that is looked up as an id is opened with the routes of its Server,
+  -- New keys read everything that is looked up when an id is opened with the routes of its Server,
   abbrev pub RoutesEnter : Earlier → ℕ → InboundViews → ℕ → ℕ → Type 0
   RoutesEnter earlier id views old new = EntersWithin route_rows held route_order.TheImpl.cmp-value.it (uses_routes views) (with_earlier earlier (route_keys config held (query_at views id)) (routes_of views id)) old new
 
@@ -50,7 +50,8 @@ module _ (config : Config) (held : ObjectMap) where
     pub routes : RoutesEnter earlier id views old mid
     pub authz : AuthzEnter earlier id views mid new
 
-  -- The keys of rows that come into use read all that is looked up as the keys of ids are set.
+  -- The keys of rows that come into use read everything that is looked up when the keys of ids are
+  -- set.
   pub record AllEnter (views : InboundViews) (old new : ℕ) : Type 0 where
     pub routes : List RouteKey
     pub authz : List ObjKey
@@ -58,7 +59,8 @@ module _ (config : Config) (held : ObjectMap) where
     pub new_authz : ComeInUse key_order.TheImpl.cmp-value.it (uses_authz views) (λ id. authz_keys config held (query_at views id)) authz
     pub most : new ≤ old + (cost_of_routes held routes + cost_of_authz held authz)
 
--- Rows that are used and read a mark of a change read all that is looked up as they follow it.
+-- Rows that are used and read a mark of a change read everything that is looked up when they follow
+-- it.
 pub record RowsFollow (number_at : ServerKey → Option ℕ) (config : Config) (before after : ObjectMap) (changed : List Mark) (views : InboundViews) (old new : ℕ) : Type 0 where
   pub first : ℕ
   pub second : ℕ

@@ -1,4 +1,4 @@
--- The rows behind ports that have users.
+-- The rows of ports that have users.
 use Rattle.std.proofs.Common.{◌≡◌, ◌<◌, inl, inr, ℕ, Bool, true, false, List, Option, Some, None, refl, sym, subst, ◌∙◌, arith}
 use Rattle.std.proofs.lemmas.Bool.{false≢true}
 use Rattle.std.specs.BTreeMap.{BTreeMap}
@@ -65,7 +65,8 @@ pub authz_row_is : (of : RowKey) (key : ObjKey) → authz_key of ≡ Some key �
 authz_row_is (row.Authz key) other is = cc is
 authz_row_is _ other is = absurd (cc is)
 
--- what holds of the routes of a Server and of all authorizations holds of the rows behind a port
+-- what holds for the routes of a Server and for all authorizations holds for the other rows of a
+-- port
 behind_are : (P : RowKey → Type 0) → ((key : RouteKey) → P (row.Route key)) → ((key : ObjKey) → P (row.Authz key)) → (routes : RouteKey → List RouteRow) (ns : List ℕ) (name : Option (List ℕ)) (of : RowKey) → Among of (keys_behind routes ns name) → P of
 behind_are P of_routes of_authz routes ns None of at = absurd at
 behind_are P of_routes of_authz routes ns (Some server) of at = elim at [
@@ -85,7 +86,7 @@ module _ (config : Config) (held : ObjectMap) (port : ServerKey) where
     | inr rest ↦ behind_are P of_routes of_authz (server_routes held) port.ns (name_in (server_part config held port)) of rest
   ]
 
-  -- it is served as its own key says, and no other
+  -- its server part is that of its own key, and of no other
   own_server : (key : ServerKey) → Contains (rows config held (query_for port)) (row.Server key) → port ≡ key
   own_server key there = elim (among_from (rows config held (query_for port)) (row.Server key) there) [
     | inl same ↦ cc same
@@ -113,7 +114,7 @@ module _ {Servers Routes Authz : Type 0} {server_users : Servers → ServerKey �
   used_if (row.Authz key) some = ∣ many_keys.used_row key_order.TheImpl.cmp-value.it key_laws.total-law authz_keys_exact authz_users authz_stand held authz of_authz authz_at authz_stands config asked authz_key row.Authz has_authz authz_row_is key some ∣₁
   used_if _ some = absurd (omega (arith, some))
 
-  -- no query of a port has another row
+  -- no query for a port has another row
   of_other : (of : RowKey) → is_of_port of ≡ false → IsInUse config held asked of → ⊥
   of_other of other used = by (key_at ports used.id) used.of_query
     where
@@ -130,6 +131,6 @@ module _ {Servers Routes Authz : Type 0} {server_users : Servers → ServerKey �
   unused_if (row.Profile key) none = of_other (row.Profile key) refl
   unused_if (row.Outbound key) none = of_other (row.Outbound key) refl
 
-  -- the rows behind ports that have users are those of the queries of ids
+  -- the rows of ports that have users are those of the queries of ids
   pub ports_in_use : AreInUse config held asked users
   ports_in_use = record { used = used_if; unused = unused_if }

@@ -19,7 +19,7 @@ use Rattle.mark_rules.specs.declared.keys.ServerKey.{ServerKey}
 use Rattle.row_table.specs.IndexRows.{Filter}
 use Rattle.row_views.specs.Queries.{ShowsSame, rows_at}
 
--- A query of a port is kept as one of its view in whole. Of no other is the view kept.
+-- A query for a port is stored as that for its whole view. No other view is kept.
 abbrev pub port_query : Query → Option Query
 port_query (Port ns pod port) = Some (Port ns pod port)
 port_query (PortRows ns pod port) = Some (Port ns pod port)
@@ -40,7 +40,7 @@ ports_same _ asked is config held = absurd (cc is)
 
 -- ---- the rows of the three indexes, and what each reads
 
--- what a port is served by
+-- the server part of a port
 abbrev pub server_rows : Config → Filter ServerKey (Option ServerPart)
 server_rows config = record { row_of = server_part config; reads = λ held. server_reads }
 
@@ -52,7 +52,7 @@ route_rows = record { row_of = server_routes; reads = λ held. route_reads }
 abbrev pub authz_rows : Config → Filter ObjKey (List AuthzRow)
 authz_rows config = record { row_of = authz_row config; reads = authz_reads }
 
--- ---- the rows behind a port
+-- ---- the rows of a port
 
 abbrev pub route_key : RowKey → Option RouteKey
 route_key (row.Route key) = Some key

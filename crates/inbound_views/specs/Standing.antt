@@ -1,4 +1,4 @@
--- When the rows behind ports stand for the objects held.
+-- The rows of ports are those over the objects held.
 use Rattle.std.specs.Prelude.{◌≡◌, ◌⊎◌, ◌++◌, ◌||◌, if◌then◌else◌, ℕ, Bool, false, true, List, [], ◌∷◌, Option, option_map}
 use Rattle.std.specs.BTreeMap.{BTreeMap}
 use Rattle.std.specs.BTreeSet.{BTreeSet}
@@ -40,7 +40,7 @@ abbrev pub authz_of : InboundViews → ℕ → List ObjKey
 authz_of views id = keys_at views.authz.by_id id
 
 module _ (config : Config) (held : ObjectMap) (views : InboundViews) (id : ℕ) where
-  -- the id is open with the routes of the Server that its port is served by
+  -- the id is open with the routes of the Server of its port
   abbrev pub HasRoutes : Type 0
   HasRoutes = routes_of views id ≡ route_keys config held (query_at views id)
 
@@ -48,14 +48,14 @@ module _ (config : Config) (held : ObjectMap) (views : InboundViews) (id : ℕ) 
   abbrev pub HasAuthz : Type 0
   HasAuthz = authz_of views id ≡ authz_keys config held (query_at views id)
 
--- it is open with the key of the routes of its Server, or with the keys of all rows behind its port
+-- it is open with the key of the routes of its Server, or with the keys of all rows of its port
 abbrev pub HasKeys : Config → ObjectMap → KeysOf → InboundViews → ℕ → Type 0
 HasKeys config held Routes views id = HasRoutes config held views id
 HasKeys config held Rows views id = HasRoutes config held views id × HasAuthz config held views id
 
--- ---- what is kept of the keys that are in use
+-- ---- the rows of the keys that are in use
 
--- the rows of a key, and none of one that isn't in use
+-- the rows of a key, and none for a key that is not in use
 abbrev pub rows_if : {Row : Type 0} → Bool → List Row → List Row
 rows_if used rows = if used then rows else []
 
@@ -75,12 +75,12 @@ kept_routes views held key = rows_if (uses_routes views key) (server_routes held
 abbrev pub kept_authz : InboundViews → Config → ObjectMap → ObjKey → List AuthzRow
 kept_authz views config held key = rows_if (uses_authz views key) (authz_row config held key)
 
--- these keys, and those before unless they leave
+-- these keys, and the old ones unless they leave
 abbrev pub with_earlier : {Key : Type 0} → Earlier → List Key → List Key → List Key
 with_earlier Stay keys before = keys ++ before
 with_earlier Leave keys before = keys
 
--- ---- when it stands
+-- ---- standing
 
 -- The rows of keys that ids are open with stand for the objects held, and are those of this filter.
 pub record SetsAreKept {Index Key Row : Type 0} (cmp : Key → Key → Ordering) (users : Index → Key → ℕ) (stand : Index → ObjectMap → Type 0) (filter_of : Index → Filter Key Row) (filter : Filter Key Row)
@@ -88,7 +88,7 @@ pub record SetsAreKept {Index Key Row : Type 0} (cmp : Key → Key → Ordering)
   pub rows : Standing cmp users stand held index by_key by_id
   pub filtered : filter_of index ≡ filter
 
--- what is kept of each index
+-- what each index stores
 pub record AllAreKept (OfServers OfRoutes OfAuthz : Type 0) : Type 0 where
   pub servers : OfServers
   pub routes : OfRoutes
@@ -100,16 +100,17 @@ reads_row config held changed views id =
     is_met (server_rows config) held changed (key_at views.servers.by_id id)
     || (any_met route_rows held changed (routes_of views id) || any_met (authz_rows config) held changed (authz_of views id))
 
--- the id is put at the end, unless this holds
+-- the id is appended, unless this holds
 abbrev pub NotesUnless : Type 0 → ℕ → List ℕ → List ℕ → Type 0
 NotesUnless Holds id old new = (Holds × (new ≡ old)) ⊎ ((¬ Holds) × (new ≡ old ++ id ∷ []))
 
--- those of some ids for which something doesn't hold
+-- those of some ids for which something does not hold
 pub record AreThoseWithout (Holds : ℕ → Type 0) (ids without : List ℕ) : Type 0 where
   pub all : (id : ℕ) → has_row id ids ≡ true → has_row id without ≡ false → Holds id
   pub only : (id : ℕ) → has_row id without ≡ true → (has_row id ids ≡ true) × (¬ Holds id)
 
--- After a change, those that have other keys than those of the rows behind their ports. All others have these if they did before it.
+-- After a change, those that have other keys than those of the rows of their ports. All others have
+-- these if they did before it.
 pub record AreMoved (config : Config) (before after : ObjectMap) (views : InboundViews) (moved : List ℕ) : Type 0 where
   pub others : (id : ℕ) → has_row id moved ≡ false → HasKeys config before Rows views id → HasKeys config after Rows views id
   pub only : (id : ℕ) → has_row id moved ≡ true → ¬ HasKeys config after Rows views id
@@ -128,7 +129,7 @@ abbrev pub AreUsed : Config → ObjectMap → List RouteKey → ℕ → InboundV
 AreUsed config held servers id views = (servers ≡ route_keys config held (query_at views id)) × ((key : RouteKey) → has_key route_order.TheImpl.cmp-value.it servers key ≡ true → uses_routes views key ≡ true)
 
 module _ (stand : InboundViews → Config → ObjectMap → Type 0) (config : Config) (held : ObjectMap) where
-  -- What is kept stands for the objects held, and each id has the keys of the rows of its query.
+  -- The stored rows stand for the objects held, and each id has the keys of the rows of its query.
   pub record AreJoined (views : InboundViews) : Type 0 where
     pub kept : stand views config held
     pub routes : (id : ℕ) → HasRoutes config held views id
@@ -142,7 +143,7 @@ module _ (stand : InboundViews → Config → ObjectMap → Type 0) (config : Co
     pub routes : SetsAt id (with_earlier earlier (route_keys config held (query_at old id)) (routes_of old id)) (routes_of old) (routes_of new)
     pub authz : SetsAt id (with_earlier earlier (authz_keys config held (query_at old id)) (authz_of old id)) (authz_of old) (authz_of new)
 
-  -- Each of these ids has them, and all others have what they had.
+  -- Each of these ids has them, and all others have their old keys.
   pub record SetsAllRows (earlier : Earlier) (ids : List ℕ) (old new : InboundViews) : Type 0 where
     pub kept : stand new config held
     pub covered : (id : ℕ) → has_row id ids ≡ true → HasRowsOf config held (query_at old id) new id

@@ -27,7 +27,7 @@ use std::alloc::Global;
 use view_types::server_view::{AuthzRow, RouteRow, ServerRow, ServerView};
 
 impl InboundViews {
-    /// The view of the port of an id, which is open with this key.
+    /// Returns the view of the port of an id, which is open with this key.
     pub(crate) fn joined(&self, id: u64, key: &ServerKey) -> Result<ServerView, Memory>
         requires { key_at self.now.servers.by_id id ≡ Some key.now }
         ensures { IfOk result (λ view. (config : Config) (held : ObjectMap)
@@ -46,7 +46,7 @@ impl InboundViews {
     }
 }
 
-/// The view of a port of a namespace that is served like this.
+/// Returns the view of a port in a namespace with this server part.
 pub(crate) fn joined_port<S: RowSource, L>(
     source: &S,
     alloc: Global,
@@ -71,7 +71,7 @@ pub(crate) fn joined_port<S: RowSource, L>(
     }
 }
 
-// What is shown of a port that is served like this.
+// Returns the row of a port with this server part.
 fn joined_row<S: RowSource, L>(
     source: &S,
     alloc: Global,
@@ -92,7 +92,7 @@ fn joined_row<S: RowSource, L>(
     Ok(row_of_part(alloc, part, authz, routes))
 }
 
-// With the authorizations of a Server and its routes, and with the Pod's probes where it has none.
+// Adds the authorizations of a Server and its routes, and the Pod's probes if it has no routes.
 fn row_of_part(
     alloc: Global,
     part: ServerPart,
@@ -113,7 +113,7 @@ fn row_of_part(
     }
 }
 
-// The authorizations of a Server, if there is one.
+// Returns the authorizations of a Server, if there is one.
 fn server_authz<S: RowSource, L>(
     source: &S,
     alloc: Global,
@@ -134,7 +134,7 @@ fn server_authz<S: RowSource, L>(
     }
 }
 
-// The routes of a Server, if there is one, each with its authorizations.
+// Returns the routes of a Server, if there is one, each with its authorizations.
 fn server_routes<S: RowSource, L>(
     source: &S,
     alloc: Global,
@@ -181,7 +181,7 @@ fn joined_routes<S: RowSource, L>(
     Ok(rows)
 }
 
-// A route with its authorizations.
+// Returns a route with its authorizations.
 fn joined_route<S: RowSource, L>(
     source: &S,
     ns: &Text,
@@ -200,7 +200,7 @@ fn joined_route<S: RowSource, L>(
     Ok(route)
 }
 
-/// What a port is served by, of its own.
+/// Copies the server part of a port.
 pub(crate) fn copied_part(
     alloc: Global,
     part: &Option<ServerPart>,

@@ -1,4 +1,4 @@
-// The keys of the rows behind ports.
+// The keys of the rows of ports.
 ghost use Rattle.std.specs.Prelude.{◌≡◌, ◌↔◌, ◌++◌, ◌∷◌, IfOk, IsTrue, OnOk, map, option_map};
 ghost use Rattle.std.specs.Option.{option_copied};
 ghost use Rattle.view_types.specs.declared.query.Query.TheVariants.{Port};
@@ -17,7 +17,7 @@ use std::alloc::Global;
 use view_types::query::Query;
 use view_types::server_view::RouteRow;
 
-/// The key of the port that a query asks for, if it asks for one.
+/// Returns the key of the port that a query requests, or None if it is not for a port.
 pub(crate) fn port_key(query: &Query) -> Result<Option<ServerKey>, Memory>
     ensures { IfOk result (λ key. option_map query_for key ≡ port_query query.now) }
 {
@@ -38,7 +38,7 @@ fn key_of_port(ns: &Text, pod: &Text, port: u16) -> Result<ServerKey, Memory>
     })
 }
 
-/// The name of the Server that a port is served by, if it is by one.
+/// Returns the name of the Server of a port, if it has one.
 pub(crate) fn name_in(part: &Option<ServerPart>) -> Option<&Text>
     ensures { option_copied result ≡ name_in part.now }
 {
@@ -48,7 +48,7 @@ pub(crate) fn name_in(part: &Option<ServerPart>) -> Option<&Text>
     }
 }
 
-/// The key of the routes of a Server, if there is one.
+/// Returns the key of the routes of a Server, if there is one.
 pub(crate) fn listed(
     alloc: Global,
     ns: &Text,
@@ -63,7 +63,7 @@ pub(crate) fn listed(
     Ok(keys)
 }
 
-/// The key of the routes of a Server.
+/// Returns the key of the routes of a Server.
 pub(crate) fn routes_key(ns: &Text, name: &Text) -> Result<RouteKey, Memory>
     ensures { IfOk result (λ key. key ≡ record { ns = ns.now; server = name.now }) }
 {
@@ -84,7 +84,7 @@ pub(crate) fn are_listed(keys: &[RouteKey], ns: &Text, name: Option<&Text>) -> b
     }
 }
 
-/// The key of a Server.
+/// Returns the key of a Server.
 pub(crate) fn server_key(ns: &Text, name: &Text) -> Result<ObjKey, Memory>
     ensures { IfOk result (λ key. key ≡ server_key ns.now name.now) }
 {
@@ -95,7 +95,7 @@ pub(crate) fn server_key(ns: &Text, name: &Text) -> Result<ObjKey, Memory>
     })
 }
 
-/// The key of the route that a row is of.
+/// Returns the key of the route of a row.
 pub(crate) fn key_of_row(ns: &Text, route: &RouteRow) -> Result<ObjKey, Memory>
     ensures { IfOk result (λ key. key ≡ key_of_row ns.now route.now) }
 {
@@ -106,7 +106,7 @@ pub(crate) fn key_of_row(ns: &Text, route: &RouteRow) -> Result<ObjKey, Memory>
     })
 }
 
-/// Puts the keys of these routes at the end of a list.
+/// Appends the keys of these routes to a list.
 pub(crate) fn add_routes(
     keys: &mut List<ObjKey>,
     ns: &Text,

@@ -1,9 +1,10 @@
-//! Views of ports of Pods, joined from rows that subscriptions share. The view of any port can be peeked at: its rows are lent where they
-//! are kept, and made for the call where they aren't.
+//! Views of ports of Pods, joined from rows that subscriptions share. The view of any port can be
+//! read without a subscription: stored rows are borrowed, and the others are computed for the call.
 //!
-//! Stands on server_index, route_index and authz_index for the rows, on row_views and row_sets for the ids that share them, on
-//! mark_rules for the rows that a view is joined from and the marks that these read, and on object_store. `specs/PortRows` says
-//! which keys of each index the rows of a query have, `specs/Standing` when what is kept stands for the objects held, and
+//! Depends on server_index, route_index and authz_index for the rows, on row_views and row_sets for
+//! the ids that share them, on mark_rules for the rows that a view is joined from and the marks
+//! that these read, and on object_store. `specs/PortRows` defines which keys of each index the rows
+//! of a query have, `specs/Standing` when the stored rows are those over the objects held, and
 //! `specs/Costs` what is looked up.
 #![tactic(auto)]
 

@@ -1,4 +1,4 @@
-// The keys of the rows behind ports, which change as Servers and routes do.
+// The keys of the rows of ports, which change with Servers and routes.
 ghost use Rattle.std.specs.Prelude.{◌≡◌, ◌≤◌, ◌+◌, ◌↔◌, ◌++◌, ℕ, true, IfOk, IsTrue, OnOk, flat_map, option_and_then};
 ghost use Rattle.std.specs.Option.{option_copied};
 ghost use Rattle.view_types.specs.Objects.{ObjectMap};
@@ -24,14 +24,14 @@ use object_store::store::Store;
 use std::alloc::Global;
 use view_types::server_view::RouteRow;
 
-/// What becomes of the keys that an id had before.
+/// What happens to the old keys of an id.
 #[derive(Clone, Copy)]
 pub enum Earlier {
     Stay,
     Leave,
 }
 
-/// Keys of the rows behind a port.
+/// Keys of the rows of a port.
 #[derive(Clone, Copy)]
 pub enum KeysOf {
     /// That of the routes of its Server.
@@ -94,7 +94,7 @@ impl InboundViews {
         self.set_authz(store, id, servers.as_slice(), earlier, steps)
     }
 
-    // Opens an id with the key of the routes of its Server, if it has one. Gives this key.
+    // Opens an id with the key of the routes of its Server, if it has one. Returns this key.
     fn set_routes<L>(
         &mut self,
         store: &Store,
@@ -129,7 +129,7 @@ impl InboundViews {
         Ok(servers)
     }
 
-    // Opens an id with the authorizations of its Server and of the routes of this.
+    // Opens an id with the authorizations of its Server and of the Server's routes.
     fn set_authz<L>(
         &mut self,
         store: &Store,
@@ -163,7 +163,7 @@ impl InboundViews {
         self.authz.set(store, id, authz, steps)
     }
 
-    /// Those of these ids that are open with other keys than these.
+    /// Returns those of these ids that are open with other keys than these.
     pub(crate) fn moved_among(&self, ids: &[u64], keys: KeysOf) -> Result<List<u64>, Memory>
         ensures { IfOk result (λ moved. (config : Config) (held : ObjectMap)
             → ⟦<InboundViews as KeepsRows>⟧.stand self.now config held
@@ -176,7 +176,7 @@ impl InboundViews {
         Ok(moved)
     }
 
-    // Notes the id if it is one of these.
+    // Appends the id if it is open with other keys than these.
     fn note_moved(&self, moved: &mut List<u64>, id: u64, keys: KeysOf) -> Result<(), Memory>
         ensures { OnOk result ((config : Config) (held : ObjectMap)
             → ⟦<InboundViews as KeepsRows>⟧.stand self.now config held
@@ -200,7 +200,7 @@ impl InboundViews {
         }
     }
 
-    // Whether an id is open with the keys of all rows behind its port.
+    // Whether an id is open with the keys of all rows of its port.
     fn has_rows(&self, id: u64) -> bool
         ensures { (config : Config) (held : ObjectMap)
             → ⟦<InboundViews as KeepsRows>⟧.stand self.now config held → IsTrue result
@@ -209,7 +209,7 @@ impl InboundViews {
         self.has_routes(id) && self.has_authz(id)
     }
 
-    // Whether an id is open with the routes of the Server that its port is served by.
+    // Whether an id is open with the routes of the Server of its port.
     fn has_routes(&self, id: u64) -> bool
         ensures { (config : Config) (held : ObjectMap)
             → ⟦<InboundViews as KeepsRows>⟧.stand self.now config held
@@ -222,7 +222,7 @@ impl InboundViews {
         }
     }
 
-    // Whether an id that is open with the routes of its Server is so with the authorizations of both.
+    // Whether an id that is open with the routes of its Server has the authorizations of both.
     fn has_authz(&self, id: u64) -> bool
         ensures { (config : Config) (held : ObjectMap)
             → ⟦<InboundViews as KeepsRows>⟧.stand self.now config held
@@ -236,7 +236,7 @@ impl InboundViews {
         }
     }
 
-    // The key of the routes of the Server that the port of an id is served by, if it is by one.
+    // Returns the key of the routes of the Server of an id's port, if it has one.
     fn servers_of(&self, id: u64) -> Result<List<RouteKey>, Memory>
         ensures { IfOk result (λ keys. (config : Config) (held : ObjectMap)
             → ⟦<InboundViews as KeepsRows>⟧.stand self.now config held
@@ -248,7 +248,7 @@ impl InboundViews {
         }
     }
 
-    // The name of this Server.
+    // Returns the name of this Server.
     fn server_named(&self, id: u64) -> Option<&Text>
         ensures { (config : Config) (held : ObjectMap)
             → ⟦<InboundViews as KeepsRows>⟧.stand self.now config held → option_copied result
@@ -261,7 +261,7 @@ impl InboundViews {
         }
     }
 
-    // The keys of the authorizations of these Servers and of their routes.
+    // Returns the keys of the authorizations of these Servers and of their routes.
     fn authz_behind(&self, servers: &[RouteKey]) -> Result<List<ObjKey>, Memory>
         ensures { IfOk result (λ keys. (config : Config) (held : ObjectMap)
             → ⟦<InboundViews as KeepsRows>⟧.stand self.now config held
@@ -275,7 +275,7 @@ impl InboundViews {
         Ok(keys)
     }
 
-    /// The routes of a Server, if its key is in use.
+    /// Returns the routes of a Server, if its key is in use.
     pub(crate) fn kept_routes(&self, key: &RouteKey) -> &[RouteRow]
         ensures { (config : Config) (held : ObjectMap)
             → ⟦<InboundViews as KeepsRows>⟧.stand self.now config held
@@ -288,7 +288,7 @@ impl InboundViews {
     }
 }
 
-// These keys, and those before unless they leave.
+// Returns these keys, and the old ones unless they leave.
 fn with_earlier<K: Copied>(
     alloc: Global,
     earlier: Earlier,
@@ -303,7 +303,7 @@ fn with_earlier<K: Copied>(
     }
 }
 
-/// The items of a list, and then these.
+/// Appends items to a list.
 pub(crate) fn append<T: Copied>(
     alloc: Global,
     items: List<T>,

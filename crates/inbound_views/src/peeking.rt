@@ -1,4 +1,4 @@
-// The view of a port that no id needs to be open with. Its rows are lent where they are kept, and made for it where they aren't.
+// The view of any port, without a subscription. Stored rows are borrowed, and the others computed.
 ghost use Rattle.std.specs.Prelude.{◌≡◌, ◌≤◌, ◌+◌, IfOk, Some};
 ghost use Rattle.view_types.specs.declared.config.Config.{Config};
 ghost use Rattle.mark_rules.specs.Rows.{server_joined};
@@ -20,7 +20,7 @@ use server_index::kept::ServerPart;
 use std::alloc::Global;
 use view_types::server_view::{AuthzRow, RouteRow, ServerView};
 
-/// The rows behind ports over the objects of a store, whether or not they are kept.
+/// The rows of ports over the objects of a store, whether or not they are stored.
 #[derive(Clone, Copy)]
 pub struct PeekedRows<'a> {
     views: &'a InboundViews,
@@ -50,7 +50,7 @@ impl RowSource for PeekedRows<'_> {
 }
 
 impl InboundViews {
-    /// The view of a port over the objects of the store.
+    /// Returns the view of a port over the objects of the store.
     pub(crate) fn peek_port<L>(
         &self,
         store: &Store,
@@ -71,7 +71,7 @@ impl InboundViews {
     }
 }
 
-// What a port is served by, which was peeked at.
+// Copies or moves out the server part of a port.
 fn own_part(
     alloc: Global,
     part: Peeked<'_, Option<ServerPart>>,

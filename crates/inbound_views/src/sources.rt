@@ -1,4 +1,4 @@
-// Where the rows behind ports come from.
+// Sources of the rows of ports.
 ghost use Rattle.std.specs.Prelude.{◌≡◌, ◌≤◌, ◌+◌, List, [], IfOk, unwrap_or};
 ghost use Rattle.std.specs.Option.{option_copied};
 ghost use Rattle.mesh_base.specs.declared.key.ObjKey.{ObjKey as TheObjKey};
@@ -19,23 +19,23 @@ use mesh_base::steps::Steps;
 use std::alloc::Global;
 use view_types::server_view::{AuthzRow, RouteRow};
 
-/// The routes and the authorizations behind ports, each list by its key.
+/// The routes and the authorizations of ports, each list by its key.
 pub trait RowSource {
-    /// They are those over these objects.
+    /// The lists are those over these objects.
     ghost stand: { Self → Config → ObjectMap → Type 0 };
 
     ghost routes_at: { Self → ObjectMap → TheRouteKey → List TheRouteRow };
 
     ghost authz_at: { Self → Config → ObjectMap → TheObjKey → List TheAuthzRow };
 
-    /// The routes of a Server, without their authorizations.
+    /// Returns the routes of a Server, without their authorizations.
     fn routes<L>(&self, key: &RouteKey, steps: &mut Steps<L>) -> Result<List<RouteRow>, Memory>
         ensures rows { IfOk result (λ rows. (config : Config) (held : ObjectMap)
             → stand self.now config held → rows ≡ routes_at self.now held key.now) }
         ensures steps { (config : Config) (held : ObjectMap) → stand self.now config held
             → steps.new ≤ steps.old + cost held (route_reads key.now) };
 
-    /// The authorizations of a Server or of a route.
+    /// Returns the authorizations of a Server or of a route.
     fn authz<L>(&self, key: &ObjKey, steps: &mut Steps<L>) -> Result<List<AuthzRow>, Memory>
         ensures rows { IfOk result (λ rows. (config : Config) (held : ObjectMap)
             → stand self.now config held → rows ≡ authz_at self.now config held key.now) }
@@ -43,7 +43,7 @@ pub trait RowSource {
             → steps.new ≤ steps.old + cost held (authz_reads held key.now) };
 }
 
-/// Rows that are kept, each while an id is open with its key.
+/// Stored rows, each while an id is open with its key.
 impl RowSource for InboundViews {
     ghost use Rattle.inbound_views.specs.Standing.{kept_authz, kept_routes};
 
@@ -62,7 +62,7 @@ impl RowSource for InboundViews {
     }
 }
 
-// The rows, if there are any.
+// Copies the rows, if there are any.
 fn copied<T: Copied>(alloc: Global, rows: Option<&List<T>>) -> Result<List<T>, Memory>
     ensures { IfOk result (λ copy. copy ≡ unwrap_or (option_copied rows.entry) []) }
 {

@@ -1,4 +1,4 @@
-// The views of the ports that subscribers ask for.
+// The views of ports that subscribers request.
 ghost use Rattle.std.specs.Prelude.{◌≡◌, ℕ, IfOk};
 ghost use Rattle.std.specs.List.Sorted.{IsStrictlySortedBy};
 ghost use Rattle.std.specs.Ordering.{nat_cmp};
@@ -28,10 +28,11 @@ use view_types::config::Config;
 use view_types::query::Query;
 use view_types::view::View;
 
-/// The views of queries of ports, each joined from rows that are kept once for all subscriptions of their keys.
+/// The views of queries of ports, each joined from rows that are stored once for all subscriptions
+/// of their keys.
 #[derive(Drop)]
 pub struct InboundViews {
-    /// What the port of each id is served by.
+    /// The server part of the port of each id.
     pub(crate) servers: RowViews<ServerIndex>,
     /// The routes of its Server.
     pub(crate) routes: RowSets<RouteIndex>,
@@ -40,18 +41,18 @@ pub struct InboundViews {
     pub(crate) alloc: Global,
 }
 
-/// The ids that a change touches.
+/// The ids that a change affects.
 #[derive(Drop)]
 struct Touched {
-    /// Those whose keys are others after it.
+    /// Those whose keys differ after it.
     moved: List<u64>,
     /// Those with a row that reads a mark of it.
     all: List<u64>,
 }
 
-/// What is kept of the three indexes, whatever keys ids are open with.
+/// The contents of the three indexes, whatever keys ids are open with.
 pub trait KeepsRows {
-    /// It stands for these objects.
+    /// They stand for these objects.
     ghost stand: { Self → TheConfig → ObjectMap → Type 0 };
 }
 
@@ -83,7 +84,7 @@ impl InboundViews {
     ghost use Rattle.inbound_views.specs.PortRows.{query_for};
     ghost use Rattle.inbound_views.specs.Standing.{AreJoined, AreMoved, reads_row};
 
-    /// No views, under a configuration.
+    /// Creates views without open ids, under a configuration.
     pub fn new(alloc: Global, config: &Config) -> Result<InboundViews, Memory>
         ensures queries { IfOk result (λ views. (id : ℕ)
             → ⟦<InboundViews as QueryViews>⟧.query_of views id ≡ None) }
@@ -101,7 +102,7 @@ impl InboundViews {
         })
     }
 
-    // Opens an id with a port, which was open with none.
+    // Opens an id with a port. The id must not be open.
     fn open_port<L>(
         &mut self,
         store: &Store,
@@ -131,7 +132,7 @@ impl InboundViews {
         }
     }
 
-    // Brings what is kept up to a change of the store. The keys of ids stay.
+    // Updates the stored rows for a change of the store. The keys of ids are unchanged.
     fn follow_rows<L>(
         &mut self,
         store: &Store,
@@ -224,7 +225,8 @@ impl QueryViews for InboundViews {
         steps: &mut Steps<L>,
     ) -> Result<List<u64>, Memory> {
         let touched = self.follow_rows(store, change, steps)?;
-        // The keys before stay until all have theirs, so that no row is dropped that another id comes to.
+        // The old keys stay until all ids have the new ones, so that no row is dropped that another
+        // id needs.
         self.set_all(store, touched.moved.as_slice(), Earlier::Stay, steps)?;
         self.set_all(store, touched.moved.as_slice(), Earlier::Leave, steps)?;
         Ok(touched.all)
@@ -258,7 +260,7 @@ impl QueryViews for InboundViews {
         joined.kept.authz.rows joined.routes joined.authz) };
 }
 
-// The ids, ascending, each once.
+// Sorts ids, and removes duplicates.
 fn in_order(ids: List<u64>) -> List<u64>
     ensures ids { (id : ℕ) → has_row id result ≡ has_row id ids }
     ensures in_order { IsStrictlySortedBy nat_cmp result }

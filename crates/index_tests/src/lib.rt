@@ -1,7 +1,8 @@
-//! Tests of the indexes of rows over feeds of changes. They stand apart, since a crate with tests is
-//! proved twice.
+//! Tests of the indexes of rows over feeds of changes. They are in a crate of their own, since a
+//! crate with tests is proved twice.
 //!
-//! Stands on the crates of the indexes, and on watch_events for the objects of all but the endpoints.
+//! Depends on the crates of the indexes, and on watch_events for the objects of all but the
+//! endpoints.
 #![tactic(auto)]
 
 #[cfg(test)]

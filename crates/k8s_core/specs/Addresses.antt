@@ -1,4 +1,4 @@
--- Addresses, each once.
+-- Addresses without duplicates.
 use Rattle.std.specs.Prelude.{codes, ℕ, ◌==◌, ◌||◌, ◌++◌, Bool, false, List, [], ◌∷◌, Option, None, Result, length, bytes_eq, if◌then◌else◌}
 use Rattle.std.specs.List.{fold, list_any}
 use Rattle.net_cidr.specs.declared.ip.Ip.{Ip}
@@ -8,7 +8,7 @@ use Rattle.k8s_meta.specs.Spots.{Spot}
 use Rattle.k8s_meta.specs.Words.{some, unless}
 use Rattle.k8s_meta.specs.declared.fault.ReadFault.{ReadFault}
 
--- the empty text and 'None' are no address
+-- the empty string and 'None' are no address
 abbrev pub is_no_address : List ℕ → Bool
 is_no_address t = (length t == 0) || bytes_eq t (codes "None")
 
@@ -23,10 +23,10 @@ same_ip _ _ = false
 abbrev pub has : List Ip → Ip → Bool
 has ips ip = list_any (same_ip ip) ips
 
--- an address at the end, unless it is there
+-- appends an address, unless it is in the list
 abbrev pub add_once : List Ip → Ip → List Ip
 add_once ips ip = if has ips ip then ips else ips ++ ip ∷ []
 
--- each address where it stands first
+-- each address once, in the order of first occurrence
 abbrev pub once : List Ip → List Ip
 once ips = fold add_once [] ips

@@ -1,4 +1,4 @@
--- Ports with names.
+-- Named ports.
 use Rattle.std.specs.Prelude.{codes, [], Option, Result, Ok, bytes_eq, option_map}
 use Rattle.k8s_meta.specs.Scalars.{number}
 use Rattle.k8s_meta.specs.Spots.{Spot, ◌·◌, ◌>>=◌}
@@ -8,7 +8,7 @@ use Rattle.k8s_meta.specs.declared.key.Key.{Key}
 use Rattle.k8s_meta.specs.declared.key.Key.TheVariants as keys
 use Rattle.view_types.specs.declared.service.NamedPort.{NamedPort}
 
--- a port, whose number is the member at the key
+-- a port, whose number is the member under the key
 unfoldable pub port_at : Key → Spot → Result NamedPort ReadFault
 port_at key p = do
   p ← object p
@@ -17,7 +17,7 @@ port_at key p = do
   protocol ← default (codes "TCP") text (p · keys.Protocol)
   Ok (record { name = name; port = port; tcp = bytes_eq protocol (codes "TCP") })
 
--- a port of a slice, which gives nothing without a number
+-- a port of a slice, or none if it has no number
 unfoldable pub slice_port_at : Spot → Result (Option NamedPort) ReadFault
 slice_port_at p = do
   p ← object p

@@ -14,7 +14,7 @@ use Rattle.k8s_meta.specs.declared.fault.ReadFault.{ReadFault}
 use Rattle.k8s_meta.specs.declared.key.Key.TheVariants as keys
 use Rattle.view_types.specs.declared.pod.Pod.{Pod}
 
--- the ports of a container, and those that its probes ask
+-- the ports of a container, and those of its probes
 unfoldable pub container_at : Spot → Result Container ReadFault
 container_at c = do
   c ← object c

@@ -11,7 +11,7 @@ use Rattle.view_types.specs.declared.server.PortRef.{PortRef}
 use Rattle.view_types.specs.declared.server.PortRef.TheVariants.{Number, Named}
 use Rattle.view_types.specs.declared.service.NamedPort.{NamedPort}
 
--- ---- what is asked for
+-- ---- the request
 
 abbrev pub is_question_mark : ℕ → Bool
 is_question_mark byte = byte == 63
@@ -19,7 +19,7 @@ is_question_mark byte = byte == 63
 abbrev pub or_root : List ℕ → List ℕ
 or_root path = if length path == 0 then codes "/" else path
 
--- the part before the first `?`, and `/` where that is empty
+-- the part before the first `?`, or `/` if that is empty
 abbrev pub path_in : List ℕ → List ℕ
 path_in target = or_root (before_first is_question_mark target)
 
@@ -30,19 +30,19 @@ http_get_at g = do
   port ← required port_ref_at (g · keys.Port)
   Ok (record { port = port; path = path_in target })
 
--- none where the probe isn't by HTTP
+-- none if it is not an HTTP probe
 unfoldable pub probe_at : Spot → Result (Option HttpGet) ReadFault
 probe_at p = do
   p ← part p
   optional http_get_at (p · keys.HttpGet)
 
--- ---- the ports that are asked
+-- ---- the requested ports
 
--- the number of a TCP port of the name, with the path
+-- the number of a TCP port with the name, with the path
 abbrev pub at_named : List ℕ → List ℕ → NamedPort → List (ℕ × List ℕ)
 at_named name path port = if port.tcp && bytes_eq port.name name then (port.port, path) ∷ [] else []
 
--- the port of the number, or each TCP port of the name in the container
+-- the port with the number, or each TCP port of the container with the name
 abbrev pub at_port : List NamedPort → List ℕ → PortRef → List (ℕ × List ℕ)
 at_port ports path (Number port) = (port, path) ∷ []
 at_port ports path (Named name) = flat_map (at_named name path) ports

@@ -1,4 +1,4 @@
--- The addresses that were met, as a set beside the list of them.
+-- The set of the addresses in a list.
 use Rattle.std.specs.Prelude.{◌≡◌, List}
 use Rattle.std.specs.BTreeSet.{BTreeSet}
 use Rattle.net_cidr.specs.declared.ip.Ip.{Ip}

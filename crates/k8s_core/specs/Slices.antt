@@ -23,7 +23,7 @@ family_of t =
     if bytes_eq t (codes "IPv6") then Some V6 else
     if bytes_eq t (codes "FQDN") then Some Fqdn else None
 
--- An address of that family. A host name is none.
+-- an address of the family, or none for a host name
 abbrev pub in_family : Family → Option Ip → Option (Option Ip)
 in_family Fqdn ip = Some None
 in_family V4 (Some (ips.V4 n)) = Some (Some (ips.V4 n))
@@ -33,14 +33,14 @@ in_family _ _ = None
 unfoldable pub address_at : Family → Spot → Result (Option Ip) ReadFault
 address_at family s = text s >>= λ t. valid s.at what.Address (in_family family (ip_of t))
 
--- the namespace and name of the Pod that is meant
+-- the namespace and name of the Pod
 abbrev pub pod_name_at : List ℕ → Spot → Result (Option (List ℕ × List ℕ)) ReadFault
 pod_name_at own t = do
   name ← required name (t · keys.Name)
   ns ← default own namespace (t · keys.Namespace)
   Ok (Some (ns, name))
 
--- another kind is no target, and its name isn't read
+-- Another kind is no target, and its name is not read.
 unfoldable pub target_at : List ℕ → Spot → Result (Option (List ℕ × List ℕ)) ReadFault
 target_at own t = do
   kind ← default [] text (t · keys.Kind)

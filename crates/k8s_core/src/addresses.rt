@@ -14,7 +14,7 @@ use net_cidr::ip::Ip;
 use std::alloc::Global;
 use std::collections::BTreeSet;
 
-/// An address of a Service. The empty text and `None` are none.
+/// An address of a Service. The empty string and `None` are no address.
 pub struct ClusterIp;
 
 impl Reader for ClusterIp {
@@ -39,7 +39,7 @@ fn is_no_address(text: &str) -> bool
     text.is_empty() || text == "None"
 }
 
-/// Each address where it stands first.
+/// Returns each address once, in the order of first occurrence.
 pub fn once(alloc: Global, first: Option<Ip>, others: List<Ip>) -> Result<List<Ip>, Memory>
     ensures { IfOk result (λ all. all ≡ once (option_to_list first ++ others)) }
 {

@@ -15,11 +15,11 @@ use mesh_base::text::Text;
 use std::alloc::Global;
 use view_types::service::NamedPort;
 
-/// What is read of a container, or of all of a Pod.
+/// The ports and probes of a container, or of all containers of a Pod.
 #[derive(Drop)]
 pub struct Container {
     pub ports: List<NamedPort>,
-    /// The ports that its HTTP probes ask, each with the path that is asked for.
+    /// The ports and paths of its HTTP probes.
     pub probes: List<(u16, Text)>,
 }
 
@@ -51,7 +51,7 @@ impl Reader for ContainerEntry {
     }
 }
 
-/// The ports and the probes of containers, one after another.
+/// Concatenates the ports and the probes of containers.
 pub(crate) fn joined(alloc: Global, containers: List<Container>) -> Result<Container, Memory>
     ensures ports { IfOk result (λ all.
         all.ports ≡ flat_map (λ (c : AContainer). c.ports) containers) }

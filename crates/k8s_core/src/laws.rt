@@ -4,7 +4,7 @@ ghost use Rattle.k8s_core.specs.Slices.{slice_at};
 ghost use Rattle.k8s_meta.specs.Given.{GivesOnly};
 ghost use Rattle.view_types.specs.Lawful.{IsLawfulPod, IsLawfulService, IsLawfulSlice};
 
-/// Whatever the tables read is lawful.
+/// Every object that the tables read is lawful.
 pub fn objects_are_lawful()
     ensures pods { GivesOnly IsLawfulPod pod_at }
     ensures services { GivesOnly IsLawfulService service_at }

@@ -1,8 +1,9 @@
 //! Readers of the core objects: Service, EndpointSlice and Pod.
 //!
-//! Stands on k8s_meta and mesh_text, whose words the member tables are written in, and on view_types for what is read. Each
-//! reader's contract cites its table: `service_at` of `specs/Services`, `slice_at` of `specs/Slices`, `pod_at` of `specs/Pods`,
-//! with the probes of a container in `specs/Probes`.
+//! Depends on k8s_meta and mesh_text for the parts of the member tables, and on view_types for the
+//! objects. The contract of each reader cites its table: `service_at` of `specs/Services`,
+//! `slice_at` of `specs/Slices`, `pod_at` of `specs/Pods`, with the probes of a container in
+//! `specs/Probes`.
 #![tactic(auto)]
 
 mod addresses;

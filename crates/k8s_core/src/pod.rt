@@ -19,7 +19,7 @@ use serde_json::Value;
 use std::alloc::Global;
 use view_types::pod::Pod;
 
-/// The Pod that stands at the path `at`. Its fault is the first in the order of its members.
+/// Reads the Pod at the path `at`. A fault is the first one in the order of the members.
 pub fn read_pod(alloc: Global, object: &Value, at: &str) -> Result<Pod, ReadFault>
     ensures lawful { IfOk result IsLawfulPod }
     ensures value { Reads result (pod_at record { at = at.now; value = view object.now }) }
@@ -27,7 +27,7 @@ pub fn read_pod(alloc: Global, object: &Value, at: &str) -> Result<Pod, ReadFaul
     pod_of(&Place::top(alloc, object, at))
 }
 
-/// The Pod at a place.
+/// Reads the Pod at a place.
 pub fn pod_of<'a>(object: &'a Place<'a>) -> Result<Pod, ReadFault>
     ensures lawful { IfOk result IsLawfulPod }
     ensures value { Reads result (pod_at (seen object.now)) }

@@ -9,7 +9,7 @@ use k8s_meta::reader::Reader;
 use k8s_meta::words::{AnyText, PORT};
 use view_types::service::NamedPort;
 
-/// A port, whose number is the member at the key.
+/// A port, whose number is the member under the key.
 #[derive(Clone, Copy)]
 pub struct PortEntry {
     pub key: Key,
@@ -34,7 +34,7 @@ impl Reader for PortEntry {
     }
 }
 
-/// A port of an EndpointSlice, which gives nothing without a number.
+/// A port of an EndpointSlice, or None if it has no number.
 pub struct SlicePort;
 
 impl Reader for SlicePort {

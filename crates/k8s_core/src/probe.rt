@@ -15,7 +15,7 @@ use mesh_text::port_ref::NameOrNumber;
 use view_types::server::PortRef;
 use view_types::service::NamedPort;
 
-/// What an HTTP probe asks for.
+/// The request of an HTTP probe.
 #[derive(Drop)]
 pub struct HttpGet {
     pub port: PortRef,
@@ -23,7 +23,7 @@ pub struct HttpGet {
     pub path: Text,
 }
 
-/// What the probe at a member of a container asks for, if it asks by HTTP.
+/// Reads the request of the probe at a member of a container, if it is an HTTP probe.
 #[tactic(auto, unfolding(k8s_meta::specs::Spots::then, crate::specs::Probes::probe_at))]
 pub(crate) fn probe_of<'a>(container: &'a Place<'a>, key: Key) -> Result<Option<HttpGet>, ReadFault>
     ensures { Reads result (probe_at ((seen container.now) · key)) }
@@ -32,7 +32,7 @@ pub(crate) fn probe_of<'a>(container: &'a Place<'a>, key: Key) -> Result<Option<
     probe.optional(Key::HttpGet, &Asking)
 }
 
-/// What is asked for by HTTP.
+/// The `httpGet` of a probe.
 struct Asking;
 
 impl Reader for Asking {
@@ -50,7 +50,7 @@ impl Reader for Asking {
     }
 }
 
-/// The path that is asked for, without the query behind it.
+/// Returns the path of a request, without the query.
 fn path_in(target: &str) -> &str
     ensures { result.now ≡ path_in target.now }
 {
@@ -72,7 +72,7 @@ fn or_root(path: &str) -> &str
     if path.is_empty() { "/" } else { path }
 }
 
-/// Adds the ports that a probe of a container asks, whose ports these are, each with its path.
+/// Adds the ports that a probe of a container with these ports requests, each with its path.
 pub(crate) fn add_asked(
     probes: &mut List<(u16, Text)>,
     ports: &[NamedPort],

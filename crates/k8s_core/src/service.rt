@@ -14,7 +14,7 @@ use serde_json::Value;
 use std::alloc::Global;
 use view_types::service::Service;
 
-/// The Service that stands at the path `at`. Its fault is the first in the order of its members.
+/// Reads the Service at the path `at`. A fault is the first one in the order of the members.
 pub fn read_service(alloc: Global, object: &Value, at: &str) -> Result<Service, ReadFault>
     ensures lawful { IfOk result IsLawfulService }
     ensures value { Reads result (service_at record { at = at.now; value = view object.now }) }
@@ -22,7 +22,7 @@ pub fn read_service(alloc: Global, object: &Value, at: &str) -> Result<Service, 
     service_of(&Place::top(alloc, object, at))
 }
 
-/// The Service at a place.
+/// Reads the Service at a place.
 pub fn service_of<'a>(object: &'a Place<'a>) -> Result<Service, ReadFault>
     ensures lawful { IfOk result IsLawfulService }
     ensures value { Reads result (service_at (seen object.now)) }

@@ -23,7 +23,7 @@ use serde_json::Value;
 use std::alloc::Global;
 use view_types::slice::{Family, Point, Slice};
 
-/// The EndpointSlice that stands at the path `at`. Its fault is the first in the order of its members.
+/// Reads the EndpointSlice at the path `at`. A fault is the first one in the order of the members.
 pub fn read_slice(alloc: Global, object: &Value, at: &str) -> Result<Slice, ReadFault>
     ensures lawful { IfOk result IsLawfulSlice }
     ensures value { Reads result (slice_at record { at = at.now; value = view object.now }) }
@@ -31,7 +31,7 @@ pub fn read_slice(alloc: Global, object: &Value, at: &str) -> Result<Slice, Read
     slice_of(&Place::top(alloc, object, at))
 }
 
-/// The EndpointSlice at a place.
+/// Reads the EndpointSlice at a place.
 pub fn slice_of<'a>(object: &'a Place<'a>) -> Result<Slice, ReadFault>
     ensures lawful { IfOk result IsLawfulSlice }
     ensures value { Reads result (slice_at (seen object.now)) }
@@ -61,7 +61,7 @@ fn points_of<'a>(object: &'a Place<'a>, family: Family, own: &str) -> Result<Lis
     object.each(Key::Endpoints, &Endpoint { family, own })
 }
 
-/// The words for families.
+/// The names of families.
 struct FamilyWord;
 
 impl Word for FamilyWord {
@@ -82,7 +82,7 @@ impl Word for FamilyWord {
     }
 }
 
-/// An endpoint of a slice of a family and a namespace.
+/// An endpoint of a slice with this family and namespace.
 #[derive(Clone, Copy)]
 struct Endpoint<'b> {
     family: Family,
@@ -111,7 +111,7 @@ impl<'b> Reader for Endpoint<'b> {
     }
 }
 
-/// An address of a family, or a host name, which is none.
+/// An address of a family, or None for a host name.
 #[derive(Clone, Copy)]
 struct SliceAddress {
     family: Family,

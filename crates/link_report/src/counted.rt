@@ -1,4 +1,4 @@
-// Links of which is counted what goes over them.
+// Links whose traffic is counted.
 use crate::screen::LinkScreen;
 use mesh_base::list::List;
 use mesh_links::call::LinkEvent;
@@ -6,7 +6,8 @@ use mesh_links::links::{LinkFault, Links, PollFault};
 use std::io::Write;
 use std::time::Clock;
 
-/// Links that pass on each call to others. If there is a screen, what went over them is counted, and shown on it before a poll.
+/// Links that pass on each call to others. If there is a screen, their traffic is counted, and
+/// shown on it before a poll.
 #[derive(Drop)]
 pub struct CountedLinks<L: Links, C, W> {
     links: L,
@@ -22,7 +23,7 @@ impl<L: Links, C: Clock, W: Write> CountedLinks<L, C, W> {
         CountedLinks { links, screen }
     }
 
-    /// Leaves the line of the screen empty.
+    /// Clears the line of the screen.
     pub fn clear(&mut self)
         ensures { self.new.links ≡ self.old.links }
     {

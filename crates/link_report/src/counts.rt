@@ -1,20 +1,20 @@
-// What is counted of links.
+// The counts of links.
 use run_report::write_number;
 use std::fmt;
 use std::fmt::{Display, Formatter};
 
-/// What is counted of links. Each count of what went over them stands still at the end of `u64`.
+/// The counts of links. The counts of their traffic saturate.
 #[derive(Clone, Copy, PartialEq, Eq)]
 pub struct LinkCounts {
-    /// Those that are open.
+    /// The open links.
     pub links: u64,
     /// The open links whose first line names feeds.
     pub feeds: u64,
-    /// The other open links on which something was written: only a subscription is sent anything.
+    /// The other open links on which something was written: only subscriptions are sent anything.
     pub subscriptions: u64,
-    /// The lines that were read of feeds.
+    /// The lines read from feeds.
     pub lines: u64,
-    /// The frames that were written whole.
+    /// The frames that were written completely.
     pub frames: u64,
 }
 

@@ -1,4 +1,4 @@
-// What went over one link.
+// The traffic of one link.
 
 // The first line of a feed.
 const FEED: &[u8] = b"/feed";
@@ -8,10 +8,10 @@ const LINE_FEED: u8 = b'\n';
 // The bytes of a frame before its message: a flag, and the length in four bytes.
 const HEAD: u8 = 5;
 
-// What a link is used for, as its first line says.
+// The purpose of a link, from its first line.
 #[derive(Clone, Copy, PartialEq, Eq)]
 enum Purpose {
-    // The first line has not ended. So many bytes of it are those of the path of feeds, if all are.
+    // The first line has not ended. Some: the number of its bytes, if all match the path of feeds.
     Unknown(Option<usize>),
     Feed,
     Method,
@@ -30,7 +30,7 @@ fn lines_in(piece: &[u8]) -> u64 {
     piece.iter().filter(|byte| **byte == LINE_FEED).count() as u64
 }
 
-// Where a stream of frames ends.
+// The position in a stream of frames.
 #[derive(Clone, Copy)]
 struct FrameEnd {
     // The bytes of the head of a frame that has begun.
@@ -48,7 +48,7 @@ impl FrameEnd {
         left: 0,
     };
 
-    // Answers whether the byte ends a frame.
+    // Whether the byte ends a frame.
     fn take(&mut self, byte: u8) -> bool {
         if self.left > 0 {
             self.left -= 1;
@@ -66,7 +66,7 @@ impl FrameEnd {
     }
 }
 
-// What is known of an open link.
+// The state of an open link.
 #[derive(Clone, Copy)]
 pub(crate) struct LinkMeter {
     purpose: Purpose,
@@ -90,7 +90,7 @@ impl LinkMeter {
         self.purpose == Purpose::Method && self.was_written
     }
 
-    // Bytes were read. Answers how many lines of a feed end in them.
+    // Records bytes that were read. Returns how many lines of a feed end in them.
     pub(crate) fn read(&mut self, piece: &[u8]) -> u64 {
         match self.purpose {
             Purpose::Feed => lines_in(piece),
@@ -113,7 +113,7 @@ impl LinkMeter {
         0
     }
 
-    // Bytes were written. Answers how many frames end in them. The answers of a feed are none.
+    // Records bytes that were written. Returns how many frames end in them, which is 0 for a feed.
     pub(crate) fn write(&mut self, piece: &[u8]) -> u64 {
         self.was_written = true;
         if self.is_feed() {

@@ -1,4 +1,4 @@
-// A line of a terminal that is written again and again.
+// A line of a terminal that is overwritten.
 use crate::counts::LinkCounts;
 use crate::tally::LinkTally;
 use run_report::{EachSecond, StartTime};
@@ -8,7 +8,8 @@ use std::time::Clock;
 
 const WIDTH: usize = 160;
 
-/// A line of a terminal that shows what is counted of links, at most once in each second after the first.
+/// A line of a terminal that shows the counts of links, at most once in each second after the
+/// first.
 #[derive(Drop)]
 pub struct LinkScreen<C, W> {
     pub(crate) tally: LinkTally,
@@ -28,7 +29,7 @@ impl<C: Clock, W: Write> LinkScreen<C, W> {
         }
     }
 
-    /// What went over the links so far.
+    /// Returns the traffic of the links so far.
     pub fn counts(&self) -> LinkCounts {
         self.tally.counts()
     }
@@ -40,7 +41,7 @@ impl<C: Clock, W: Write> LinkScreen<C, W> {
         }
     }
 
-    // Writes the counts over the line before, with one write.
+    // Writes the counts over the previous line, with one write.
     fn show_line(&mut self) {
         let mut line = [b' '; WIDTH];
         let mut cursor = Cursor::new(line.as_mut_slice());
@@ -53,7 +54,7 @@ impl<C: Clock, W: Write> LinkScreen<C, W> {
         let _ = self.screen.write_all(line.get(..self.width).unwrap_or(b""));
     }
 
-    // Leaves the line empty.
+    // Clears the line.
     pub(crate) fn clear(&mut self) {
         if self.width == 0 {
             return;

@@ -1,11 +1,11 @@
-// What went over all links.
+// The traffic of all links.
 use crate::counts::LinkCounts;
 use crate::meter::LinkMeter;
 use mesh_links::call::LinkEvent;
 use std::alloc::Global;
 use std::collections::BTreeMap;
 
-// What went over all links, and what is known of those that are open.
+// The traffic of all links, and the state of the open ones.
 #[derive(Drop)]
 pub(crate) struct LinkTally {
     meters: BTreeMap<u32, LinkMeter>,
@@ -22,7 +22,7 @@ impl LinkTally {
         }
     }
 
-    // A link that finds no memory here is not counted.
+    // Records events. A link for which there is no memory is not counted.
     pub(crate) fn note(&mut self, events: &[LinkEvent]) {
         for event in events {
             if let LinkEvent::New(link) = event {

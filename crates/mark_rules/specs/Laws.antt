@@ -1,5 +1,5 @@
--- The law beneath reverse dependencies: a row that reads no mark of a change is the same after it. And views are joined
--- from rows.
+-- The law of dependencies: a row that reads no mark of a change is the same after it. Views are
+-- joined from rows.
 use Rattle.std.specs.Prelude.{◌≡◌, false, List, flat_map}
 use Rattle.std.specs.Cmp.{IsTotalOrder}
 use Rattle.std.specs.FinMap.{IsAntisymmetric}
@@ -21,11 +21,11 @@ use Rattle.mark_rules.specs.Rows.{authz_row, endpoint_row, view_of_rows, outboun
 abbrev pub MarksAreOrdered : Type 0
 MarksAreOrdered = IsTotalOrder mark_cmp × IsAntisymmetric mark_cmp
 
--- The marks of a list of objects ascend strictly, and are exactly those that one of the objects has.
+-- The marks of a list of objects ascend strictly, and are exactly those of its objects.
 abbrev pub MarksStandOnce : Type 0
 MarksStandOnce = (objects : List Object) → IsStrictlySortedBy mark_cmp (marks_of_all objects) × ((mark : Mark) → has_mark (marks_of_all objects) mark ≡ has_mark (flat_map marks_of objects) mark)
 
--- A row that reads no mark of a change is the same after it, and so is what it reads.
+-- A row that reads no mark of a change is the same after it, and reads the same.
 abbrev pub Stays : {Key Row : Type 0} → (ObjectMap → Key → Row) → (ObjectMap → Key → List Mark) → Type 0
 Stays {Key} row reads = (key : Key) (changed : List Mark) (before after : ObjectMap) → Leads changed before after → meets (reads before key) changed ≡ false
     → (row after key ≡ row before key) × (reads after key ≡ reads before key)
@@ -56,12 +56,12 @@ ViewsAreJoined = (config : Config) (held : ObjectMap) → AtKeys held → AreLaw
 abbrev pub QueriesStay : Type 0
 QueriesStay = (config : Config) → Stays (rows config) (query_reads config)
 
--- And its view is the same.
+-- Its view is the same, too.
 abbrev pub ViewsStay : Type 0
 ViewsStay = (config : Config) (query : Query) (changed : List Mark) (before after : ObjectMap) → AreLawful before → AreLawful after → Leads changed before after
     → meets (query_reads config before query) changed ≡ false → view_of config after query ≡ view_of config before query
 
--- A query reads a mark of a change exactly where one of its rows does.
+-- A query reads a mark of a change exactly if one of its rows does.
 abbrev pub QueriesAskByRows : Type 0
 QueriesAskByRows = (config : Config) (held : ObjectMap) (query : Query) (changed : List Mark)
     → meets (query_reads config held query) changed ≡ list_any (λ key. meets (reads config held key) changed) (rows config held query)

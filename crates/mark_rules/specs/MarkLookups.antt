@@ -1,4 +1,5 @@
--- Objects looked up by their marks: the keys of the objects with a mark, and the lists that rows are made from.
+-- Objects by their marks: the keys of the objects with a mark, and the lists that rows are made
+-- from.
 use Rattle.std.specs.Prelude.{◌≡◌, ◌↔◌, true, false, ℕ, Bool, List, [], ◌∷◌, Option, Some, None, Contains, filter, filter_map, find, map, slice_get}
 use Rattle.std.specs.FinMap.{get}
 use Rattle.std.specs.List.Sorted.{IsStrictlySortedBy}
@@ -31,7 +32,7 @@ use Rattle.mark_rules.specs.Reads.{server_authz_marks}
 abbrev pub keys_at : ObjectMap → Mark → List ObjKey
 keys_at held mark = map key_of (objects_with held (mark ∷ []))
 
--- an object is held, and has the mark
+-- there is an object, and it has the mark
 abbrev pub is_marked : Mark → Option Object → Bool
 is_marked mark None = false
 is_marked mark (Some o) = has_mark (marks_of o) mark

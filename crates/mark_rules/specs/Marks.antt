@@ -1,5 +1,5 @@
--- Marks: what objects are found by, and what the rows of views read. An object has marks; a row reads marks; a change can
--- alter a row only where it has a mark that the row reads.
+-- Marks, by which objects are found and which the rows of views read. A change can affect a row
+-- only if it has a mark that the row reads.
 use Rattle.std.specs.Prelude.{◌&&◌, ℕ, Bool, not, if◌then◌else◌, List, [], ◌∷◌, Option, Some, None, filter, flat_map, map}
 use Rattle.std.specs.Cmp.Lexicographic.{slice_cmp}
 use Rattle.std.specs.FinMap.{values}
@@ -30,7 +30,7 @@ use Rattle.view_rules.specs.Profiles.{has_ended}
 
 -- ---- the order of marks
 
--- the place of a mark's variant in their order
+-- the index of a mark's variant in their order
 abbrev pub mark_place : Mark → ℕ
 mark_place (Obj key) = 0
 mark_place (SlicesOf ns service) = 1
@@ -55,7 +55,7 @@ abbrev pub parent_place : ParentKind → ℕ
 parent_place parent.Server = 0
 parent_place parent.Service = 1
 
--- by namespace, the place of a kind, and name
+-- by namespace, the number of a kind, and name
 abbrev pub named_cmp : List ℕ × ℕ × List ℕ → List ℕ × ℕ × List ℕ → Ordering
 named_cmp a b = ordering_then (slice_cmp nat_cmp a.0 b.0) (ordering_then (nat_cmp a.1 b.1) (slice_cmp nat_cmp a.2 b.2))
 
@@ -84,7 +84,7 @@ meets asked changed = list_any (has_mark changed) asked
 
 -- ---- the marks of an object
 
--- Its addresses count: they aren't the node's, and the Pod hasn't ended.
+-- The Pod is found by its addresses: they are not the node's, and the Pod has not ended.
 abbrev pub has_own_addresses : Pod → Bool
 has_own_addresses pod = not pod.host_network && not (has_ended pod)
 
@@ -94,12 +94,12 @@ pod_marks pod = if has_own_addresses pod then map IpPod pod.addrs else []
 abbrev pub service_marks : Service → List Mark
 service_marks service = if service.external then [] else map IpService service.addrs
 
--- that of a slice of the namespace, by its label with the Service's name
+-- the mark of a slice of the namespace, from its label with the Service's name
 abbrev pub label_marks : List ℕ → Option (List ℕ) → List Mark
 label_marks ns None = []
 label_marks ns (Some service) = SlicesOf ns service ∷ []
 
--- a policy's target names no namespace, or the policy's own
+-- a policy's target has no namespace, or the policy's own
 abbrev pub targets_own : AuthzPolicy → Bool
 targets_own policy = bytes_eq (ns_of policy.meta.ns policy.target) policy.meta.ns
 
@@ -112,7 +112,7 @@ parent_mark ns parent = RouteOn ns parent.kind parent.name
 abbrev pub route_marks : Route → List Mark
 route_marks route = map (parent_mark route.meta.ns) route.parents
 
--- the marks besides that of the key
+-- the marks other than that of the key
 abbrev pub other_marks : Object → List Mark
 other_marks (object.Pod o) = pod_marks o
 other_marks (object.Service o) = service_marks o
@@ -129,11 +129,11 @@ other_marks (object.GatewayRoute o) = route_marks o
 abbrev pub marks_of : Object → List Mark
 marks_of o = Obj (key_of o) ∷ other_marks o
 
--- sorted, and each once
+-- sorted and without duplicates
 abbrev pub each_once : List Mark → List Mark
 each_once marks = in_order_by mark_cmp (λ mark. mark) marks
 
--- the marks of all these objects, sorted and each once
+-- the marks of all these objects, sorted and without duplicates
 abbrev pub marks_of_all : List Object → List Mark
 marks_of_all objects = each_once (flat_map marks_of objects)
 

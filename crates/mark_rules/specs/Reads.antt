@@ -1,4 +1,4 @@
--- What each row reads: a list of marks, with repeats, whether or not an object has them.
+-- The marks that each row reads: a list, with duplicates, whether or not an object has them.
 use Rattle.std.specs.Prelude.{◌++◌, ℕ, if◌then◌else◌, List, [], ◌∷◌, Option, Some, None, filter_map, flat_map}
 use Rattle.std.specs.FinMap.{values}
 use Rattle.std.specs.List.{count_by, sum_by}
@@ -90,7 +90,7 @@ route_reads key = RouteOn key.ns parent.Server key.server ∷ []
 
 -- ---- authorizations
 
--- the object that a reference names; a ServiceAccount is no held object
+-- the object that a reference names; for a ServiceAccount there is none
 abbrev pub need_marks : List ℕ → List ℕ → RefKind → List Mark
 need_marks ns name ref.MeshAuthn = Obj (mesh_authn_key ns name) ∷ []
 need_marks ns name ref.NetAuthn = Obj (net_authn_key ns name) ∷ []
@@ -125,7 +125,7 @@ backend_marks backend = if backend.service then Obj (service_key backend.ns back
 abbrev pub backends_of : Route → List Mark
 backends_of route = flat_map (λ (rule : Rule). flat_map backend_marks rule.backends) route.rules
 
--- the routes with a parent that is the Service, at whatever port
+-- the routes with a parent that is the Service, at any port
 abbrev pub routes_on : ObjectMap → List ℕ → List ℕ → List Route
 routes_on held ns name = filter_map as_route (objects_with held (RouteOn ns parent.Service name ∷ []))
 

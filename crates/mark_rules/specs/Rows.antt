@@ -62,7 +62,7 @@ abbrev pub part_of : Config → Pod → ℕ → Option ServerSpec → ServerPart
 part_of config pod port None = (default_protocol pod port, default_policy config pod, None, probe_paths pod port)
 part_of config pod port (Some server) = (server.protocol, server.policy, Some server.meta.name, probe_paths pod port)
 
--- none where the Pod isn't held
+-- none if the Pod is not held
 abbrev pub server_part : Config → ObjectMap → ServerKey → Option ServerPart
 server_part config held key = option_map (λ pod. part_of config pod key.port (chosen_server held key.ns pod key.port)) (pod_held held (Some (key.ns, key.pod)))
 
@@ -77,12 +77,12 @@ server_routes held key = map bare_route (attached_routes held key.ns (is_server_
 
 -- ---- the authorizations of a Server or of a route
 
--- none for a Server that isn't held
+-- none for a Server that is not held
 abbrev pub authz_found : Config → ObjectMap → Option ServerSpec → List AuthzRow
 authz_found config held None = []
 authz_found config held (Some server) = authz_rows config held (applies_to_server held server)
 
--- by what is held at the key
+-- by the object under the key
 abbrev pub authz_at : Config → ObjectMap → ObjKey → Kind → Option Object → List AuthzRow
 authz_at config held key kind.Server found = authz_found config held (server_found found)
 authz_at config held key kind.LinkerdRoute found = authz_rows config held (applies_to_route held key)
@@ -94,7 +94,7 @@ authz_row config held key = authz_at config held key key.kind (get held key)
 
 -- ---- views, joined from rows
 
--- the key of the route that a row is of
+-- the key of the route of a row
 abbrev pub key_of_row : List ℕ → RouteRow → ObjKey
 key_of_row ns route = record { kind = route.kind; ns = ns; name = route.name }
 
@@ -116,7 +116,7 @@ abbrev pub routes_behind : (RouteKey → List RouteRow) → List ℕ → Option 
 routes_behind routes ns None = []
 routes_behind routes ns (Some server) = routes (record { ns = ns; server = server })
 
--- with the authorizations of a Server and its routes, and with the Pod's probes where it has none
+-- with the authorizations of a Server and its routes, and with the Pod's probes if it has none
 abbrev pub row_joined : ServerPart → List AuthzRow → List RouteRow → ServerRow
 row_joined part authz routes = record {
   protocol = part.0;

@@ -1,4 +1,5 @@
--- The names of the Servers that match a port of a Pod. A row that keeps them looks again only at a Server that has changed.
+-- The names of the Servers that match a port of a Pod. Only a changed Server has to be checked
+-- again.
 use Rattle.std.specs.Prelude.{◌≡◌, ◌↔◌, true, false, ℕ, Bool, List, Option, Some, None, Contains, option_map, slice_get}
 use Rattle.std.specs.Cmp.Lexicographic.{slice_cmp}
 use Rattle.std.specs.FinMap.{get}
@@ -28,12 +29,12 @@ pub record AreMatches (held : ObjectMap) (ns : List ℕ) (pod : Pod) (number : �
   pub rise : IsStrictlySortedBy (slice_cmp nat_cmp) names
   pub each : (name : List ℕ) → Contains names name ↔ (matches_at held ns pod number name ≡ true)
 
--- The first of them is the chosen Server.
+-- The first of these is the chosen Server.
 abbrev pub FirstIsChosen : Type 0
 FirstIsChosen = (held : ObjectMap) → AtKeys held → (ns : List ℕ) (pod : Pod) (number : ℕ) (names : List (List ℕ)) → AreMatches held ns pod number names
     → option_map (λ (s : ServerSpec). s.meta.name) (chosen_server held ns pod number) ≡ slice_get names 0
 
--- A Server whose own mark is not of a change matches after it exactly where it matched before.
+-- A Server whose own mark is not of a change matches after it exactly if it matched before.
 abbrev pub MatchesStay : Type 0
 MatchesStay = (changed : List Mark) (before after : ObjectMap) → Leads changed before after → (ns : List ℕ) (pod : Pod) (number : ℕ) (name : List ℕ)
     → has_mark changed (Obj (server_key ns name)) ≡ false → matches_at after ns pod number name ≡ matches_at before ns pod number name

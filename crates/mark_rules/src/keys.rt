@@ -1,5 +1,5 @@
-// The keys of the rows that views are joined from. Keys are compared field by field, so the name comes before the namespace, which
-// most keys share.
+// The keys of the rows that views are joined from. Keys compare field by field; the name precedes
+// the namespace, which most keys share.
 use mesh_base::copied::Copied;
 use mesh_base::key::ObjKey;
 use mesh_base::memory::Memory;
@@ -7,7 +7,7 @@ use mesh_base::text::Text;
 use std::alloc::Global;
 use view_types::query::Target;
 
-/// The key of the endpoints of a Service's port.
+/// The key of the endpoints of a Service port.
 #[derive(Drop, PartialEq, Eq, PartialOrd, Ord, Hash)]
 pub struct EndpointKey {
     pub name: Text,
@@ -15,14 +15,14 @@ pub struct EndpointKey {
     pub port: u16,
 }
 
-/// The key of a target's profile, for a client in this namespace if it names one.
+/// The key of a target's profile, for a client in this namespace if it declares one.
 #[derive(Drop, PartialEq, Eq, PartialOrd, Ord, Hash)]
 pub struct ProfileKey {
     pub target: Target,
     pub client: Option<Text>,
 }
 
-/// The key of what a Pod's port is served by: its protocol, its policy and its Server.
+/// The key of the protocol, the policy and the Server of a port of a Pod.
 #[derive(Drop, PartialEq, Eq, PartialOrd, Ord, Hash)]
 pub struct ServerKey {
     pub pod: Text,

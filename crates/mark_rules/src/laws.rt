@@ -10,45 +10,45 @@ pub fn marks_are_ordered()
     ensures { MarksAreOrdered }
 {}
 
-/// The marks of a list of objects ascend strictly, and are exactly those that one of the objects has.
+/// The marks of a list of objects ascend strictly, and are exactly those of its objects.
 pub fn marks_stand_once()
     ensures once { MarksStandOnce }
     ensures all { AllAreCovered }
 {}
 
-/// Setting an object leads from the old map to the new one by its marks and those of the object that it replaces. Removing
-/// a key leads there by the marks of the object that was held.
+/// Putting an object changes the map by its marks and those of the object that it replaces.
+/// Removing a key changes it by the marks of the object that was held.
 pub fn changes_lead()
     ensures put { PutLeads }
     ensures taken { TakenLeads }
 {}
 
-/// An endpoint row that reads no mark of a change is the same after it, and so is what it reads.
+/// An endpoint row that reads no mark of a change is the same after it, and reads the same.
 pub fn endpoints_stay()
     ensures { EndpointsStay }
 {}
 
-/// The same holds of the profile row of a target.
+/// The same holds for the profile row of a target.
 pub fn profiles_stay()
     ensures { ProfilesStay }
 {}
 
-/// The same holds of the Server row of a port.
+/// The same holds for the Server row of a port.
 pub fn servers_stay()
     ensures { ServersStay }
 {}
 
-/// The same holds of the route row of a Server.
+/// The same holds for the route row of a Server.
 pub fn routes_stay()
     ensures { RoutesStay }
 {}
 
-/// The same holds of the authorization row of a Server or of a route.
+/// The same holds for the authorization row of a Server or of a route.
 pub fn authz_stays()
     ensures { AuthzStays }
 {}
 
-/// The same holds of the outbound row of a target.
+/// The same holds for the outbound row of a target.
 pub fn outbound_stays()
     ensures { OutboundStays }
 {}
@@ -58,23 +58,23 @@ pub fn views_are_joined()
     ensures { ViewsAreJoined }
 {}
 
-/// A query reads a mark of a change exactly where one of its rows does. Where none does, its rows are the same after the
-/// change, and so is its view.
+/// A query reads a mark of a change exactly if one of its rows does. If none does, its rows and its
+/// view are the same after the change.
 pub fn views_stay()
     ensures due { QueriesAskByRows }
     ensures rows { QueriesStay }
     ensures view { ViewsStay }
 {}
 
-/// The keys of a mark ascend and are exactly those of the objects with it, which stand at these keys. They are the same after
-/// a change without the mark.
+/// The keys of a mark ascend and are exactly those of the objects with it, which are stored under
+/// these keys. They are the same after a change without the mark.
 pub fn keys_by_mark()
     ensures keys { KeysByMark }
     ensures found { FoundAtKeys }
     ensures stay { KeysStay }
 {}
 
-/// The objects that a row is made from are found among those with the marks that it reads.
+/// The objects that a row is made from are among those with the marks that it reads.
 pub fn rows_by_marks()
     ensures slices { SlicesByMark }
     ensures servers { ServersByMark }
@@ -91,8 +91,8 @@ pub fn addresses_by_mark()
     ensures pods { PodsByMark }
 {}
 
-/// The first name among the Servers that match a port is that of the chosen Server. A Server whose own mark isn't of a change
-/// matches after it as before.
+/// The first name among the Servers that match a port is that of the chosen Server. A Server whose
+/// own mark is not of a change matches after it if and only if it did before.
 pub fn matching_servers()
     ensures first { FirstIsChosen }
     ensures stay { MatchesStay }

@@ -21,7 +21,7 @@ use view_types::route::{Parent, Route};
 use view_types::service::Service;
 use view_types::slice::Slice;
 
-/// The marks of an object: that of its key first.
+/// Returns the marks of an object, that of its key first.
 pub fn marks_of(alloc: Global, object: &Object) -> Result<List<Mark>, Memory>
     ensures { IfOk result (λ marks. marks ≡ marks_of object.now) }
 {
@@ -52,7 +52,7 @@ pub fn add_all_marks(
     Ok(())
 }
 
-/// Sorts marks and drops repeats.
+/// Sorts marks and removes duplicates.
 pub fn keep_once(marks: List<Mark>) -> Result<List<Mark>, Memory>
     ensures { IfOk result (λ kept. kept ≡ each_once marks) }
 {
@@ -62,7 +62,7 @@ pub fn keep_once(marks: List<Mark>) -> Result<List<Mark>, Memory>
     Ok(List::from_vec(marks))
 }
 
-/// Adds the marks of an object without that of its key.
+/// Adds the marks of an object other than that of its key.
 pub fn add_others(marks: &mut List<Mark>, object: &Object) -> Result<(), Memory>
     ensures { OnOk result (marks.new ≡ marks.old ++ other_marks object.now) }
 {

@@ -1,7 +1,7 @@
-//! Tests of the marks that rows read, over a store of objects, and of the graph of rows and marks. They stand apart, since a
-//! crate with tests is proved twice.
+//! Tests of the marks that rows read, over a store of objects, and of the graph of rows and marks.
+//! They are in a crate of their own, since a crate with tests is proved twice.
 //!
-//! Stands on row_reads and mark_graph, and on watch_events for the objects.
+//! Depends on row_reads and mark_graph, and on watch_events for the objects.
 #![tactic(auto)]
 
 #[cfg(test)]

@@ -1,7 +1,7 @@
-//! Tests of links that play a script: what each step shows, and what each call returns. They stand apart, since a crate with
-//! tests is proved twice.
+//! Tests of links that play a script: the events of each step, and the results of each call. They
+//! are in a crate of their own, since a crate with tests is proved twice.
 //!
-//! Stands on mem_links.
+//! Depends on mem_links.
 #![tactic(auto)]
 
 #[cfg(test)]

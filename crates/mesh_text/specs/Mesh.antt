@@ -1,4 +1,4 @@
--- Which Pods are in the mesh, who their service accounts are there, and at which ports no protocol is looked for.
+-- Which Pods are in the mesh, the identities of service accounts, and opaque ports.
 use Rattle.std.specs.Prelude.{codes, ℕ, Bool, false, List, [], ◌∷◌, ◌++◌, map, Option, Some, None, bytes_eq}
 use Rattle.std.specs.FinMap.{get}
 use Rattle.k8s_meta.specs.PortSet.{ranges_of}
@@ -24,6 +24,6 @@ abbrev pub ranges_from : Option (List ℕ) → List (ℕ × ℕ)
 ranges_from None = map (λ port. (port, port)) usual_opaque_ports
 ranges_from (Some text) = ranges_of text
 
--- those of the annotation of a Pod or Service, or the usual ones where it has none
+-- those of the annotation of a Pod or Service, or the default without it
 abbrev pub opaque_ranges : Meta → List (ℕ × ℕ)
 opaque_ranges meta = ranges_from (get meta.notes (codes "config.linkerd.io/opaque-ports"))

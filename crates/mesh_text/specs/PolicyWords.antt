@@ -1,4 +1,4 @@
--- The words for policies.
+-- The names of policies.
 use Rattle.std.specs.Prelude.{codes, ℕ, List, Option, Some, None, bytes_eq, if◌then◌else◌}
 use Rattle.view_types.specs.declared.policy.Policy.{Policy}
 use Rattle.view_types.specs.declared.policy.Policy.TheVariants.{AllUnauthenticated, AllAuthenticated, ClusterUnauthenticated, ClusterAuthenticated, Deny, Audit}

@@ -1,4 +1,4 @@
--- Where traffic is to go, as a text writes it.
+-- Targets of traffic as strings.
 use Rattle.std.specs.Prelude.{ℕ, List, [], ◌∷◌, ◌++◌, ◌&&◌, ◌==◌, codes, map, nat_eq, Option, Some, None, if◌then◌else◌}
 use Rattle.std.specs.Char.{to_ascii_lowercase}
 use Rattle.std.specs.Cmp.Lexicographic.{pointwise}
@@ -24,7 +24,7 @@ above_zero (Some n) = if n == 0 then None else Some n
 unfoldable pub port_of : List ℕ → Option ℕ
 port_of digits = above_zero (plain_up_to 65535 digits)
 
--- what stands after an address in brackets: nothing, or a colon and a port
+-- what follows an address in brackets: nothing, or a colon and a port
 unfoldable pub port_after : List ℕ → Option ℕ
 port_after [] = Some 80
 port_after (c ∷ digits) = if c == 58 then port_of digits else None
@@ -34,12 +34,12 @@ abbrev pub v6_target : Option Ip → Option ℕ → Option Target
 v6_target (Some (V6 n)) (Some port) = Some (Address (V6 n) port)
 v6_target _ _ = None
 
--- what follows an opening bracket, cut at closing ones
+-- what follows an opening bracket, split at closing ones
 abbrev pub bracketed : List (List ℕ) → Option Target
 bracketed (address ∷ after ∷ []) = v6_target (ip_of address) (port_after after)
 bracketed _ = None
 
--- The first two pieces of a host, where they are names and the host is their full name.
+-- The first two pieces of a host, if they are names and the host is their full name.
 abbrev pub names_of : List ℕ → List ℕ → List (List ℕ) → Option (List ℕ × List ℕ)
 names_of domain host (name ∷ ns ∷ zone ∷ more) =
     if is_dotless name && is_dotless ns && pointwise nat_eq host (full_name name ns domain) then Some (name, ns) else None
@@ -69,6 +69,6 @@ abbrev pub lowered_target : List ℕ → List ℕ → Option Target
 lowered_target domain [] = None
 lowered_target domain (c ∷ cs) = if c == 91 then bracketed (pieces 93 cs) else hosted domain (pieces 58 (c ∷ cs))
 
--- Letters in upper case count as those in lower case.
+-- Letters in upper case are read as those in lower case.
 unfoldable pub target_of : Config → List ℕ → Option Target
 target_of config text = lowered_target config.cluster_domain (map to_ascii_lowercase text)

@@ -1,4 +1,4 @@
--- A Pod, as a text writes it.
+-- A Pod as a string.
 use Rattle.std.specs.Prelude.{ℕ, List, [], ◌∷◌, ◌&&◌, Option, Some, None, if◌then◌else◌}
 use Rattle.mesh_base.specs.Pieces.{pieces}
 use Rattle.k8s_meta.specs.Scalars.{is_name}

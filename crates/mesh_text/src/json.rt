@@ -6,7 +6,7 @@ use mesh_base::memory::Memory;
 use serde_json::Value;
 use std::alloc::Global;
 
-/// The value that the bytes write as JSON, if they do.
+/// Parses the bytes as JSON. None if they are not valid JSON.
 #[tactic(auto, unfolding(crate::specs::Json::json_of))]
 pub fn read_json(alloc: Global, bytes: &[u8]) -> Result<Option<Value>, Memory>
     ensures { IfOk result (λ value. option_map view value ≡ json_of bytes.now) }

@@ -1,9 +1,11 @@
-//! The short strings that proxies, objects and command lines write: targets, workloads, context tokens, policies, ports,
-//! request methods, API groups, and JSON itself; and what the mesh makes of a Pod's labels, account and annotations.
+//! The short strings of proxies, objects and command lines: targets, workloads, context tokens,
+//! policies, ports, request methods, API groups, and JSON itself; and what the labels, service
+//! account and annotations of a Pod mean in the mesh.
 //!
-//! Stands on mesh_base, net_cidr, k8s_meta and view_types, on serde_json for tokens and on http for methods. Each call
-//! gives what its definition says: `specs/Targets`, `specs/Workloads`, `specs/Contexts`, `specs/PolicyWords`,
-//! `specs/PortRefs`, `specs/Methods`, `specs/Groups`, `specs/Json`, `specs/Mesh`.
+//! Depends on mesh_base, net_cidr, k8s_meta and view_types, on serde_json for tokens and on http
+//! for methods. The result of each call is defined in `specs/Targets`, `specs/Workloads`,
+//! `specs/Contexts`, `specs/PolicyWords`, `specs/PortRefs`, `specs/Methods`, `specs/Groups`,
+//! `specs/Json` or `specs/Mesh`.
 #![tactic(auto)]
 
 pub mod group;

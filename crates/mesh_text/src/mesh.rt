@@ -10,7 +10,7 @@ use mesh_base::text::Text;
 use std::alloc::Global;
 use view_types::config::Config;
 
-/// The Pod's label names the configured control plane.
+/// Whether the Pod's label names the configured control plane.
 pub fn is_meshed(config: &Config, pod: &Meta) -> bool
     ensures { result ≡ is_meshed config.now pod.now }
 {
@@ -20,7 +20,7 @@ pub fn is_meshed(config: &Config, pod: &Meta) -> bool
     }
 }
 
-/// Who the service account of a namespace is in the mesh.
+/// Returns the identity of a service account in the mesh.
 pub fn identity_of(
     alloc: Global,
     config: &Config,
@@ -37,7 +37,7 @@ pub fn identity_of(
     Ok(Text::from_string(text)?)
 }
 
-/// The full name of a Service, under which its profile stands.
+/// Returns the full name of a Service, which is the name of its profile.
 pub fn full_name(alloc: Global, config: &Config, ns: &Text, name: &Text) -> Result<Text, Memory>
     ensures { IfOk result (λ full. full ≡ full_name name.now ns.now config.now.cluster_domain) }
 {
@@ -48,7 +48,7 @@ pub fn full_name(alloc: Global, config: &Config, ns: &Text, name: &Text) -> Resu
     Text::from_string(text)
 }
 
-/// The ports of a Pod or Service at which no protocol is looked for.
+/// Returns the opaque ports of a Pod or Service, for which no protocol is detected.
 pub fn opaque_ports(alloc: Global, meta: &Meta) -> Result<Ports, Memory>
     ensures { IfOk result (λ ports. ports.ranges ≡ opaque_ranges meta.now) }
 {
@@ -58,7 +58,7 @@ pub fn opaque_ports(alloc: Global, meta: &Meta) -> Result<Ports, Memory>
     }
 }
 
-/// The opaque ports where no annotation names any.
+/// Returns the default opaque ports, for objects without the annotation.
 pub fn usual_ports(alloc: Global) -> Result<Ports, Memory>
     ensures { IfOk result (λ ports. ports.ranges ≡ ranges_from None) }
 {

@@ -7,7 +7,7 @@ use mesh_base::memory::Memory;
 use mesh_base::text::Text;
 use std::alloc::Global;
 
-/// Whether the bytes can be a name without a dot.
+/// Whether the bytes are a possible name without a dot.
 #[tactic(auto, unfolding(crate::specs::Names::is_dotless))]
 pub fn is_dotless(text: &[u8]) -> bool
     ensures { result ≡ is_dotless text.now }
@@ -15,7 +15,7 @@ pub fn is_dotless(text: &[u8]) -> bool
     is_label_within(text, 253)
 }
 
-/// The text of a name.
+/// Converts a name to a string.
 pub fn name_text(alloc: Global, name: &[u8]) -> Result<Text, Memory>
     requires { IsTrue (is_name name.now) }
     ensures { IfOk result (λ text. text ≡ name.now) }

@@ -3,7 +3,7 @@ ghost use Rattle.mesh_text.specs.PolicyWords.{policy_of};
 use k8s_meta::choice::Word;
 use view_types::policy::Policy;
 
-/// The words for policies.
+/// The names of policies.
 pub struct PolicyWord;
 
 impl Word for PolicyWord {

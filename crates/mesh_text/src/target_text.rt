@@ -16,11 +16,11 @@ use std::alloc::{AllocError, Global};
 use view_types::config::Config;
 use view_types::query::Target;
 
-/// Why a text gives no target or no workload.
+/// Why a string is not a target or a workload.
 #[derive(Clone, Copy, Debug, PartialEq, Eq)]
 pub enum TargetFault {
     Memory,
-    /// The text has another form, or a part of it is no name, address or port.
+    /// The string has another form, or a part of it is not a name, address or port.
     Bad,
 }
 
@@ -40,9 +40,9 @@ impl From<AllocError> for TargetFault {
     }
 }
 
-/// Where a text leads: `ip:port`, or `name.namespace.svc.` and the cluster's domain with `:port` or without. An IPv6
-/// address stands in brackets, capital letters count as small ones, and the port is 80 where there is none. Any other
-/// text is `Bad`.
+/// Parses a target: `ip:port`, or `name.namespace.svc.` and the cluster's domain, with or without
+/// `:port`. An IPv6 address is in brackets, letters may be in upper case, and the default port is
+/// 80. Any other string is `Bad`.
 #[tactic(auto, unfolding(crate::specs::Targets::target_of))]
 pub fn read_target(alloc: Global, text: &[u8], config: &Config) -> Result<Target, TargetFault>
     ensures { Answers (target_of config.now text.now) result }
@@ -144,7 +144,7 @@ fn read_service(alloc: Global, host: &[u8], port: u16, domain: &[u8]) -> Result<
     })
 }
 
-/// The name and the namespace.
+/// Returns the name and the namespace.
 #[tactic(auto, using(crate::proofs::Hosts::names_are, crate::proofs::Names::dotless_name))]
 fn service_names<'a>(host: &'a [u8], domain: &[u8]) -> Option<(&'a [u8], &'a [u8])>
     ensures pair { MatchOption result (names_of domain.now host.now (pieces 46 host.now) ≡ None)
@@ -165,7 +165,7 @@ fn service_names<'a>(host: &'a [u8], domain: &[u8]) -> Option<(&'a [u8], &'a [u8
     Some((name, ns))
 }
 
-/// Whether the text is `svc.` and the domain.
+/// Whether the string is `svc.` and the domain.
 fn is_zone(text: &[u8], domain: &[u8]) -> bool
     ensures { result ≡ pointwise nat_eq text.now (codes "svc." ++ domain.now) }
 {

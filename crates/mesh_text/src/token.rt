@@ -9,8 +9,8 @@ use serde_json::Value;
 use std::alloc::Global;
 use view_types::query::Context;
 
-/// What a context token says: the members `ns` and `nodeName` of a JSON object, each none unless it is a text. Other
-/// bytes say nothing.
+/// Reads a context token: the members `ns` and `nodeName` of a JSON object, each None unless it is
+/// a string. Both are None for other bytes.
 #[tactic(auto, unfolding(crate::specs::Contexts::context_of))]
 pub fn read_context(alloc: Global, token: &[u8]) -> Result<Context, Memory>
     ensures { IfOk result (λ ctx. ctx ≡ context_of token.now) }

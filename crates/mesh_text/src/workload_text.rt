@@ -8,8 +8,8 @@ use mesh_base::pieces::cut;
 use mesh_base::text::Text;
 use std::alloc::Global;
 
-/// The namespace and the name of the Pod that `namespace:pod` names. Both have the bytes and the length of a name; any
-/// other text is `Bad`.
+/// Parses `namespace:pod`. Returns the namespace and the name, which have the bytes and the length
+/// of a name. Any other string is `Bad`.
 #[tactic(auto, using(crate::proofs::Pieces::workload_more), unfolding(crate::specs::Workloads::workload_of))]
 pub fn read_workload(alloc: Global, text: &[u8]) -> Result<(Text, Text), TargetFault>
     ensures { Answers (workload_of text.now) result }

@@ -1,4 +1,4 @@
-// How the outbound view of a target is found.
+// The lookup of the outbound view of a target.
 ghost use Rattle.mark_rules.specs.Reads.{outbound_reads};
 ghost use Rattle.mark_rules.specs.Rows.{outbound_row};
 ghost use Rattle.mark_rules.proofs.Outbound.{outbound_stays};
@@ -15,7 +15,7 @@ use view_types::config::Config;
 use view_types::outbound::OutboundView;
 use view_types::query::Target;
 
-/// Finds the outbound view of a target under a configuration.
+/// Looks up the outbound view of a target under a configuration.
 #[derive(Drop)]
 pub struct OutboundFinder {
     pub config: Config,

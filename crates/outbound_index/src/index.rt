@@ -17,7 +17,7 @@ use view_types::config::Config;
 /// The outbound views of targets.
 pub type OutboundIndex = RowTable<FindAnew<OutboundFinder>>;
 
-/// An index without users. It stands for all objects.
+/// Creates an index without users. It stands for all objects.
 pub fn new_index(alloc: Global, config: &Config) -> Result<OutboundIndex, Memory>
     ensures filter { IfOk result (λ index. ⟦<RowTable<FindAnew<OutboundFinder>> as RowIndex>⟧.filter
         index ≡ record { row_of = outbound_row config.now; reads = outbound_reads }) }

@@ -31,7 +31,7 @@ use view_types::query::Target;
 use view_types::route::{ParentKind, Route};
 use view_types::server_view::RouteRow;
 
-/// The outbound view of a target.
+/// Returns the outbound view of a target.
 pub(crate) fn outbound_of<L>(
     from: &Snapshot,
     target: &Target,
@@ -85,7 +85,7 @@ fn to_address<L>(
     }
 }
 
-// The view of an address that no Service has, with its mark after these.
+// Returns the view of an address that no Service has. Its mark is added to these.
 fn to_pod_at<L>(
     from: &Snapshot,
     ip: Ip,
@@ -105,7 +105,7 @@ fn to_pod_at<L>(
     Ok(PlainRow { row, marks })
 }
 
-// The view of a Service, with its marks after these.
+// Returns the view of a Service. Its marks are added to these.
 fn to_service<L>(
     from: &Snapshot,
     asked: &ServicePort,
@@ -137,7 +137,8 @@ fn add_service(marks: &mut List<Mark>, asked: &ServicePort) -> Result<(), Memory
     marks.add(Mark::RouteOn(asked.ns.copy()?, ParentKind::Service, asked.name.copy()?))
 }
 
-// The routes that are attached to a Service at a port. The marks of the backends of its routes at all ports are added.
+// Returns the routes that are attached to a Service at a port. Adds the marks of the backends of
+// its routes at all ports.
 fn routes_on<'a, L>(
     from: &Snapshot<'a>,
     asked: &ServicePort,
@@ -164,7 +165,7 @@ fn routes_on<'a, L>(
     Ok(routes)
 }
 
-// The view of a Service whose attached routes are these.
+// Returns the view of a Service with these attached routes.
 fn through_routes<L>(
     from: &Snapshot,
     asked: &ServicePort,
@@ -192,7 +193,7 @@ fn through_routes<L>(
     }
 }
 
-// What is shown of the routes of a Service, if these are the ones attached to it.
+// Returns the rows of the routes of a Service, if these are the attached ones.
 fn shown_routes<L>(
     from: &Snapshot,
     asked: &ServicePort,

@@ -11,7 +11,7 @@ use Rattle.mark_rules.specs.Rows.{outbound_row, rows}
 use Rattle.row_table.specs.IndexRows.{Filter}
 use Rattle.row_views.specs.Queries.{ShowsSame}
 
--- a query of an outbound view; of no other is the view kept
+-- a query for an outbound view; no other view is kept
 abbrev pub outbound_query : Query → Option Query
 outbound_query (Traffic target) = Some (Traffic target)
 outbound_query _ = None

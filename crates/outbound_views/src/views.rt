@@ -1,4 +1,4 @@
-// The outbound views of the queries that subscribers ask for.
+// The outbound views of the queries of subscribers.
 ghost use Rattle.std.specs.Prelude.{◌≡◌, IfOk, option_map};
 ghost use Rattle.outbound_views.specs.OutboundQueries.{outbound_query, query_for};
 
@@ -17,7 +17,7 @@ use view_types::config::Config;
 use view_types::query::{Query, Target};
 use view_types::view::View;
 
-/// The outbound views of queries, each row kept once for all subscriptions of its target.
+/// The outbound views of queries, each row stored once for all subscriptions of its target.
 #[derive(Drop)]
 pub struct OutboundViews {
     rows: RowViews<OutboundIndex>,
@@ -28,7 +28,7 @@ impl OutboundViews {
     ghost use Rattle.std.specs.Prelude.{◌≡◌, ℕ, None, IfOk};
     ghost use Rattle.view_types.specs.Objects.{ObjectMap};
 
-    /// No views, under a configuration.
+    /// Creates views without open ids, under a configuration.
     pub fn new(alloc: Global, config: &Config) -> Result<OutboundViews, Memory>
         ensures queries { IfOk result (λ views. (id : ℕ)
             → ⟦<OutboundViews as QueryViews>⟧.query_of views id ≡ None) }
@@ -128,7 +128,7 @@ impl QueryViews for OutboundViews {
         (λ kept. outbound_in_use config kept.rows) };
 }
 
-// The target whose outbound view a query asks for, if it asks for one.
+// Returns the target of a query for an outbound view, or None if it is not for one.
 fn asked_target(alloc: Global, query: &Query) -> Result<Option<Target>, Memory>
     ensures { IfOk result (λ target. option_map query_for target ≡ outbound_query query.now) }
 {

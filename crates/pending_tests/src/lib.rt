@@ -1,7 +1,8 @@
-//! Tests of what a subscriber of endpoints is told after rows have changed. They stand apart, since a
-//! crate with tests is proved twice.
+//! Tests of what a subscriber of endpoints is sent after rows have changed. They are in a crate of
+//! their own, since a crate with tests is proved twice.
 //!
-//! Stands on pending_rows and endpoint_groups, and on view_fold for views with their rows in order.
+//! Depends on pending_rows and endpoint_groups, and on view_fold for views with their rows in
+//! order.
 #![tactic(auto)]
 
 #[cfg(test)]

@@ -19,7 +19,7 @@ mesh_authn_at s = do
   referred ← each_some (identity_ref_at meta.ns) (spec · keys.IdentityRefs)
   Ok (record { meta = meta; ids = written ++ referred })
 
--- without networks it holds no address
+-- without networks it contains no address
 unfoldable pub net_authn_at : Spot → Result NetAuthn ReadFault
 net_authn_at s = do
   meta ← meta_at s

@@ -25,6 +25,6 @@ family_block first = record { net = record { base = first; bits = 0 }; except = 
 abbrev pub all_blocks : List Block
 all_blocks = family_block (V4 0) ∷ family_block (V6 0) ∷ []
 
--- where no network is named, all addresses
+-- all addresses if no network is named
 unfoldable pub blocks_or_all : List Block → List Block
 blocks_or_all blocks = if length blocks == 0 then all_blocks else blocks

@@ -1,4 +1,4 @@
--- Who a client is.
+-- The identities of clients.
 use Rattle.std.specs.Prelude.{ℕ, List, Option, Some, None, Result, Ok, unwrap_or}
 use Rattle.k8s_meta.specs.Scalars.{name, namespace}
 use Rattle.k8s_meta.specs.Spots.{Spot, ◌·◌, ◌>>=◌}
@@ -12,11 +12,11 @@ use Rattle.view_types.specs.declared.authn.Ref.{Ref}
 use Rattle.view_types.specs.declared.authn.RefKind.{RefKind}
 use Rattle.view_types.specs.declared.authn.RefKind.TheVariants as kinds
 
--- an identity as it is written
+-- an identity, as written in an object
 abbrev pub written_at : Spot → Result IdSpec ReadFault
 written_at s = text s >>= λ t. Ok (ids.Written t)
 
--- a service account, of the object's own namespace where none is named
+-- a service account; the default namespace is that of the object
 unfoldable pub account_at : List ℕ → Spot → Result IdSpec ReadFault
 account_at own a = do
   a ← object a
@@ -24,7 +24,7 @@ account_at own a = do
   ns ← default own namespace (a · keys.Namespace)
   Ok (ids.Account ns name)
 
--- a service account, or all those of a namespace; another kind is nobody
+-- a service account, or all those of a namespace; none for other kinds
 abbrev pub identity_by : RefKind → List ℕ → List ℕ → Option IdSpec
 identity_by kinds.ServiceAccount ns name = Some (ids.Account ns name)
 identity_by kinds.Namespace ns name = Some (ids.Namespace name)

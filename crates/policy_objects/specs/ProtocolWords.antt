@@ -1,4 +1,4 @@
--- The words for protocols.
+-- The names of protocols.
 use Rattle.std.specs.Prelude.{codes, ℕ, List, Option, Some, None, bytes_eq, if◌then◌else◌}
 use Rattle.view_types.specs.declared.policy.Protocol.{Protocol}
 use Rattle.view_types.specs.declared.policy.Protocol.TheVariants.{Unknown, Http1, Http2, Grpc, Opaque, Tls}

@@ -28,7 +28,7 @@ core_kind kind =
     if bytes_eq kind (codes "Namespace") then Namespace else
     if bytes_eq kind (codes "ServiceAccount") then ServiceAccount else Other
 
--- what a kind of a group is
+-- the meaning of a group and a kind
 abbrev pub ref_kind : List ℕ → List ℕ → RefKind
 ref_kind group kind =
     if bytes_eq group (codes "policy.linkerd.io") then linkerd_kind kind else
@@ -44,7 +44,7 @@ ref_at r = do
   ns ← optional namespace (r · keys.Namespace)
   Ok (record { kind = ref_kind group kind; ns = ns; name = name })
 
--- at most one reference gives networks, and at most one clients
+-- at most one reference to networks, and at most one to clients
 abbrev pub is_single : List Ref → Bool
 is_single needs = nat_le (count_of gives_networks needs) 1 && nat_le (count_of gives_clients needs) 1
 

@@ -19,7 +19,7 @@ use Rattle.view_types.specs.declared.authn.ServerAuthz.{ServerAuthz}
 use Rattle.view_types.specs.declared.authn.ServerRef.{ServerRef}
 use Rattle.view_types.specs.declared.authn.ServerRef.TheVariants.{Named, Chosen}
 
--- the name is taken before the selector
+-- the name takes precedence over the selector
 unfoldable pub named_or_chosen : List ℕ → Option (List ℕ) → Option Selector → Result ServerRef ReadFault
 named_or_chosen at (Some name) selector = Ok (Named name)
 named_or_chosen at None (Some selector) = Ok (Chosen selector)
@@ -31,11 +31,11 @@ server_ref_at s = do
   by_labels ← optional selector_at (s · keys.Selector)
   named_or_chosen (s · keys.Name).at by_name by_labels
 
--- clients without TLS first, then clients of any identity
+-- clients without TLS take precedence, then clients with any identity
 unfoldable pub authn_of : Bool → Bool → List IdSpec → AuthnSpec
 authn_of without_tls any_tls ids = if without_tls then Anyone else if any_tls then AnyTls else Clients ids
 
--- whom it admits
+-- the clients that it admits
 unfoldable pub authn_at : List ℕ → Spot → Result AuthnSpec ReadFault
 authn_at own client = do
   without_tls ← default false boolean (client · keys.Unauthenticated)

@@ -18,7 +18,8 @@ use serde_json::Value;
 use std::alloc::Global;
 use view_types::authn::{IdSpec, MeshAuthn, NetAuthn};
 
-/// The MeshTLSAuthentication that stands at the path `at`. Its fault is the first in the order of its members.
+/// Reads the MeshTLSAuthentication at the path `at`. A fault is the first one in the order of the
+/// members.
 pub fn read_mesh_authn(alloc: Global, object: &Value, at: &str) -> Result<MeshAuthn, ReadFault>
     ensures value { Reads result (mesh_authn_at record { at = at.now; value = view object.now }) }
     ensures lawful { IfOk result IsLawfulMeshAuthn }
@@ -26,7 +27,7 @@ pub fn read_mesh_authn(alloc: Global, object: &Value, at: &str) -> Result<MeshAu
     mesh_authn_of(&Place::top(alloc, object, at))
 }
 
-/// The MeshTLSAuthentication at a place.
+/// Reads the MeshTLSAuthentication at a place.
 pub fn mesh_authn_of<'a>(object: &'a Place<'a>) -> Result<MeshAuthn, ReadFault>
     ensures value { Reads result (mesh_authn_at (seen object.now)) }
     ensures lawful { IfOk result IsLawfulMeshAuthn }
@@ -54,7 +55,8 @@ fn referred_by<'a>(spec: &'a Place<'a>, own: &str) -> Result<List<IdSpec>, ReadF
     spec.each_some(Key::IdentityRefs, &IdentityRef { own })
 }
 
-/// The NetworkAuthentication that stands at the path `at`. Its fault is the first in the order of its members.
+/// Reads the NetworkAuthentication at the path `at`. A fault is the first one in the order of the
+/// members.
 pub fn read_net_authn(alloc: Global, object: &Value, at: &str) -> Result<NetAuthn, ReadFault>
     ensures value { Reads result (net_authn_at record { at = at.now; value = view object.now }) }
     ensures lawful { IfOk result IsLawfulNetAuthn }
@@ -62,7 +64,7 @@ pub fn read_net_authn(alloc: Global, object: &Value, at: &str) -> Result<NetAuth
     net_authn_of(&Place::top(alloc, object, at))
 }
 
-/// The NetworkAuthentication at a place.
+/// Reads the NetworkAuthentication at a place.
 pub fn net_authn_of<'a>(object: &'a Place<'a>) -> Result<NetAuthn, ReadFault>
     ensures value { Reads result (net_authn_at (seen object.now)) }
     ensures lawful { IfOk result IsLawfulNetAuthn }

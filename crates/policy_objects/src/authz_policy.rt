@@ -13,8 +13,8 @@ use serde_json::Value;
 use std::alloc::Global;
 use view_types::authn::AuthzPolicy;
 
-/// The AuthorizationPolicy that stands at the path `at`. Its fault is the first in the order of its members; that two
-/// references give networks, or two clients, is one of their list.
+/// Reads the AuthorizationPolicy at the path `at`. A fault is the first one in the order of the
+/// members; a second reference to networks, or to clients, is a fault of their list.
 pub fn read_authz_policy(alloc: Global, object: &Value, at: &str) -> Result<AuthzPolicy, ReadFault>
     ensures value { Reads result (authz_policy_at record { at = at.now; value = view object.now }) }
     ensures lawful { IfOk result IsLawfulPolicy }
@@ -22,7 +22,7 @@ pub fn read_authz_policy(alloc: Global, object: &Value, at: &str) -> Result<Auth
     authz_policy_of(&Place::top(alloc, object, at))
 }
 
-/// The AuthorizationPolicy at a place.
+/// Reads the AuthorizationPolicy at a place.
 pub fn authz_policy_of<'a>(object: &'a Place<'a>) -> Result<AuthzPolicy, ReadFault>
     ensures value { Reads result (authz_policy_at (seen object.now)) }
     ensures lawful { IfOk result IsLawfulPolicy }

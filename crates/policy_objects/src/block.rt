@@ -31,7 +31,7 @@ impl Reader for NetworkBlock {
     }
 }
 
-/// All addresses where there is no block.
+/// Returns the blocks, or all addresses if there are none.
 #[tactic(auto, unfolding(crate::specs::Blocks::blocks_or_all))]
 pub fn blocks_or_all(alloc: Global, blocks: List<Block>) -> Result<List<Block>, Memory>
     ensures { IfOk result (λ all. all ≡ blocks_or_all blocks) }
@@ -52,7 +52,7 @@ fn all_blocks(alloc: Global) -> Result<List<Block>, Memory>
     Ok(blocks)
 }
 
-/// All addresses of the family whose first address this is.
+/// Returns all addresses of the family with this first address.
 fn family_block(alloc: Global, first: Ip) -> Block
     ensures { result ≡ family_block first }
 {

@@ -14,7 +14,7 @@ use mesh_base::text::Text;
 use std::alloc::Global;
 use view_types::authn::{IdSpec, Ref, RefKind};
 
-/// An identity as it is written.
+/// An identity, as written in an object.
 pub struct WrittenIdentity;
 
 impl Reader for WrittenIdentity {
@@ -29,7 +29,7 @@ impl Reader for WrittenIdentity {
     }
 }
 
-/// A service account, of the own namespace where none is named.
+/// A service account. The default namespace is that of the object.
 #[derive(Clone, Copy)]
 pub struct ServiceAccount<'b> {
     pub own: &'b str,
@@ -49,7 +49,7 @@ impl<'b> Reader for ServiceAccount<'b> {
     }
 }
 
-/// A reference to a service account or to a namespace, for all accounts of it. Another gives nothing.
+/// A reference to a service account, or to all accounts of a namespace; None for other kinds.
 #[derive(Clone, Copy)]
 pub struct IdentityRef<'b> {
     pub own: &'b str,
@@ -90,7 +90,7 @@ fn namespace_or(alloc: Global, ns: Option<Text>, own: &str) -> Result<Text, Memo
     }
 }
 
-/// The identities of both lists, in order.
+/// Concatenates two lists of identities.
 pub fn joined(first: List<IdSpec>, others: List<IdSpec>) -> Result<List<IdSpec>, Memory>
     ensures { IfOk result (λ all. all ≡ first ++ others) }
 {

@@ -5,7 +5,7 @@ ghost use Rattle.policy_objects.specs.ServerAuthorizations.{server_authz_at};
 ghost use Rattle.policy_objects.specs.Servers.{server_at};
 ghost use Rattle.view_types.specs.Lawful.{IsLawfulMeshAuthn, IsLawfulNetAuthn, IsLawfulPolicy, IsLawfulServer, IsLawfulServerAuthz};
 
-/// Whatever the tables read is lawful.
+/// Every object that the tables read is lawful.
 pub fn objects_are_lawful()
     ensures servers { GivesOnly IsLawfulServer server_at }
     ensures server_authzs { GivesOnly IsLawfulServerAuthz server_authz_at }

@@ -1,12 +1,12 @@
-//! Readers of the policy objects: Server, ServerAuthorization, AuthorizationPolicy, MeshTLSAuthentication and
-//! NetworkAuthentication.
+//! Readers of the policy objects: Server, ServerAuthorization, AuthorizationPolicy,
+//! MeshTLSAuthentication and NetworkAuthentication.
 //!
-//! Stands on k8s_meta, whose words the member tables are written in, on net_cidr and label_select for networks and
-//! selectors, and on view_types for what is read. Each reader's contract cites its table: `server_at` of
-//! `specs/Servers`, `server_authz_at` of `specs/ServerAuthorizations`, `authz_policy_at` of
-//! `specs/AuthorizationPolicies`, `mesh_authn_at` and `net_authn_at` of `specs/Authentications`. What they give is
-//! lawful too, as view_types' `specs/Lawful` says. The words of a table's members have modules of their own: networks,
-//! selectors, references, identities and protocols.
+//! Depends on k8s_meta for the parts of the member tables, on net_cidr and label_select for
+//! networks and selectors, and on view_types for the objects. The contract of each reader cites its
+//! table: `server_at` of `specs/Servers`, `server_authz_at` of `specs/ServerAuthorizations`,
+//! `authz_policy_at` of `specs/AuthorizationPolicies`, `mesh_authn_at` and `net_authn_at` of
+//! `specs/Authentications`. The objects are lawful as defined in `specs/Lawful` of view_types.
+//! Networks, selectors, references, identities and protocols have modules of their own.
 #![tactic(auto)]
 
 pub mod authn;

@@ -3,7 +3,7 @@ ghost use Rattle.policy_objects.specs.ProtocolWords.{protocol_of};
 use k8s_meta::choice::Word;
 use view_types::policy::Protocol;
 
-/// The words for protocols.
+/// The names of protocols.
 pub struct ProtocolWord;
 
 impl Word for ProtocolWord {

@@ -87,7 +87,8 @@ fn core_kind(kind: &str) -> RefKind
     }
 }
 
-/// The references, of which at most one gives networks and at most one clients. The place is that of their list.
+/// Returns the references, if at most one is to networks and at most one to clients. The place is
+/// that of their list.
 pub fn single<'a>(place: &'a Place<'a>, needs: List<Ref>) -> Result<List<Ref>, ReadFault>
     ensures { Reads result (single (seen place.now).at needs) }
 {

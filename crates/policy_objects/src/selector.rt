@@ -44,7 +44,7 @@ impl Reader for Rule {
     }
 }
 
-/// The words for operators.
+/// The names of operators.
 struct Operator;
 
 impl Word for Operator {

@@ -18,7 +18,7 @@ use std::alloc::Global;
 use view_types::policy::{Policy, Protocol};
 use view_types::server::ServerSpec;
 
-/// The Server that stands at the path `at`. Its fault is the first in the order of its members.
+/// Reads the Server at the path `at`. A fault is the first one in the order of the members.
 pub fn read_server(alloc: Global, object: &Value, at: &str) -> Result<ServerSpec, ReadFault>
     ensures value { Reads result (server_at record { at = at.now; value = view object.now }) }
     ensures lawful { IfOk result IsLawfulServer }
@@ -26,7 +26,7 @@ pub fn read_server(alloc: Global, object: &Value, at: &str) -> Result<ServerSpec
     server_of(&Place::top(alloc, object, at))
 }
 
-/// The Server at a place.
+/// Reads the Server at a place.
 pub fn server_of<'a>(object: &'a Place<'a>) -> Result<ServerSpec, ReadFault>
     ensures value { Reads result (server_at (seen object.now)) }
     ensures lawful { IfOk result IsLawfulServer }

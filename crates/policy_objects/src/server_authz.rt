@@ -22,8 +22,8 @@ use serde_json::Value;
 use std::alloc::Global;
 use view_types::authn::{AuthnSpec, IdSpec, ServerAuthz, ServerRef};
 
-/// The ServerAuthorization that stands at the path `at`. Its fault is the first in the order of its members; that it
-/// names no Server and has no selector is one of the name.
+/// Reads the ServerAuthorization at the path `at`. A fault is the first one in the order of the
+/// members; the lack of both a Server's name and a selector is a fault of the name.
 pub fn read_server_authz(alloc: Global, object: &Value, at: &str) -> Result<ServerAuthz, ReadFault>
     ensures value { Reads result (server_authz_at record { at = at.now; value = view object.now }) }
     ensures lawful { IfOk result IsLawfulServerAuthz }
@@ -31,7 +31,7 @@ pub fn read_server_authz(alloc: Global, object: &Value, at: &str) -> Result<Serv
     server_authz_of(&Place::top(alloc, object, at))
 }
 
-/// The ServerAuthorization at a place.
+/// Reads the ServerAuthorization at a place.
 pub fn server_authz_of<'a>(object: &'a Place<'a>) -> Result<ServerAuthz, ReadFault>
     ensures value { Reads result (server_authz_at (seen object.now)) }
     ensures lawful { IfOk result IsLawfulServerAuthz }
@@ -82,7 +82,7 @@ fn named_or_chosen<'a>(
     }
 }
 
-/// The client's place, and the object's own namespace.
+/// Reads the clients, in an object of the namespace `own`.
 #[tactic(auto, unfolding(k8s_meta::specs::Spots::then, crate::specs::ServerAuthorizations::authn_at))]
 fn read_authn<'a>(client: &'a Place<'a>, own: &str) -> Result<AuthnSpec, ReadFault>
     ensures { Reads result (authn_at own.now (seen client.now)) }

@@ -1,4 +1,4 @@
--- Objects, found at the keys of a mark.
+-- Objects under the keys of a mark.
 use Rattle.std.specs.Prelude.{◌≡◌, ℕ, Bool, List, [], ◌∷◌, Option, Some, None, filter, filter_map}
 use Rattle.std.specs.FinMap.{get, values}
 use Rattle.mesh_base.specs.declared.key.Kind.{Kind}
@@ -16,25 +16,25 @@ use Rattle.mark_rules.specs.Marks.{objects_with}
 use Rattle.object_store.specs.Held.{Held}
 use Rattle.object_store.specs.KeyLists.{FindsKeys}
 
--- the objects held at these keys are those with the mark, in order
+-- the objects under these keys are those with the mark, in order
 abbrev pub HoldMarked : ObjectMap → Mark → List ObjKey → Type 0
 HoldMarked held mark keys = filter_map (get held) keys ≡ objects_with held (mark ∷ [])
 
--- and so they are at whatever keys the store finds for the mark
+-- the same holds for any keys that the store finds for the mark
 abbrev pub FindsObjects : Held → Type 0
 FindsObjects held = (mark : Mark) (keys : List ObjKey) → FindsKeys held mark keys → HoldMarked held.objects mark keys
 
--- all that is held and passes stands among these objects, in the same order
+-- all objects held that pass are among these objects, in the same order
 abbrev pub AreAmong : ObjectMap → (Object → Bool) → List Object → Type 0
 AreAmong held passes objects = filter passes (values held) ≡ filter passes objects
 
--- the kind of target by which an AuthorizationPolicy names routes of the kind
+-- the kind of target of an AuthorizationPolicy that names routes of the kind
 abbrev pub route_target : Kind → Option RefKind
 route_target kind.LinkerdRoute = Some ref.LinkerdRoute
 route_target kind.GatewayRoute = Some ref.GatewayRoute
 route_target _ = None
 
--- the routes of the namespace that are attached are held at these keys, beside others perhaps
+-- the routes of the namespace that are attached are under these keys; there may be other keys
 abbrev pub HoldRoutes : ObjectMap → List ℕ → (Parent → Bool) → List ObjKey → Type 0
 HoldRoutes held ns is_parent keys =
     attached_routes held ns is_parent ≡ in_order_by route_cmp place_of (filter (has_parent ns is_parent) (filter_map as_route (filter_map (get held) keys)))

@@ -1,4 +1,4 @@
-// Keys found by marks. The keys of a spent store can lag behind its objects, so it answers Memory.
+// Keys by mark. The keys of a spent store can be older than its objects, so it returns Memory.
 ghost use Rattle.std.specs.Prelude.{◌≡◌, false, IfOk, OnOk};
 ghost use Rattle.view_types.specs.declared.mark.Mark.TheVariants.{PolicyOn, RouteOn, ServerAuthzIn, ServersIn, SlicesOf};
 ghost use Rattle.policy_rows.specs.ByMark.{FindsObjects, HoldMarked};
@@ -11,7 +11,8 @@ use object_store::store::Store;
 use view_types::authn::RefKind;
 use view_types::route::ParentKind;
 
-/// A store that isn't spent holds the objects with a mark at the keys that it finds for the mark.
+/// Checks that the store is not spent. Then the objects under the keys that it finds for a mark are
+/// those with the mark.
 pub fn check_going(store: &Store) -> Result<(), Memory>
     ensures going { OnOk result (store.now.spent ≡ false) }
     ensures finds { OnOk result (FindsObjects store.now) }
@@ -24,7 +25,7 @@ pub fn check_going(store: &Store) -> Result<(), Memory>
     Ok(())
 }
 
-/// The keys of the EndpointSlices of the Service, in order.
+/// Returns the keys of the EndpointSlices of the Service, in order.
 pub fn slices_of<'a>(store: &'a Store, ns: &Text, service: &Text) -> Result<&'a [ObjKey], Memory>
     ensures { IfOk result (λ keys.
         HoldMarked store.now.objects (SlicesOf ns.now service.now) keys.now) }
@@ -33,7 +34,7 @@ pub fn slices_of<'a>(store: &'a Store, ns: &Text, service: &Text) -> Result<&'a 
     Ok(store.slices_of(ns, service))
 }
 
-/// The keys of the Servers of the namespace, in order.
+/// Returns the keys of the Servers of the namespace, in order.
 pub fn servers_in<'a>(store: &'a Store, ns: &Text) -> Result<&'a [ObjKey], Memory>
     ensures { IfOk result (λ keys. HoldMarked store.now.objects (ServersIn ns.now) keys.now) }
 {
@@ -41,7 +42,7 @@ pub fn servers_in<'a>(store: &'a Store, ns: &Text) -> Result<&'a [ObjKey], Memor
     Ok(store.servers_in(ns))
 }
 
-/// The keys of the ServerAuthorizations of the namespace, in order.
+/// Returns the keys of the ServerAuthorizations of the namespace, in order.
 pub fn server_authz_in<'a>(store: &'a Store, ns: &Text) -> Result<&'a [ObjKey], Memory>
     ensures { IfOk result (λ keys. HoldMarked store.now.objects (ServerAuthzIn ns.now) keys.now) }
 {
@@ -49,7 +50,7 @@ pub fn server_authz_in<'a>(store: &'a Store, ns: &Text) -> Result<&'a [ObjKey], 
     Ok(store.server_authz_in(ns))
 }
 
-/// The keys of the AuthorizationPolicies of the namespace with this target, in order.
+/// Returns the keys of the AuthorizationPolicies of the namespace with this target, in order.
 pub fn policies_on<'a>(
     store: &'a Store,
     ns: &Text,
@@ -63,7 +64,7 @@ pub fn policies_on<'a>(
     Ok(store.policies_on(ns, kind, name))
 }
 
-/// The keys of the routes of the namespace with this parent, in order.
+/// Returns the keys of the routes of the namespace with this parent, in order.
 pub fn routes_on<'a>(
     store: &'a Store,
     ns: &Text,

@@ -20,8 +20,9 @@ use std::cmp::Ordering;
 use view_types::authn::RefKind;
 use view_types::object::Object;
 
-/// The authorizations among which those stand that apply to a Server, in the order of their keys: the ServerAuthorizations of
-/// its namespace, and the AuthorizationPolicies that target the Server or its namespace.
+/// Returns the authorizations that may apply to a Server, in the order of their keys: the
+/// ServerAuthorizations of its namespace, and the AuthorizationPolicies that target the Server or
+/// its namespace.
 pub fn server_candidates<'a, L>(
     alloc: Global,
     store: &'a Store,
@@ -46,7 +47,7 @@ pub fn server_candidates<'a, L>(
     Ok(found)
 }
 
-/// The AuthorizationPolicies that target a route of this kind, in the order of their keys.
+/// Returns the AuthorizationPolicies that target a route of this kind, in the order of their keys.
 pub(crate) fn route_candidates<'a, L>(
     alloc: Global,
     store: &'a Store,
@@ -65,7 +66,7 @@ pub(crate) fn route_candidates<'a, L>(
     Ok(found)
 }
 
-/// Adds the objects that are held at the keys.
+/// Adds the objects under the keys.
 pub fn add_all<'a, L>(
     store: &'a Store,
     keys: &[ObjKey],
@@ -93,7 +94,7 @@ fn add<'a>(found: &mut Vec<&'a Object>, object: Option<&'a Object>) -> Result<()
     Ok(())
 }
 
-/// Each key once, by its first object.
+/// Sorts objects by key, and keeps the first object of each key.
 fn put_in_order(objects: &mut Vec<&Object>) -> Result<(), Memory>
     ensures { OnOk result (map (λ o. o.now) objects.new.items
         ≡ in_order_by key_cmp key_of (map (λ o. o.now) objects.old.items)) }

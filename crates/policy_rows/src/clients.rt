@@ -13,7 +13,7 @@ use view_types::authn::{AuthnSpec, IdSpec};
 use view_types::config::Config;
 use view_types::server_view::Authn;
 
-/// Whom a ServerAuthorization admits, as a view shows it.
+/// Returns the clients that a ServerAuthorization admits, as shown in a view.
 pub(crate) fn authn_shown(
     alloc: Global,
     config: &Config,
@@ -28,7 +28,7 @@ pub(crate) fn authn_shown(
     }
 }
 
-/// A list of clients, as a view shows it.
+/// Converts a list of clients to that shown in a view.
 pub(crate) fn clients_shown(alloc: Global, config: &Config, ids: &[IdSpec]) -> Result<Authn, Memory>
     ensures { IfOk result (λ shown. shown ≡ clients_shown config.now ids.now) }
 {

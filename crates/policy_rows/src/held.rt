@@ -11,7 +11,7 @@ use object_store::store::Store;
 use view_types::authn::{MeshAuthn, NetAuthn};
 use view_types::object::Object;
 
-/// The MeshTLSAuthentication of the namespace and name, if it is held.
+/// Returns the MeshTLSAuthentication of the namespace and name, if it is held.
 pub fn mesh_authn_held<'a, L>(
     store: &'a Store,
     ns: &Text,
@@ -34,7 +34,7 @@ fn mesh_authn_found(found: Option<&Object>) -> Option<&MeshAuthn>
     }
 }
 
-/// The NetworkAuthentication of the namespace and name, if it is held.
+/// Returns the NetworkAuthentication of the namespace and name, if it is held.
 pub fn net_authn_held<'a, L>(
     store: &'a Store,
     ns: &Text,

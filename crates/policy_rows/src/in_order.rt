@@ -8,7 +8,7 @@ use mesh_base::memory::Memory;
 use mesh_base::text::Text;
 use std::cmp::Ordering;
 
-/// The strings in the order of their bytes, each once.
+/// Sorts the strings in byte order, and removes duplicates.
 pub(crate) fn in_byte_order(strings: Vec<Text>) -> Result<List<Text>, Memory>
     ensures { IfOk result (λ list. list ≡ in_byte_order strings.items) }
 {

@@ -1,9 +1,11 @@
-//! What a view shows of the policies and routes that are held: rows of authorizations, the Server of a port, the routes that
-//! are attached to a Server or a Service, in order, and a route's row; and of a Pod's probes.
+//! The parts of views from policies and routes: rows of authorizations, the Server of a port, the
+//! routes that are attached to a Server or a Service, in order, the row of a route, and the paths
+//! of a Pod's probes.
 //!
-//! Stands on view_rules, mark_rules and object_store. The contracts cite `Servers`, `Policies` and `Routes` of view_rules over
-//! the objects of the store, and every way of finding those objects shares the rows. Here they are found by the keys that the
-//! store keeps for marks; a store that is spent answers Memory to that.
+//! Depends on view_rules, mark_rules and object_store. The contracts cite `Servers`, `Policies` and
+//! `Routes` of view_rules over the objects of the store. The rows are the same however these
+//! objects are found. Here they are found by the keys that the store has for marks; a spent store
+//! returns Memory.
 #![tactic(auto)]
 
 pub mod by_mark;

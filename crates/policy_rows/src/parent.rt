@@ -15,7 +15,7 @@ use mesh_base::text::Text;
 use object_store::store::Store;
 use view_types::route::{Parent, ParentKind};
 
-/// What routes are attached to: it tells whether a parent of a route is that.
+/// An object that routes are attached to.
 pub trait Attachment {
     ghost is_parent: { Self → Written → Bool };
 
@@ -25,7 +25,7 @@ pub trait Attachment {
     fn is_parent(&self, parent: &Parent) -> bool
         ensures { result ≡ is_parent self.now parent.now };
 
-    /// Keys at which the routes of a namespace that are attached to it are held.
+    /// Returns keys under which the routes of a namespace that are attached to it are held.
     fn keys<'a>(&self, store: &'a Store, ns: &Text) -> Result<&'a [ObjKey], Memory>
         ensures routes { IfOk result (λ keys.
             HoldRoutes store.now.objects ns.now (is_parent self.now) keys.now) }
@@ -33,13 +33,13 @@ pub trait Attachment {
             HoldMarked store.now.objects (mark self.now ns.now) keys.now) };
 }
 
-/// The Server of a name.
+/// The Server with a name.
 #[derive(Clone, Copy)]
 pub struct ServerNamed<'a> {
     pub name: &'a Text,
 }
 
-/// The Service of a name, at a port.
+/// The Service with a name, at a port.
 #[derive(Clone, Copy)]
 pub struct ServiceAt<'a> {
     pub name: &'a Text,

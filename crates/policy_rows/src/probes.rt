@@ -10,7 +10,7 @@ use std::alloc::Global;
 use view_types::pod::Pod;
 use view_types::server_view::RouteRow;
 
-/// The paths of the Pod's probes on the port, in byte order, each once.
+/// Returns the paths of the Pod's probes on the port, in byte order, each once.
 pub fn probe_paths(alloc: Global, pod: &Pod, port: u16) -> Result<List<Text>, Memory>
     ensures { IfOk result (λ paths. paths ≡ probe_paths pod.now port) }
 {
@@ -18,7 +18,7 @@ pub fn probe_paths(alloc: Global, pod: &Pod, port: u16) -> Result<List<Text>, Me
     in_byte_order(paths.into_vec())
 }
 
-// Those of the probes that are on the port.
+// Returns the paths of the probes on the port.
 fn paths_at(alloc: Global, probes: &[(u16, Text)], port: u16) -> Result<List<Text>, Memory>
     ensures { IfOk result (λ paths. paths ≡ filter_map (path_at port) probes.now) }
 {
@@ -49,7 +49,7 @@ fn add_path(paths: &mut List<Text>, path: Option<Text>) -> Result<(), Memory>
     }
 }
 
-/// These paths, and none where there are routes.
+/// Returns the paths, or none if there are routes.
 pub fn unless_routes(alloc: Global, routes: &[RouteRow], paths: List<Text>) -> List<Text>
     ensures { result ≡ unless_routes routes.now paths }
 {

@@ -21,23 +21,23 @@ use view_types::authn::{AuthzPolicy, IdSpec, MeshAuthn, NetAuthn, Ref, RefKind};
 use view_types::config::Config;
 use view_types::server_view::Authn;
 
-/// What the references of a policy give.
+/// The networks and clients of the references of a policy.
 #[derive(Drop)]
 pub(crate) struct Needs {
     /// The networks of the first NetworkAuthentication, if there is one.
     pub(crate) networks: Option<List<Block>>,
-    /// The clients of the first reference that gives some, if there is one.
+    /// The clients of the first reference to clients, if there is one.
     pub(crate) clients: Option<List<IdSpec>>,
 }
 
-/// What one reference gives.
+/// The networks or clients of one reference.
 #[derive(Drop)]
 pub(crate) enum Given {
     Networks(List<Block>),
     Clients(List<IdSpec>),
 }
 
-/// The namespace of a reference, by default that of its policy.
+/// Returns the namespace of a reference. The default is that of its policy.
 pub(crate) fn ns_of<'a>(own: &'a Text, need: &'a Ref) -> &'a Text
     ensures { result.now ≡ ns_of own.now need.now }
 {
@@ -47,7 +47,7 @@ pub(crate) fn ns_of<'a>(own: &'a Text, need: &'a Ref) -> &'a Text
     }
 }
 
-/// What the references of the policy give, if each is there. Each is looked up once.
+/// Returns the networks and clients of the policy, if no reference is missing. Looks each up once.
 pub(crate) fn needs_found<L>(
     from: &Snapshot,
     policy: &AuthzPolicy,
@@ -72,7 +72,7 @@ pub(crate) fn needs_found<L>(
     Ok(Some(found))
 }
 
-/// What a reference gives, if it is there.
+/// Returns the networks or clients of a reference, if it is not missing.
 fn given_by<L>(
     from: &Snapshot,
     ns: &Text,
@@ -129,7 +129,7 @@ fn networks_given(alloc: Global, found: Option<&NetAuthn>) -> Result<Option<Give
     }
 }
 
-/// Keeps what a reference gives, if it is the first of its sort.
+/// Keeps the networks or clients of a reference, if they are the first.
 fn keep(needs: &mut Needs, given: Given)
     ensures { needs.new ≡ with_given needs.old given }
 {
@@ -147,7 +147,7 @@ fn keep_first<T: Drop>(first: &mut Option<T>, item: T)
     }
 }
 
-/// The networks that a policy refers to, or all addresses.
+/// Returns the networks that a policy refers to. The default is all addresses.
 pub(crate) fn policy_blocks(
     alloc: Global,
     networks: Option<List<Block>>,
@@ -169,7 +169,7 @@ fn everywhere(alloc: Global) -> Result<List<Block>, Memory>
     Ok(blocks)
 }
 
-/// All addresses of the family of an address.
+/// Returns all addresses of the family of an address.
 fn whole(alloc: Global, base: Ip) -> Block
     ensures { result ≡ record { net = record { base = base; bits = 0 }; except = [] } }
 {
@@ -179,7 +179,7 @@ fn whole(alloc: Global, base: Ip) -> Block
     }
 }
 
-/// The clients that a policy refers to, or anyone.
+/// Returns the clients that a policy refers to. The default is anyone.
 pub(crate) fn policy_authn(
     alloc: Global,
     config: &Config,

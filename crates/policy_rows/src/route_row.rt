@@ -11,7 +11,7 @@ use std::alloc::Global;
 use view_types::route::Route;
 use view_types::server_view::{AuthzRow, RouteRow, RuleRow};
 
-/// What is shown of a route, with these rules and authorizations.
+/// Returns the row of a route, with these rules and authorizations.
 pub fn route_row(
     alloc: Global,
     route: &Route,
@@ -31,7 +31,7 @@ pub fn route_row(
     })
 }
 
-/// The key at which the route is held.
+/// Returns the key of the route.
 pub fn route_key(route: &Route) -> Result<ObjKey, Memory>
     ensures { IfOk result (λ key. key ≡ route_key route.now) }
 {

@@ -20,7 +20,8 @@ use std::cmp::Ordering;
 use view_types::object::Object;
 use view_types::route::{Parent, Route};
 
-/// The routes of the namespace that are attached, each once: the older first, then by name and group.
+/// Returns the attached routes of the namespace, each once: the oldest first, then by name and
+/// group.
 pub fn attached_routes<'a, A: Attachment, L>(
     alloc: Global,
     store: &'a Store,
@@ -40,7 +41,8 @@ pub fn attached_routes<'a, A: Attachment, L>(
     routes_among(alloc, ns, attachment, objects.as_slice())
 }
 
-/// The routes among these objects that are of the namespace and attached, each once, in that order.
+/// Returns those of these objects that are attached routes of the namespace, each once, in that
+/// order.
 pub fn routes_among<'a, A: Attachment>(
     alloc: Global,
     ns: &Text,
@@ -106,7 +108,7 @@ fn is_attached<A: Attachment>(parents: &[Parent], attachment: &A) -> bool
     parents.iter().any(|parent| attachment.is_parent(parent))
 }
 
-/// Each place in the order once, by its first route.
+/// Sorts routes, and keeps the first of each place in the order.
 fn put_in_order(routes: &mut Vec<&Route>) -> Result<(), Memory>
     ensures { OnOk result (map (λ r. r.now) routes.new.items
         ≡ in_order_by route_cmp place_of (map (λ r. r.now) routes.old.items)) }
@@ -116,7 +118,8 @@ fn put_in_order(routes: &mut Vec<&Route>) -> Result<(), Memory>
     Ok(())
 }
 
-/// The older first, and one without a creation time last; then by name, then by group.
+/// Compares by creation time, the oldest first and those without a time last; then by name and
+/// group.
 pub fn compare_routes(a: &Route, b: &Route) -> Ordering
     ensures { result ≡ route_cmp (place_of a.now) (place_of b.now) }
 {

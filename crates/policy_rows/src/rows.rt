@@ -19,7 +19,7 @@ use view_types::config::Config;
 use view_types::object::Object;
 use view_types::server_view::{AuthzKind, AuthzRow};
 
-/// The rows of the authorizations that apply, by kind and name.
+/// Returns the rows of the authorizations that apply, by kind and name.
 pub fn authz_rows<S: Subject, L>(
     from: &Snapshot,
     subject: &S,
@@ -35,7 +35,7 @@ pub fn authz_rows<S: Subject, L>(
     rows_among(from, subject, objects.as_slice(), steps)
 }
 
-/// The rows of those among these objects that apply.
+/// Returns the rows of those of these objects that apply.
 pub fn rows_among<S: Subject, L>(
     from: &Snapshot,
     subject: &S,
@@ -83,7 +83,7 @@ fn add(rows: &mut List<AuthzRow>, row: Option<AuthzRow>) -> Result<(), Memory>
     }
 }
 
-/// What is shown of an authorization, if all its references are there.
+/// Returns the row of an authorization, if none of its references is missing.
 fn whole_row<L>(
     from: &Snapshot,
     object: &Object,
@@ -137,7 +137,7 @@ fn policy_row<L>(
     }
 }
 
-/// The row of a policy whose references give this.
+/// Returns the row of a policy with these networks and clients.
 fn row_with(
     alloc: Global,
     config: &Config,

@@ -29,7 +29,7 @@ struct PodPort<'a> {
     port: u16,
 }
 
-/// The least Server of the namespace, by its name, that selects the Pod and the port.
+/// Returns the least Server of the namespace, by name, that selects the Pod and the port.
 pub fn chosen_server<'a, L>(
     store: &'a Store,
     ns: &Text,
@@ -47,7 +47,7 @@ pub fn chosen_server<'a, L>(
     Ok(server_found(first_server(store, keys, &asked, steps)))
 }
 
-/// The first at these keys that is a Server for the port.
+/// Returns the first object under these keys that is a Server for the port.
 fn first_server<'a, L>(
     store: &'a Store,
     keys: &[ObjKey],
@@ -69,7 +69,7 @@ fn first_server<'a, L>(
     None
 }
 
-/// The object at the key, if it is a Server for the port.
+/// Returns the object under the key, if it is a Server for the port.
 #[tactic(auto, using(object_store::proofs::Counts::copied_some))]
 fn server_at<'a, L>(
     store: &'a Store,
@@ -89,7 +89,7 @@ fn server_at<'a, L>(
     }
 }
 
-/// The object, if there is one and it is a Server.
+/// Returns the object, if there is one and it is a Server.
 pub fn server_found(found: Option<&Object>) -> Option<&ServerSpec>
     ensures { option_copied result ≡ server_found (option_copied found.entry) }
 {
@@ -108,7 +108,7 @@ fn is_server_for(ns: &Text, pod: &Pod, port: u16, object: &Object) -> bool
     }
 }
 
-/// The Server is in the namespace and selects the Pod and the port.
+/// Whether the Server is in the namespace and selects the Pod and the port.
 pub fn is_for_port(ns: &Text, pod: &Pod, port: u16, server: &ServerSpec) -> bool
     ensures { result ≡ is_for_port ns.now pod.now port server.now }
 {

@@ -2,7 +2,7 @@ use object_store::store::Store;
 use std::alloc::Global;
 use view_types::config::Config;
 
-/// What views are made of: the configuration and the objects held.
+/// The inputs of views: the configuration and the objects held.
 #[derive(Clone, Copy)]
 pub struct Snapshot<'a> {
     pub alloc: Global,

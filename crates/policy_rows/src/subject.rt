@@ -23,18 +23,19 @@ use view_types::server::ServerSpec;
 
 /// What authorizations apply to: a Server, or the route of a key.
 pub trait Subject {
-    /// An object applies to it.
+    /// Whether an object applies to it.
     ghost applies: { ObjectMap → Self → Held → Bool };
 
-    /// The marks of the objects among which all stand that apply to it.
+    /// The marks of the objects that may apply to it.
     ghost marks: { Self → List Mark };
 
-    /// An object applies to it if all its references are there.
+    /// Whether an object applies to it if none of the object's references is missing.
     fn concerns(&self, object: &Object) -> bool
         ensures { (held : ObjectMap)
             → applies held self.now object.now ≡ (result && is_whole held object.now) };
 
-    /// The objects with one of its marks, in the order of their keys. All stand among them that apply to it.
+    /// Returns the objects with one of its marks, in the order of their keys. These are all that
+    /// may apply.
     fn candidates<'a, L>(
         &self,
         alloc: Global,
@@ -104,7 +105,7 @@ impl Subject for ObjKey {
     }
 }
 
-/// The policy and its target are in the namespace, and the target is what is asked for.
+/// Whether the policy and its target are in the namespace, and the target passes.
 fn is_aimed(ns: &Text, is_target: bool, policy: &AuthzPolicy) -> bool
     ensures { (held : ObjectMap) → policy_applies held ns.now (λ kind name. is_target) policy.now
         ≡ (result && is_complete held policy.now) }
@@ -144,7 +145,7 @@ fn names_server(reference: &ServerRef, server: &ServerSpec) -> bool
     }
 }
 
-/// The kind of target by which an AuthorizationPolicy names routes of the kind.
+/// Returns the kind of target of an AuthorizationPolicy that names routes of the kind.
 fn route_target(kind: Kind) -> Option<RefKind>
     ensures { result ≡ route_target kind }
 {

@@ -1,4 +1,4 @@
-// How the profile of a target is found.
+// The lookup of the profile of a target.
 ghost use Rattle.mark_rules.specs.Reads.{profile_reads};
 ghost use Rattle.mark_rules.specs.Rows.{profile_row};
 ghost use Rattle.mark_rules.proofs.Profiles.{profiles_stay};
@@ -15,7 +15,7 @@ use std::alloc::Global;
 use view_types::config::Config;
 use view_types::outbound::ProfileView;
 
-/// Finds the profile of a target under a configuration.
+/// Looks up the profile of a target under a configuration.
 #[derive(Drop)]
 pub struct ProfileFinder {
     pub config: Config,

@@ -17,7 +17,7 @@ use view_types::config::Config;
 /// The profiles of targets by their keys.
 pub type ProfileIndex = RowTable<FindAnew<ProfileFinder>>;
 
-/// An index without users. It stands for all objects.
+/// Creates an index without users. It stands for all objects.
 pub fn new_index(alloc: Global, config: &Config) -> Result<ProfileIndex, Memory>
     ensures filter { IfOk result (λ index. ⟦<RowTable<FindAnew<ProfileFinder>> as RowIndex>⟧.filter
         index ≡ record { row_of = profile_row config.now; reads = profile_reads config.now }) }

@@ -20,16 +20,16 @@ use view_types::mark::Mark;
 use view_types::outbound::ProfileView;
 use view_types::query::Target;
 
-/// What the profiles for a client are found from.
+/// The inputs of the profiles for a client.
 #[derive(Clone, Copy)]
 pub(crate) struct Lookup<'a> {
     pub(crate) from: Snapshot<'a>,
-    /// The namespace of the client, if it names one.
+    /// The namespace of the client, if it declares one.
     pub(crate) client: &'a Option<Text>,
 }
 
 impl Lookup<'_> {
-    /// The profile of a target.
+    /// Returns the profile of a target.
     pub(crate) fn target<L>(
         &self,
         target: &Target,
@@ -81,7 +81,7 @@ impl Lookup<'_> {
         }
     }
 
-    // The profile of an address that no Service has, with its mark after these.
+    // Returns the profile of an address that no Service has. Its mark is added to these.
     fn pod<L>(
         &self,
         ip: Ip,
@@ -102,7 +102,7 @@ impl Lookup<'_> {
         Ok(PlainRow { row, marks })
     }
 
-    // The profile of a Service, with its marks after these.
+    // Returns the profile of a Service. Its marks are added to these.
     fn service<L>(
         &self,
         asked: &ServicePort,

@@ -1,5 +1,5 @@
--- A match is what its table says: the matches in it are read by the same table, and only one reading is; and each profile
--- that is read is lawful.
+-- A match is what its table defines, with the matches in it read by the same table, and no other
+-- reading is; and each profile that is read is lawful.
 use Rattle.k8s_meta.specs.Given.{GivesOnly}
 use Rattle.profile_objects.specs.Matches.{match_by}
 use Rattle.profile_objects.specs.Nested.{IsOnlySolution}

@@ -14,7 +14,7 @@ use Rattle.view_types.specs.declared.profile.Profile.{Profile}
 use Rattle.view_types.specs.declared.profile.ProfileRoute.{ProfileRoute}
 use Rattle.view_types.specs.declared.profile.RespClass.{RespClass}
 
--- a class of responses
+-- a response class
 unfoldable pub class_at : Spot → Result RespClass ReadFault
 class_at c = do
   c ← object c
@@ -32,7 +32,7 @@ route_at r = do
   timeout ← optional duration (r · keys.Timeout)
   Ok (record { name = name; condition = condition; classes = classes; retryable = retryable; timeout = timeout })
 
--- where traffic goes in place of the Service
+-- a destination that replaces the Service
 unfoldable pub override_at : Spot → Result Override ReadFault
 override_at o = do
   o ← object o

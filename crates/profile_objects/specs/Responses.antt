@@ -11,7 +11,7 @@ use Rattle.profile_objects.specs.Matches.{MatchKind, match_of}
 use Rattle.view_types.specs.declared.profile.RespMatch.{RespMatch}
 use Rattle.view_types.specs.declared.profile.RespMatch.TheVariants as responses
 
--- the least and the greatest status code
+-- the lowest and the highest status code
 unfoldable pub status_at : Spot → Result RespMatch ReadFault
 status_at s = do
   s ← object s

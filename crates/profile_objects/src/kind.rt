@@ -7,7 +7,7 @@ use k8s_meta::place::Place;
 use mesh_base::boxed::Boxed;
 use mesh_base::list::List;
 
-/// A kind of match: what its own members give, and what is made of the matches in it.
+/// A kind of match: its own members, and how matches of the kind are combined.
 pub trait MatchKind {
     type Made: Drop;
 
@@ -16,15 +16,15 @@ pub trait MatchKind {
     fn own<'a>(&self, place: &'a Place<'a>) -> Result<List<Self::Made>, ReadFault>
         ensures { Reads result ((kind self.now).own (seen place.now)) };
 
-    /// All of them must hold.
+    /// Combines parts that must all match.
     fn all(&self, parts: List<Self::Made>) -> Self::Made
         ensures { result ≡ (kind self.now).all parts };
 
-    /// One of them must hold.
+    /// Combines parts of which one must match.
     fn any(&self, parts: List<Self::Made>) -> Self::Made
         ensures { result ≡ (kind self.now).any parts };
 
-    /// It must not hold.
+    /// Negates a part.
     fn negated(&self, part: Boxed<Self::Made>) -> Self::Made
         ensures { result ≡ (kind self.now).negated part };
 }

@@ -1,6 +1,7 @@
 ghost use Rattle.profile_objects.specs.Laws.{ProfilesAreLawful, RequestsAreTheirTable, ResponsesAreTheirTable};
 
-/// A match reads as its table says, where each match in it reads as a match; and only one reading does so.
+/// A match is read as its table defines, with the matches in it read as matches. No other reading
+/// has this property.
 #[tactic(auto, using(crate::proofs::Tables::request_is, crate::proofs::Tables::response_is))]
 pub fn matches_are_their_tables()
     ensures requests { RequestsAreTheirTable }

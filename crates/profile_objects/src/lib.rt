@@ -1,8 +1,9 @@
 //! The reader of ServiceProfiles, linkerd.io/v1alpha2.
 //!
-//! Stands on k8s_meta, whose words the member tables are written in, on view_types for what is read, and on mesh_text for
-//! methods. `read_profile` gives `profile_at` of `specs/Profiles`. The request and response matches in it nest: what they
-//! share stands in `specs/Matches`, and their own members in `specs/Requests` and `specs/Responses`.
+//! Depends on k8s_meta for the parts of the member tables, on view_types for the objects, and on
+//! mesh_text for methods. `read_profile` returns `profile_at` of `specs/Profiles`. The request and
+//! response matches in it nest: what they have in common is in `specs/Matches`, and their own
+//! members are in `specs/Requests` and `specs/Responses`.
 #![tactic(auto)]
 
 mod kind;

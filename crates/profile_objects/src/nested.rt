@@ -93,7 +93,7 @@ fn negated_here<'a, K: MatchKind>(
     Ok(Some(Boxed::new(place.alloc(), found)?))
 }
 
-/// Where the one match stands that is negated: here, or as the item of a list of one.
+/// Returns the place of the negated match: here, or the item of a list of one.
 #[tactic(auto, using(crate::proofs::Negations::one_item, crate::proofs::Negations::other_items), unfolding(k8s_meta::specs::Spots::then, crate::specs::Matches::only))]
 fn only<'a>(place: &'a Place<'a>) -> Result<Place<'a>, ReadFault>
     ensures { Gives seen result (only (seen place.now)) }
@@ -151,7 +151,7 @@ fn some_negated<K: MatchKind>(kind: &K, negated: Option<Boxed<K::Made>>) -> Opti
     }
 }
 
-/// One part is itself, and several must all hold.
+/// Returns one part as it is, and several as a match of all of them.
 fn one_or_all<K: MatchKind>(kind: &K, parts: List<K::Made>) -> Option<K::Made>
     ensures { result ≡ joined (K.kind kind.now).all parts }
 {

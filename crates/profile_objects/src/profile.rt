@@ -17,7 +17,7 @@ use serde_json::Value;
 use std::alloc::Global;
 use view_types::profile::{Override, Profile, ProfileRoute, RespClass};
 
-/// The ServiceProfile that stands at the path `at`. Its fault is the first in the order of its members.
+/// Reads the ServiceProfile at the path `at`. A fault is the first one in the order of the members.
 pub fn read_profile(alloc: Global, object: &Value, at: &str) -> Result<Profile, ReadFault>
     ensures value { Reads result (profile_at record { at = at.now; value = view object.now }) }
     ensures lawful { IfOk result IsLawfulProfile }
@@ -25,7 +25,7 @@ pub fn read_profile(alloc: Global, object: &Value, at: &str) -> Result<Profile, 
     profile_of(&Place::top(alloc, object, at))
 }
 
-/// The ServiceProfile at a place.
+/// Reads the ServiceProfile at a place.
 pub fn profile_of<'a>(object: &'a Place<'a>) -> Result<Profile, ReadFault>
     ensures value { Reads result (profile_at (seen object.now)) }
     ensures lawful { IfOk result IsLawfulProfile }
@@ -48,7 +48,7 @@ fn members_of<'a>(object: &'a Place<'a>) -> Result<Profile, ReadFault>
     })
 }
 
-/// A route, which takes the requests of its condition.
+/// A route, which applies to the requests that match its condition.
 struct Route;
 
 impl Reader for Route {
@@ -74,7 +74,7 @@ impl Reader for Route {
     }
 }
 
-/// A class of responses.
+/// A response class.
 struct Class;
 
 impl Reader for Class {
@@ -91,7 +91,7 @@ impl Reader for Class {
     }
 }
 
-/// A destination in place of the Service.
+/// A destination that replaces the Service.
 struct OtherDestination;
 
 impl Reader for OtherDestination {

@@ -16,7 +16,7 @@ use mesh_text::method::MethodText;
 use std::alloc::Global;
 use view_types::profile::ReqMatch;
 
-/// Which requests a route is for.
+/// The requests that a route applies to.
 #[derive(Clone, Copy)]
 pub struct Requests;
 

@@ -15,7 +15,7 @@ use mesh_base::memory::Memory;
 use std::alloc::Global;
 use view_types::profile::RespMatch;
 
-/// Which responses a class is for.
+/// The responses that a response class applies to.
 #[derive(Clone, Copy)]
 pub struct Responses;
 

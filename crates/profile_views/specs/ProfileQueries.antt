@@ -11,7 +11,7 @@ use Rattle.mark_rules.specs.declared.keys.ProfileKey.{ProfileKey}
 use Rattle.row_table.specs.IndexRows.{Filter}
 use Rattle.row_views.specs.Queries.{ShowsSame}
 
--- a query of a profile, as far as its view depends on it
+-- a query for a profile, as far as its view depends on it
 abbrev pub profile_query : Query → Option Query
 profile_query (Profile target ctx) = Some (Profile target (record { ns = ctx.ns; node = None }))
 profile_query _ = None
@@ -24,7 +24,7 @@ query_for key = Profile key.target (record { ns = key.client; node = None })
 abbrev pub profile_rows : Config → Filter ProfileKey ProfileView
 profile_rows config = record { row_of = profile_row config; reads = profile_reads config }
 
--- the node of a client counts for nothing
+-- the node of a client has no effect
 pub profiles_same : ShowsSame profile_query
 profiles_same (Profile target ctx) asked is config held =
     let same : Profile target (record { ns = ctx.ns; node = None }) ≡ asked = cc is in

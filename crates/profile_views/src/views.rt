@@ -1,4 +1,4 @@
-// The profiles of the queries that subscribers ask for.
+// The profiles of the queries of subscribers.
 ghost use Rattle.std.specs.Prelude.{◌≡◌, IfOk, option_map};
 ghost use Rattle.profile_views.specs.ProfileQueries.{profile_query, query_for};
 
@@ -21,7 +21,7 @@ use view_types::config::Config;
 use view_types::query::Query;
 use view_types::view::View;
 
-/// The profiles of queries, each row kept once for all subscriptions of its key.
+/// The profiles of queries, each row stored once for all subscriptions of its key.
 #[derive(Drop)]
 pub struct ProfileViews {
     rows: RowViews<RowTable<FindAnew<ProfileFinder>>>,
@@ -32,7 +32,7 @@ impl ProfileViews {
     ghost use Rattle.std.specs.Prelude.{◌≡◌, ℕ, None, IfOk};
     ghost use Rattle.view_types.specs.Objects.{ObjectMap};
 
-    /// No views, under a configuration.
+    /// Creates views without open ids, under a configuration.
     pub fn new(alloc: Global, config: &Config) -> Result<ProfileViews, Memory>
         ensures queries { IfOk result (λ views. (id : ℕ)
             → ⟦<ProfileViews as QueryViews>⟧.query_of views id ≡ None) }
@@ -134,7 +134,7 @@ impl QueryViews for ProfileViews {
         (λ kept. profiles_in_use config kept.rows) };
 }
 
-// The key of the profile that a query asks for, if it asks for one.
+// Returns the key of the profile that a query requests, or None if it is not for a profile.
 fn profile_key(alloc: Global, query: &Query) -> Result<Option<ProfileKey>, Memory>
     ensures { IfOk result (λ key. option_map query_for key ≡ profile_query query.now) }
 {

@@ -1,7 +1,8 @@
-//! Tests of what standard error is told: of words that are no command, of what failed, of the input, of a server and its
-//! links, and at a terminal. They stand apart, since a crate with tests is proved twice.
+//! Tests of the text on standard error: for command lines that are refused, for failures, for the
+//! input, for a server and its links, and on a terminal. They are in a crate of their own, since a
+//! crate with tests is proved twice.
 //!
-//! Stands on run_report and link_report, and on mem_links for links in memory.
+//! Depends on run_report and link_report, and on mem_links for links in memory.
 #![tactic(auto)]
 
 #[cfg(test)]

@@ -1,6 +1,7 @@
-//! Tests of regular expressions, of the best match and of requests that are written. They stand apart, since a crate with tests is proved twice.
+//! Tests of regular expressions, of the best match and of the encoding of requests. They are in a
+//! crate of their own, since a crate with tests is proved twice.
 //!
-//! Stands on regex_patterns, route_match and request_writing.
+//! Depends on regex_patterns, route_match and request_writing.
 #![tactic(auto)]
 
 #[cfg(test)]

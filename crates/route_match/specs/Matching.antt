@@ -1,5 +1,5 @@
--- Which matches of routes hold for a request, and the best of them (HTTPRoute of both groups). The relation between patterns and
--- strings is a parameter.
+-- Which matches of routes hold for a request, and the best of them (HTTPRoute of both groups). The
+-- relation between patterns and strings is a parameter.
 use Rattle.std.specs.Prelude.{◌≡◌, ◌⊎◌, ◌<◌, ◌&&◌, ◌==◌, ◌++◌, ◌+◌, ◌-◌, ℕ, Bool, true, false, if◌then◌else◌, List, [], ◌∷◌, Option, Some, None, All, MatchOption, codes, drop, filter, find, length, map, nat_eq, option_map, take}
 use Rattle.std.specs.Cmp.Lexicographic.{slice_cmp}
 use Rattle.std.specs.List.{ends_with, fold, list_all, list_any, slice_get, starts_with}
@@ -20,15 +20,16 @@ Pat = List ℕ → List ℕ → Bool
 
 -- ---- hostnames
 
--- the host ends so, in whatever case, after at least one byte
+-- the host ends in the suffix, ignoring case, after at least one byte
 abbrev pub ends_in : List ℕ → List ℕ → Bool
 ends_in host suffix = (length suffix + 1 - length host == 0) && str_eq_ignore_ascii_case (drop (length host - length suffix) host) suffix
 
--- the wildcard `*.s` holds what ends in `.s` after at least one byte; else the names are equal but for case
+-- the wildcard `*.s` matches what ends in `.s` after at least one byte; other names are compared
+-- ignoring case
 abbrev pub host_holds : List ℕ → List ℕ → Bool
 host_holds host written = if starts_with nat_eq written (codes "*.") then ends_in host (drop 1 written) else str_eq_ignore_ascii_case host written
 
--- a route without hostnames is for all
+-- a route without hostnames applies to all
 abbrev pub hosts_hold : List ℕ → List (List ℕ) → Bool
 hosts_hold host [] = true
 hosts_hold host (written ∷ more) = list_any (host_holds host) (written ∷ more)
@@ -57,7 +58,7 @@ path_holds pat path (Regex string) = pat string path
 abbrev pub value_holds : Pat → NameMatch → List ℕ → Bool
 value_holds pat part value = if part.regex then pat part.value value else bytes_eq part.value value
 
--- the header is of the name, in whatever case, and has the value
+-- the header has the name, ignoring case, and the value
 abbrev pub is_wanted : Pat → NameMatch → List ℕ × List ℕ → Bool
 is_wanted pat part header = str_eq_ignore_ascii_case header.0 part.name && value_holds pat part header.1
 
@@ -68,7 +69,7 @@ abbrev pub is_method : List ℕ → Option (List ℕ) → Bool
 is_method method None = true
 is_method method (Some wanted) = bytes_eq wanted method
 
--- a piece of a query: its name, and what stands behind the first `=`
+-- a piece of a query: its name, and what follows the first `=`
 abbrev pub part_of : List ℕ → List ℕ × List ℕ
 part_of [] = ([], [])
 part_of (byte ∷ bytes) = if byte == 61 then ([], bytes) else (byte ∷ (part_of bytes).0, (part_of bytes).1)
@@ -77,7 +78,7 @@ abbrev pub is_filled : List ℕ → Bool
 is_filled [] = false
 is_filled (byte ∷ bytes) = true
 
--- what is between the `&`; an empty piece is none
+-- the pieces between the `&`, except empty ones
 abbrev pub parts_of : List ℕ → List (List ℕ × List ℕ)
 parts_of query = map part_of (filter is_filled (pieces 38 query))
 
@@ -88,7 +89,7 @@ abbrev pub some_value_holds : Pat → NameMatch → Option (List ℕ) → Bool
 some_value_holds pat part None = false
 some_value_holds pat part (Some value) = value_holds pat part value
 
--- the first part of the name has the value
+-- the first parameter with the name has the value
 abbrev pub query_holds : Pat → List (List ℕ × List ℕ) → NameMatch → Bool
 query_holds pat parts part = some_value_holds pat part (value_in part.name parts)
 
@@ -105,7 +106,8 @@ holds pat request hosts m =
 
 -- ---- the best
 
--- the better path is exact, then a prefix by its length, then a regular expression
+-- an exact path is better than a prefix, a longer prefix better than a shorter one, and any prefix
+-- better than a regular expression
 abbrev pub path_merit : PathMatch → ℕ × ℕ
 path_merit (Exact string) = (2, 0)
 path_merit (Prefix string) = (1, length (trimmed string))
@@ -119,8 +121,8 @@ method_merit (Some method) = 1
 abbrev pub merit : HttpMatch → List ℕ
 merit m = let path = path_merit m.path in path.0 ∷ path.1 ∷ method_merit m.method ∷ length m.headers ∷ length m.query ∷ []
 
--- What the choice looks at of a route: its hostnames, and the matches of its rules. A match that holds is told by the places of its
--- route, of its rule and its own.
+-- The parts of a route that matter here: its hostnames, and the matches of its rules. A candidate
+-- is identified by the indexes of its route, rule and match.
 abbrev pub Shape : Type 0
 Shape = List (List ℕ) × List (List HttpMatch)
 
@@ -135,11 +137,11 @@ in_match pat request hosts route rule place m =
 abbrev pub in_route : Pat → HttpRequest → ℕ → Shape → List Candidate
 in_route pat request route shape = flat_from (λ rule matches. flat_from (in_match pat request shape.0 route rule) 0 matches) 0 shape.1
 
--- all matches that hold, in the order of their places
+-- all matches that hold, in the order of their indexes
 abbrev pub candidates : Pat → HttpRequest → List Shape → List Candidate
 candidates pat request shapes = flat_from (in_route pat request) 0 shapes
 
--- the better of two, of equal ones the first
+-- the better of two, or the first if they are equal
 abbrev pub better : Option Candidate → Candidate → Option Candidate
 better None c = Some c
 better (Some b) c = Some (if is_gt (slice_cmp nat_cmp c.merit b.merit) then c else b)
@@ -147,15 +149,15 @@ better (Some b) c = Some (if is_gt (slice_cmp nat_cmp c.merit b.merit) then c el
 abbrev pub best : Pat → HttpRequest → List Shape → Option Candidate
 best pat request shapes = fold better None (candidates pat request shapes)
 
--- ---- what is shown of a route
+-- ---- rows of routes
 
--- what the choice looks at of a row
+-- the parts of a row that matter here
 abbrev pub row_shape : RouteRow → Shape
 row_shape row = (row.hosts, map (λ rule. rule.matches) row.rules)
 
 -- ---- the matches that hold
 
--- the match at the places of the candidate is there and holds, and its merit is the candidate's
+-- there is a match at the indexes of the candidate, it holds, and its merit is the candidate's
 pub record IsCandidate (pat : Pat) (request : HttpRequest) (shapes : List Shape) (c : Candidate) : Type 0 where
   pub shape : Shape
   pub route_at : slice_get shapes c.route ≡ Some shape
@@ -170,7 +172,7 @@ pub record IsCandidate (pat : Pat) (request : HttpRequest) (shapes : List Shape)
 abbrev pub ComesBefore : Candidate → Candidate → Type 0
 ComesBefore c d = (c.route < d.route) ⊎ ((c.route ≡ d.route) × ((c.rule < d.rule) ⊎ ((c.rule ≡ d.rule) × (c.item < d.item))))
 
--- The list has the matches that hold and no others, in the order of their places.
+-- The list has the matches that hold and no others, in the order of their indexes.
 pub record AreCandidates (pat : Pat) (request : HttpRequest) (shapes : List Shape) (cs : List Candidate) : Type 0 where
   pub only : (k : ℕ) (c : Candidate) → slice_get cs k ≡ Some c → IsCandidate pat request shapes c
   pub each : (c : Candidate) → IsCandidate pat request shapes c → (k : ℕ) × (slice_get cs k ≡ Some c)
@@ -185,14 +187,15 @@ CandidatesAreThoseThatHold = (pat : Pat) (request : HttpRequest) (shapes : List 
 abbrev pub is_better : Candidate → Candidate → Bool
 is_better c other = is_gt (slice_cmp nat_cmp c.merit other.merit)
 
--- It stands in the list, none is better, and each before it is less good.
+-- It is in the list, none is better, and each before it is less good.
 pub record IsFirstOfTheBest (candidates : List Candidate) (c : Candidate) : Type 0 where
   pub place : ℕ
   pub stands : slice_get candidates place ≡ Some c
   pub none_better : All (λ other. is_better other c ≡ false) candidates
   pub better_than_before : All (λ other. is_better c other ≡ true) (take place candidates)
 
--- the best match is the first of the best of those that hold, and there is none exactly where none holds
+-- the best match is the first of the best of those that hold, and there is none exactly if none
+-- holds
 abbrev pub BestIsFirst : Type 0
 BestIsFirst = (pat : Pat) (request : HttpRequest) (shapes : List Shape)
     → MatchOption (best pat request shapes) (candidates pat request shapes ≡ []) (IsFirstOfTheBest (candidates pat request shapes))

@@ -15,7 +15,7 @@ use view_types::request::HttpRequest;
 use view_types::route::HttpMatch;
 use view_types::server_view::{RouteRow, RuleRow};
 
-/// A match that holds for a request: how good it is, and its places, counted from 0.
+/// A match that holds for a request, with its merit and indexes.
 #[derive(Clone, Copy, Debug)]
 pub struct Candidate {
     /// The greater the better, the first number first.
@@ -25,15 +25,16 @@ pub struct Candidate {
     pub item: usize,
 }
 
-/// The places of a rule, counted from 0.
+/// The indexes of a rule.
 #[derive(Clone, Copy)]
 struct RulePlace {
     route: usize,
     rule: usize,
 }
 
-/// The best match of all routes. Matches are tried in the order of their places, and the parts of a match in the order of hostnames,
-/// method, path, headers and query, up to the first that fails.
+/// Returns the best match of all routes. Matches are tested in the order of their indexes, and the
+/// parts of a match in the order of hostnames, method, path, headers and query, up to the first
+/// that fails.
 pub fn best_match<P: Patterns>(
     alloc: Global,
     patterns: &mut P,
@@ -110,7 +111,7 @@ fn over_rule<P: Patterns>(
     Ok(next)
 }
 
-/// The match, where it holds.
+/// Returns the match, if it holds.
 fn candidate_at<P: Patterns>(
     alloc: Global,
     patterns: &mut P,
@@ -152,7 +153,7 @@ fn better_of(best: Option<Candidate>, other: Option<Candidate>) -> Option<Candid
     }
 }
 
-/// The better of the two, of equal ones the first.
+/// Returns the better of the two, or the first if they are equal.
 fn better(best: Option<Candidate>, other: Candidate) -> Option<Candidate>
     ensures { result ≡ better best other }
 {

@@ -2,7 +2,7 @@
 #[derive(Clone, Copy, Debug, PartialEq, Eq)]
 pub enum MatchFault {
     Memory,
-    /// A regular expression of the match at these places, counted from 0, was refused.
+    /// A regular expression of the match at these indexes is refused.
     Refused {
         route: usize,
         rule: usize,

@@ -10,7 +10,7 @@ use mesh_outside::{PatternFault, Patterns};
 use std::alloc::Global;
 use view_types::route::NameMatch;
 
-/// Whether each of the wanted headers is there.
+/// Whether the request has all of the headers of the match.
 pub(crate) fn headers_hold<P: Patterns>(
     alloc: Global,
     patterns: &mut P,

@@ -5,7 +5,7 @@ ghost use Rattle.route_match.specs.Matching.{ends_in, host_holds, hosts_hold};
 
 use mesh_base::text::Text;
 
-/// Whether a route with these hostnames is for the host.
+/// Whether a route with these hostnames applies to the host.
 pub(crate) fn hosts_hold(host: &Text, hosts: &[Text]) -> bool
     ensures { result ≡ hosts_hold host.now hosts.now }
 {

@@ -1,7 +1,7 @@
 ghost use Rattle.route_match.specs.Matching.{BestIsFirst, CandidatesAreThoseThatHold};
 
-/// A match stands in the list of candidates exactly where its route, its rule and the match itself are there and it holds. Its merit
-/// is its own, and the list is in the order of the places.
+/// A match is in the list of candidates exactly if its route, its rule and the match itself exist
+/// and it holds. Its merit is its own, and the list is in the order of the indexes.
 pub fn candidates_are_those_that_hold()
     ensures { CandidatesAreThoseThatHold }
 {}

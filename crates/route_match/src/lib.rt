@@ -1,7 +1,8 @@
-//! Which match of the routes of a Server is the best for a request.
+//! Selects the best match of the routes of a Server for a request.
 //!
-//! Stands on view_types for routes and requests and on mesh_outside for patterns. `best_match` answers `best` of `specs/Matching`, or
-//! names a match whose regular expression is refused (`specs/Faults`).
+//! Depends on view_types for routes and requests and on mesh_outside for patterns. `best_match`
+//! returns `best` of `specs/Matching`, or names a match whose regular expression is refused
+//! (`specs/Faults`).
 #![tactic(auto)]
 
 pub mod best;

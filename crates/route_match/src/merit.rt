@@ -5,7 +5,7 @@ ghost use Rattle.route_match.specs.Matching.{merit, path_merit, trimmed};
 
 use view_types::route::{HttpMatch, PathMatch};
 
-/// How good a match is: the greater the better, the first number first.
+/// Returns the merit of a match: the greater the better, the first number first.
 pub(crate) fn merit(item: &HttpMatch) -> [usize; 5]
     ensures { result ≡ merit item.now }
 {
@@ -35,7 +35,7 @@ fn path_merit(path: &PathMatch) -> (usize, usize)
     }
 }
 
-/// A prefix without its last `/`.
+/// Returns a prefix without its last `/`.
 pub(crate) fn trimmed(prefix: &[u8]) -> &[u8]
     ensures { result.now ≡ trimmed prefix.now }
 {

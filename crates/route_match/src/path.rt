@@ -9,7 +9,7 @@ use mesh_outside::{PatternFault, Patterns};
 use std::alloc::Global;
 use view_types::route::PathMatch;
 
-/// Whether the path is one of those that are wanted.
+/// Whether the path matches.
 pub(crate) fn path_holds<P: Patterns>(
     alloc: Global,
     patterns: &mut P,

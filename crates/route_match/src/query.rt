@@ -9,7 +9,7 @@ use mesh_outside::{PatternFault, Patterns};
 use std::alloc::Global;
 use view_types::route::NameMatch;
 
-/// Whether each of the wanted parts is in the query.
+/// Whether the query has all of the parameters of the match.
 pub(crate) fn query_holds<P: Patterns>(
     alloc: Global,
     patterns: &mut P,
@@ -53,7 +53,7 @@ fn part_holds<P: Patterns>(
     }
 }
 
-/// What the first part of the name has behind its `=`.
+/// Returns what follows the `=` in the first parameter with the name.
 #[tactic(auto, using(crate::proofs::Queries::first_found, crate::proofs::Queries::first_passed, crate::proofs::Queries::one_piece))]
 fn value_in<'a>(query: &'a str, name: &str) -> Option<&'a str>
     ensures { option_copied result ≡ value_in name.now (parts_of query.now) }
@@ -68,7 +68,7 @@ fn value_in<'a>(query: &'a str, name: &str) -> Option<&'a str>
     value_at(rest, name)
 }
 
-/// The query before the first `&`, and what stands behind it.
+/// Returns the query before the first `&`, and what follows it.
 fn cut(query: &str) -> Option<(&str, &str)>
     ensures whole { IfNone result (pieces 38 query.now ≡ query.now ∷ []) }
     ensures cut { IfSome result (λ halves. pieces 38 query.now ≡ halves.0.now ∷ pieces 38 halves.1.now) }
@@ -77,7 +77,7 @@ fn cut(query: &str) -> Option<(&str, &str)>
     query.split_once('&')
 }
 
-/// What a piece of a query has behind its `=`, if it is of the name.
+/// Returns what follows the `=` in a piece of a query, if its name is this.
 #[tactic(auto, using(crate::proofs::Queries::no_part, crate::proofs::Queries::own_part, crate::proofs::Queries::other_part))]
 fn value_at<'a>(piece: &'a str, name: &str) -> Option<&'a str>
     ensures { option_copied result

@@ -24,7 +24,7 @@ pub(crate) fn is_whole<P: Patterns>(
     patterns.whole(alloc, pattern.as_str(), string)
 }
 
-/// Whether a header or a query part of this value matches.
+/// Whether a header or a query parameter with this value matches.
 pub(crate) fn value_holds<P: Patterns>(
     alloc: Global,
     patterns: &mut P,

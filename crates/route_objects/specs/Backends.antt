@@ -1,4 +1,4 @@
--- Where the requests to a route go.
+-- The destinations of requests to a route.
 use Rattle.std.specs.Prelude.{codes, ℕ, ◌&&◌, Bool, List, [], Option, Result, Ok, bytes_eq, if◌then◌else◌}
 use Rattle.k8s_meta.specs.Scalars.{name, namespace, number}
 use Rattle.k8s_meta.specs.Spots.{Spot, ◌·◌, ◌>>=◌}
@@ -11,7 +11,7 @@ use Rattle.view_types.specs.declared.route.BackendRef.{BackendRef}
 abbrev pub is_service : List ℕ → List ℕ → Bool
 is_service group kind = bytes_eq kind (codes "Service") && is_core group
 
--- the port, which a Service must have
+-- the port, which is required for a Service
 unfoldable pub backend_port : Bool → Spot → Result (Option ℕ) ReadFault
 backend_port service s = if service then some (required (number 1 65535)) s else optional (number 1 65535) s
 

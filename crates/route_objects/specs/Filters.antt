@@ -35,7 +35,7 @@ redirect_at r = do
   status ← default 302 (number 100 999) (r · keys.StatusCode)
   Ok (filters.Redirect scheme host port status)
 
--- The type says which of the two is kept.
+-- the filter of the type, if it is supported
 abbrev pub kept_filter : List ℕ → Filter → Filter → Option Filter
 kept_filter kind headers redirect =
     if bytes_eq kind (codes "RequestHeaderModifier") then Some headers else

@@ -1,4 +1,4 @@
--- What a route's reader gives is lawful, and so are the parts that routes of other kinds have too.
+-- Routes that are read are lawful, and so are the parts that routes of other kinds have, too.
 use Rattle.std.specs.Prelude.{ℕ, List, IfSome, IsUtf8}
 use Rattle.k8s_meta.specs.Given.{GivesOnly}
 use Rattle.mesh_base.specs.declared.key.Kind.{Kind}

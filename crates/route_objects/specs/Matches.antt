@@ -40,11 +40,11 @@ match_at m = do
   method ← optional method (m · keys.Method)
   Ok (record { path = path; headers = headers; query = query; method = method })
 
--- each path
+-- matches each path
 abbrev pub default_match : HttpMatch
 default_match = record { path = paths.Prefix (codes "/"); headers = []; query = []; method = None }
 
--- No match is the default match.
+-- The default is the default match.
 abbrev pub some_match : List HttpMatch → List HttpMatch
 some_match [] = default_match ∷ []
 some_match (m ∷ ms) = m ∷ ms

@@ -1,4 +1,4 @@
--- A header, or a part of the query, that a request must have.
+-- A header or a query parameter that a request must have.
 use Rattle.std.specs.Prelude.{codes, ℕ, Bool, true, false, List, Option, Some, None, Result, Ok, bytes_eq, if◌then◌else◌}
 use Rattle.k8s_meta.specs.Spots.{Spot, ◌·◌, ◌>>=◌}
 use Rattle.k8s_meta.specs.Words.{choice, default, object, required, text}
@@ -12,7 +12,7 @@ value_form t =
     if bytes_eq t (codes "Exact") then Some false else
     if bytes_eq t (codes "RegularExpression") then Some true else None
 
--- a header, or a part of the query
+-- a header or a query parameter
 unfoldable pub name_match_at : Spot → Result NameMatch ReadFault
 name_match_at n = do
   n ← object n

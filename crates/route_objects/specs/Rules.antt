@@ -1,4 +1,4 @@
--- The rules of a route: which requests match, and where they go.
+-- The rules of a route: which requests match, and their destinations.
 use Rattle.std.specs.Prelude.{ℕ, List, [], ◌∷◌, None, Result, Ok}
 use Rattle.k8s_meta.specs.Amounts.{duration}
 use Rattle.k8s_meta.specs.Lists.{each, each_some}
@@ -25,6 +25,6 @@ rule_at own r = do
 abbrev pub default_rule : Rule
 default_rule = record { matches = default_match ∷ []; filters = []; backends = []; request_timeout = None; backend_timeout = None }
 
--- No rules is one rule, with the default match.
+-- The default is one rule with the default match.
 abbrev pub rules_at : List ℕ → Spot → Result (List Rule) ReadFault
 rules_at own s = default (default_rule ∷ []) (each (rule_at own)) s

@@ -16,7 +16,7 @@ const WEIGHT: Number32 = Number32 {
     high: 1_000_000,
 };
 
-/// Where requests to a route in a namespace go.
+/// A destination of requests to a route in the namespace `own`.
 #[derive(Clone, Copy)]
 pub struct Backend<'b> {
     pub own: &'b str,
@@ -47,7 +47,7 @@ impl<'b> Reader for Backend<'b> {
     }
 }
 
-/// The port, which a Service must have.
+/// Reads the port, which is required for a Service.
 #[tactic(auto, unfolding(k8s_meta::specs::Spots::then, crate::specs::Backends::backend_port))]
 fn port_of<'a>(place: &'a Place<'a>, service: bool) -> Result<Option<u16>, ReadFault>
     ensures { Reads result (backend_port service ((seen place.now) · keys.Port)) }

@@ -16,7 +16,7 @@ const STATUS: Number16 = Number16 {
     high: 999,
 };
 
-/// A filter of a rule, which gives nothing where it is of another type than the two that are carried.
+/// A filter of a rule, or None if it is not of one of the two supported types.
 pub struct RuleFilter;
 
 impl Reader for RuleFilter {
@@ -46,7 +46,7 @@ fn kept_filter(kind: &str, headers: Filter, redirect: Filter) -> Option<Filter>
     }
 }
 
-/// The headers that a filter adds, sets and removes.
+/// Reads the headers that a filter adds, sets and removes.
 #[tactic(auto, unfolding(k8s_meta::specs::Spots::then, crate::specs::Filters::headers_at))]
 pub fn headers_of<'a>(filter: &'a Place<'a>) -> Result<Filter, ReadFault>
     ensures { Reads result (headers_at ((seen filter.now) · keys.RequestHeaderModifier)) }

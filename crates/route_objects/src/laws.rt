@@ -6,7 +6,7 @@ pub fn routes_are_lawful()
     ensures { RoutesAreLawful }
 {}
 
-/// So are the parts that routes of other kinds have too.
+/// So are the parts that routes of other kinds have, too.
 #[tactic(auto, using(crate::proofs::ParentLaw::parents, crate::proofs::Parts::backend_gives, crate::proofs::Parts::name_match_gives, crate::proofs::Parts::headers_gives))]
 pub fn parts_are_lawful()
     ensures parents { ParentsAreLawful }

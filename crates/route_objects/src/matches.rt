@@ -14,7 +14,7 @@ use mesh_base::text::Text;
 use mesh_text::method::MethodText;
 use view_types::route::{HttpMatch, PathMatch};
 
-/// What requests must be like.
+/// A match of requests.
 pub struct RuleMatch;
 
 impl Reader for RuleMatch {
@@ -66,7 +66,7 @@ fn path_match(form: PathForm, value: Text) -> PathMatch
     }
 }
 
-/// The words for the forms of a path.
+/// The names of the forms of a path.
 struct PathType;
 
 impl Word for PathType {

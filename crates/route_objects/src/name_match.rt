@@ -8,7 +8,7 @@ use k8s_meta::reader::Reader;
 use k8s_meta::words::AnyText;
 use view_types::route::NameMatch;
 
-/// A header, or a part of the query.
+/// A header or a query parameter.
 pub struct NameAndValue;
 
 impl Reader for NameAndValue {
@@ -26,7 +26,7 @@ impl Reader for NameAndValue {
     }
 }
 
-/// The words for whether a value is a regular expression.
+/// The names of the types of a value: whether it is a regular expression.
 struct ValueType;
 
 impl Word for ValueType {

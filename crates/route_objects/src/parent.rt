@@ -11,7 +11,7 @@ use mesh_base::text::Text;
 use mesh_text::group::is_core;
 use view_types::route::{Parent, ParentKind};
 
-/// A reference of a route in a namespace to a parent, which gives nothing where it doesn't count.
+/// A reference to a parent of a route in the namespace `own`, or None if it is not supported.
 #[derive(Clone, Copy)]
 pub struct ParentRef<'b> {
     pub own: &'b str,

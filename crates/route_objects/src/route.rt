@@ -16,7 +16,8 @@ use serde_json::Value;
 use std::alloc::Global;
 use view_types::route::Route;
 
-/// The HTTPRoute of a route's kind that stands at the path `at`. Its fault is the first in the order of its members.
+/// Reads the HTTPRoute of the kind at the path `at`. A fault is the first one in the order of the
+/// members.
 pub fn read_route(alloc: Global, kind: Kind, object: &Value, at: &str) -> Result<Route, ReadFault>
     requires { IsTrue (is_route kind) }
     ensures value { Reads result (route_at kind record { at = at.now; value = view object.now }) }
@@ -25,7 +26,7 @@ pub fn read_route(alloc: Global, kind: Kind, object: &Value, at: &str) -> Result
     route_of(kind, &Place::top(alloc, object, at))
 }
 
-/// The HTTPRoute of a route's kind at a place.
+/// Reads the HTTPRoute of the kind at a place.
 pub fn route_of<'a>(kind: Kind, object: &'a Place<'a>) -> Result<Route, ReadFault>
     requires { IsTrue (is_route kind) }
     ensures value { Reads result (route_at kind (seen object.now)) }

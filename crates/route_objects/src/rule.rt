@@ -18,7 +18,7 @@ use mesh_base::text::Text;
 use std::alloc::Global;
 use view_types::route::{HttpMatch, PathMatch, Rule};
 
-/// The rules of a route in a namespace. Where it has none, it has one with the default match.
+/// Reads the rules of a route in a namespace. The default is one rule with the default match.
 #[tactic(auto, unfolding(k8s_meta::specs::Words::default))]
 pub fn rules_of<'a>(spec: &'a Place<'a>, own: &str) -> Result<List<Rule>, ReadFault>
     ensures { Reads result (rules_at own.now ((seen spec.now) · keys.Rules)) }
@@ -73,7 +73,7 @@ impl<'b> Reader for RouteRule<'b> {
     }
 }
 
-/// The matches, or where there are none the default one, which takes each path.
+/// Returns the matches, or if there are none the default one, which matches each path.
 fn some_match(alloc: Global, matches: List<HttpMatch>) -> Result<List<HttpMatch>, Memory>
     ensures { IfOk result (λ some. some ≡ some_match matches) }
 {

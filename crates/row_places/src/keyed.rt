@@ -1,4 +1,4 @@
-// Rows of views that stand at keys.
+// Rows of views by key.
 ghost use Rattle.std.specs.Prelude.{◌≡◌, Bool, List as TheList, IfOk};
 ghost use Rattle.std.specs.Bool.{Decides};
 ghost use Rattle.std.specs.Cmp.{IsTotalOrder};
@@ -28,12 +28,12 @@ use view_types::endpoint::EndpointRow;
 use view_types::message::Message;
 use view_types::server_view::{AuthzKind, AuthzRow};
 
-/// A row of a view in which at most one row stands at a key. A subscriber is told which rows are new or have changed, and
-/// at which keys there is none any more.
+/// A row of a view with at most one row per key. Messages carry the rows that are new or have
+/// changed, and the keys that no longer have a row.
 pub trait KeyedRow: Sized + Copied + Same {
     type Key: Drop;
 
-    /// The key at which a row stands.
+    /// The key of a row.
     ghost key_of: { Self → Self.Key };
 
     /// The order of keys.
@@ -42,10 +42,10 @@ pub trait KeyedRow: Sized + Copied + Same {
     /// Whether two rows are the same.
     ghost same: { Self → Self → Bool };
 
-    /// The message that has rows which are new or have changed.
+    /// The message with rows that are new or have changed.
     ghost put: { TheList Self → TheMessage };
 
-    /// The message that has keys at which there is no row any more.
+    /// The message with keys that no longer have a row.
     ghost gone: { TheList Self.Key → TheMessage };
 
     fn key(&self) -> Result<Self::Key, Memory>
@@ -68,10 +68,10 @@ pub trait KeyedRow: Sized + Copied + Same {
 
     ghost total: { IsTotalOrder cmp };
 
-    /// No two keys tie.
+    /// No two different keys compare as equal.
     ghost exact: { IsAntisymmetric cmp };
 
-    /// The same rows are equal, and equal ones the same.
+    /// Two rows are the same if and only if they are equal.
     ghost decides: { (r s : Self) → Decides (same r s) (r ≡ s) };
 }
 

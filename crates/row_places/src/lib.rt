@@ -1,7 +1,7 @@
-//! Rows of views that stand at keys: their order, and where the row of a key stands among rows in order. Endpoints stand at
-//! addresses and ports, and the authorizations of a Server at their kinds and names.
+//! Rows of views by key: their order, and the position of a key among rows in order. The key of an
+//! endpoint is its address and port, and that of an authorization of a Server its kind and name.
 //!
-//! Stands on view_types and view_rules. `specs/Rows` says which row of endpoints is found.
+//! Depends on view_types and view_rules. `specs/Rows` defines which row of endpoints is found.
 #![tactic(auto)]
 
 mod compare;

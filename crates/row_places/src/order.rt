@@ -7,7 +7,8 @@ use crate::keyed::KeyedRow;
 use mesh_base::memory::Memory;
 use std::cmp::Ordering;
 
-/// Each key once, in order, by the first row of the key. Where memory runs out the rows stay as they are.
+/// Sorts rows by key, and keeps the first row of each key. If memory runs out, the rows are
+/// unchanged.
 pub fn keep_first<T: KeyedRow>(rows: &mut Vec<T>) -> Result<(), Memory>
     ensures ok { OnOk result (rows.new.items ≡ in_order_by T.cmp T.key_of rows.old.items) }
     ensures err { OnErr result (rows.new.items ≡ rows.old.items) }

@@ -9,7 +9,7 @@ use crate::keyed::KeyedRow;
 use net_cidr::ip::Ip;
 use view_types::endpoint::EndpointRow;
 
-/// Where the row of a key stands, or where it would go.
+/// Returns the position of the row with the key, or where it would be inserted.
 pub fn place<T: KeyedRow>(rows: &[T], key: &T::Key) -> Result<usize, usize>
     requires { IsKeyed T.cmp T.key_of (λ row. row) rows.now }
     ensures hit { IfOk result (IsHit (λ row. T.cmp (T.key_of row) key.now) rows.now) }
@@ -18,7 +18,7 @@ pub fn place<T: KeyedRow>(rows: &[T], key: &T::Key) -> Result<usize, usize>
     rows.binary_search_by(|row| row.compare_to(key))
 }
 
-/// Where the row stands that has the key of this one, or where this one would go.
+/// Returns the position of the row with the key of this one, or where this one would be inserted.
 pub fn place_of<T: KeyedRow>(rows: &[T], one: &T) -> Result<usize, usize>
     requires { IsKeyed T.cmp T.key_of (λ row. row) rows.now }
     ensures hit { IfOk result (IsHit (λ row. T.cmp (T.key_of row) (T.key_of one.now)) rows.now) }
@@ -27,7 +27,7 @@ pub fn place_of<T: KeyedRow>(rows: &[T], one: &T) -> Result<usize, usize>
     rows.binary_search_by(|row| row.compare(one))
 }
 
-/// The row of an address and port, if there is one. Finding it costs the logarithm of the rows.
+/// Returns the row of an address and port, if there is one, in logarithmic time.
 pub fn row_at<'a>(rows: &'a [EndpointRow], pair: &(Ip, u16)) -> Option<&'a EndpointRow>
     requires { IsKeyed pair_cmp pair_of (λ row. row) rows.now }
     ensures { option_copied result ≡ row_at rows.now pair.now }

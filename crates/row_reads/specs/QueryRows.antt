@@ -1,4 +1,4 @@
--- The rows of a query: the first of them, and what those behind it read.
+-- The rows of a query: the first one, and what the others read.
 use Rattle.std.specs.Prelude.{ℕ, ◌++◌, List, [], ◌∷◌, Option, Some, None, flat_map}
 use Rattle.mesh_base.specs.declared.key.ObjKey.{ObjKey}
 use Rattle.view_types.specs.Objects.{ObjectMap}
@@ -27,25 +27,25 @@ first_row (query.Port ns pod port) = port_row ns pod port
 first_row (query.Traffic target) = row.Outbound target
 first_row (query.PortRows ns pod port) = port_row ns pod port
 
--- ---- the rows behind it
+-- ---- the other rows
 
 -- what the authorizations of a Server or of a route read, mark by mark
 abbrev pub authz_from : ObjectMap → ObjKey → List Mark
 authz_from held key = authz_at held key key.kind
 
--- what these rows read: the routes of a Server, its authorizations, and those of each route that names it as a parent
+-- what these rows read: the routes of a Server, its authorizations, and those of each of its routes
 abbrev pub behind_server : ObjectMap → List ℕ → List ℕ → List Mark
 behind_server held ns name =
     RouteOn ns parent.Server name
     ∷ (authz_from held (server_key ns name)
     ++ flat_map (authz_from held) (keys_at held (RouteOn ns parent.Server name)))
 
--- none where no Server is chosen
+-- none if no Server is chosen
 abbrev pub behind_name : ObjectMap → List ℕ → Option (List ℕ) → List Mark
 behind_name held ns None = []
 behind_name held ns (Some name) = behind_server held ns name
 
--- only behind the row of a port are there others
+-- only the row of a port has others
 abbrev pub behind_row : Config → ObjectMap → RowKey → List Mark
 behind_row config held (row.Server key) = behind_name held key.ns (name_in (server_part config held key))
 behind_row config held _ = []

@@ -33,12 +33,12 @@ references Backends (object.LinkerdRoute route) = backends_of route
 references Backends (object.GatewayRoute route) = backends_of route
 references Backends _ = []
 
--- none where no object is held
+-- none if there is no object
 abbrev pub references_of : Reference → Option Object → List Mark
 references_of sort None = []
 references_of sort (Some o) = references sort o
 
--- those of the object at a key
+-- those of the object under a key
 abbrev pub references_at : ObjectMap → Reference → ObjKey → List Mark
 references_at held sort key = references_of sort (get held key)
 
@@ -52,8 +52,8 @@ read_at held sort mark = mark ∷ flat_map (references sort) (objects_with held 
 abbrev pub HaveSame : List Mark → List Mark → Type 0
 HaveSame marks others = (mark : Mark) → has_mark marks mark ≡ has_mark others mark
 
--- what the authorizations of a Server or of a route read, mark by mark: each with those of the authentications that the policies
--- with it refer to
+-- what the authorizations of a Server or a route read, mark by mark: each with the marks of the
+-- authentications that the policies with it refer to
 abbrev pub authz_at : ObjectMap → ObjKey → Kind → List Mark
 authz_at held key kind.Server =
     Obj key

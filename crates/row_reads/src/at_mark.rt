@@ -16,7 +16,7 @@ use std::alloc::Global;
 use view_types::config::Config;
 use view_types::mark::Mark;
 
-/// What the marks of rows are read from.
+/// The inputs of the marks of rows.
 #[derive(Clone, Copy)]
 pub struct Reader<'a> {
     pub alloc: Global,
@@ -25,7 +25,8 @@ pub struct Reader<'a> {
 }
 
 impl Reader<'_> {
-    /// Adds a mark, and the marks of what the objects with it refer to, in the order of these objects.
+    /// Adds a mark, and the marks of what the objects with it refer to, in the order of these
+    /// objects.
     pub fn add_read<L>(
         &self,
         mark: &Mark,

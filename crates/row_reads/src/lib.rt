@@ -1,7 +1,8 @@
-//! The marks that each row reads, and those that the rows of a query read, found by the keys that a store keeps for marks.
+//! The marks that each row reads, and those that the rows of a query read, by the keys that a store
+//! has for marks.
 //!
-//! Stands on mark_rules, whose `specs/Reads` each contract cites, on object_store for the objects and their keys, and on
-//! policy_rows for the test of a Server.
+//! Depends on mark_rules, whose `specs/Reads` each contract cites, on object_store for the objects
+//! and their keys, and on policy_rows for the test of a Server.
 #![tactic(auto)]
 
 pub mod at_mark;

@@ -27,7 +27,7 @@ use view_types::route::ParentKind;
 use view_types::server::ServerSpec;
 
 impl Reader<'_> {
-    /// The marks that the rows of a query read. Each may stand more than once.
+    /// Returns the marks that the rows of a query read, possibly with duplicates.
     pub fn query_reads<L>(&self, query: &Query, steps: &mut Steps<L>) -> Result<List<Mark>, Memory>
         ensures { self.now.store.now.spent ≡ false → AreLawful self.now.store.now.objects
             → IfOk result (λ marks. HaveSame marks
@@ -40,7 +40,7 @@ impl Reader<'_> {
         Ok(marks)
     }
 
-    // Adds the marks that the rows behind the first row of a query read.
+    // Adds the marks that the other rows of a query read, if this is its first row.
     fn add_behind<L>(
         &self,
         first: &RowKey,
@@ -86,7 +86,8 @@ impl Reader<'_> {
         }
     }
 
-    // Adds the marks that the routes of a Server read, its authorizations, and those of each route that names it as a parent.
+    // Adds the marks that the routes of a Server read, its authorizations, and those of each route
+    // that has it as a parent.
     fn add_behind_server<L>(
         &self,
         ns: &Text,
@@ -119,7 +120,7 @@ impl Reader<'_> {
         Ok(())
     }
 
-    // The name of the Server that is chosen for a port. There is none where the Pod isn't held.
+    // Returns the name of the Server that is chosen for a port, or None if the Pod is not held.
     fn server_name<L>(&self, key: &ServerKey, steps: &mut Steps<L>) -> Result<Option<&Text>, Memory>
         ensures { IfOk result (λ name. option_copied name
             ≡ name_in (server_part self.now.config.now self.now.store.now.objects key.now)) }
@@ -174,7 +175,7 @@ fn port_row(ns: &Text, pod: &Text, port: u16) -> Result<RowKey, Memory>
     }))
 }
 
-// The first row of a query, which is the only one unless the query is of a port.
+// Returns the first row of a query, which is the only one unless the query is for a port.
 fn first_row(alloc: Global, query: &Query) -> Result<RowKey, Memory>
     ensures { IfOk result (λ row. row ≡ first_row query.now) }
 {

@@ -17,7 +17,7 @@ use view_types::object::Object;
 use view_types::route::{BackendRef, Route, Rule};
 use view_types::slice::{Family, Point, Slice};
 
-/// A sort of references from objects to objects.
+/// A kind of references between objects.
 #[derive(Clone, Copy)]
 pub enum Reference {
     /// From an EndpointSlice to the Pods that its ready endpoints target.

@@ -28,7 +28,8 @@ use view_types::query::Target;
 use view_types::route::ParentKind;
 use view_types::service::Service;
 
-/// The marks that the row of a port's Server reads: of its Pod, and the Servers of the namespace.
+/// Returns the marks that the row of a port's Server reads: its Pod, and the Servers of the
+/// namespace.
 pub fn server_reads(alloc: Global, key: &ServerKey) -> Result<List<Mark>, Memory>
     ensures { IfOk result (λ marks. marks ≡ server_reads key.now) }
 {
@@ -38,7 +39,8 @@ pub fn server_reads(alloc: Global, key: &ServerKey) -> Result<List<Mark>, Memory
     Ok(marks)
 }
 
-/// The mark that the row of a Server's routes reads: of the routes with the Server as a parent.
+/// Returns the mark that the row of a Server's routes reads: the routes with the Server as a
+/// parent.
 pub fn route_reads(alloc: Global, key: &RouteKey) -> Result<List<Mark>, Memory>
     ensures { IfOk result (λ marks. marks ≡ route_reads key.now) }
 {
@@ -60,7 +62,7 @@ fn slices_of(ns: &Text, name: &Text) -> Result<Mark, Memory>
     Ok(Mark::SlicesOf(ns.copy()?, name.copy()?))
 }
 
-/// The mark of the routes with a parent of this kind and name.
+/// Returns the mark of the routes with a parent of this kind and name.
 fn routes_on(ns: &Text, kind: ParentKind, name: &Text) -> Result<Mark, Memory>
     ensures { IfOk result (λ mark. mark ≡ RouteOn ns.now kind name.now) }
 {
@@ -68,7 +70,7 @@ fn routes_on(ns: &Text, kind: ParentKind, name: &Text) -> Result<Mark, Memory>
 }
 
 impl Reader<'_> {
-    /// The marks that a row reads. Each may stand more than once.
+    /// Returns the marks that a row reads, possibly with duplicates.
     pub fn reads<L>(&self, row: &RowKey, steps: &mut Steps<L>) -> Result<List<Mark>, Memory>
         ensures { self.now.store.now.spent ≡ false → IfOk result (λ marks.
             HaveSame marks (reads self.now.config.now self.now.store.now.objects row.now)) }
@@ -83,7 +85,8 @@ impl Reader<'_> {
         }
     }
 
-    /// The marks that a row of endpoints reads: of its Service, its EndpointSlices, and the Pods that these target.
+    /// Returns the marks that a row of endpoints reads: its Service, its EndpointSlices, and their
+    /// Pods.
     pub fn endpoint_reads<L>(
         &self,
         key: &EndpointKey,
@@ -99,7 +102,8 @@ impl Reader<'_> {
         Ok(marks)
     }
 
-    /// Adds the marks that the outbound row of a Service reads: of the Service, its routes, and the Services of their backends.
+    /// Adds the marks that the outbound row of a Service reads: the Service, its routes, and the
+    /// Services of their backends.
     fn add_service_outbound<L>(
         &self,
         ns: &Text,
@@ -115,7 +119,7 @@ impl Reader<'_> {
         self.add_read(&routes, Reference::Backends, marks, steps)
     }
 
-    // The Service at an address, if there is one.
+    // Returns the Service at an address, if there is one.
     fn service_at<L>(&self, ip: Ip, steps: &mut Steps<L>) -> Option<&Service>
         ensures { self.now.store.now.spent ≡ false
             → option_copied result ≡ service_at self.now.store.now.objects ip }
@@ -129,7 +133,8 @@ impl Reader<'_> {
         }
     }
 
-    /// The marks that an outbound row reads. For an address they are those of the Service at it, or of the Pods at it.
+    /// Returns the marks that an outbound row reads. For an address these are the marks of the
+    /// Service, or of the Pods, at the address.
     pub fn outbound_reads<L>(
         &self,
         target: &Target,
@@ -178,8 +183,8 @@ impl Reader<'_> {
         }
     }
 
-    /// The marks that a row of profiles reads: of the Service and its ServiceProfiles, or for an address those of the Service
-    /// at it, or of the Pods at it.
+    /// Returns the marks that a row of profiles reads: the Service and its ServiceProfiles. For an
+    /// address these are the marks of the Service, or of the Pods, at the address.
     pub fn profile_reads<L>(
         &self,
         key: &ProfileKey,
@@ -248,8 +253,9 @@ impl Reader<'_> {
         add_key(marks, Kind::Service, ns, name)
     }
 
-    /// The marks that the authorizations of a Server or of a route read: of the Server, of what can apply to it or to the
-    /// route, and of the authentications that the policies refer to, held or not. Each mark may stand more than once.
+    /// Returns the marks that the authorizations of a Server or a route read, possibly with
+    /// duplicates: the Server, what may apply to it or to the route, and the authentications that
+    /// the policies refer to, held or not.
     pub fn authz_reads<L>(&self, key: &ObjKey, steps: &mut Steps<L>) -> Result<List<Mark>, Memory>
         ensures { self.now.store.now.spent ≡ false → IfOk result (λ marks.
             HaveSame marks (authz_reads self.now.store.now.objects key.now)) }
@@ -316,21 +322,21 @@ fn add_own(alloc: Global, marks: &mut List<Mark>, key: &ObjKey) -> Result<(), Me
     marks.add(Mark::Obj(key.copy(alloc)?))
 }
 
-/// The mark of the ServerAuthorizations of a namespace.
+/// Returns the mark of the ServerAuthorizations of a namespace.
 pub fn authz_in(ns: &Text) -> Result<Mark, Memory>
     ensures { IfOk result (λ mark. mark ≡ ServerAuthzIn ns.now) }
 {
     Ok(Mark::ServerAuthzIn(ns.copy()?))
 }
 
-/// The mark of the AuthorizationPolicies of a namespace with this target.
+/// Returns the mark of the AuthorizationPolicies of a namespace with this target.
 pub fn policies_on(ns: &Text, target: RefKind, name: &Text) -> Result<Mark, Memory>
     ensures { IfOk result (λ mark. mark ≡ PolicyOn ns.now target name.now) }
 {
     Ok(Mark::PolicyOn(ns.copy()?, target, name.copy()?))
 }
 
-// Adds the mark of the ServiceProfile in the namespace of the client, if it names one.
+// Adds the mark of the ServiceProfile in the namespace of the client, if it declares one.
 fn add_client(marks: &mut List<Mark>, client: &Option<Text>, full: &Text) -> Result<(), Memory>
     ensures { OnOk result (marks.new ≡ marks.old ++ client_marks client.now full.now) }
 {

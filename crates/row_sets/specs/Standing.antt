@@ -1,4 +1,4 @@
--- When the rows of the keys that ids are open with stand for the objects held.
+-- The rows of the keys that ids are open with are those over the objects held.
 use Rattle.std.specs.Prelude.{◌≡◌, ◌≤◌, ◌+◌, ◌&&◌, not, ℕ, Bool, true, false, List, [], Option, Some, None, if◌then◌else◌}
 use Rattle.std.specs.BTreeMap as tree
 use Rattle.std.specs.BTreeMap.{BTreeMap}
@@ -23,18 +23,19 @@ keys_in (Some keys) = keys
 abbrev pub keys_at : {Key : Type 0} → BTreeMap ℕ (List Key) → ℕ → List Key
 keys_at by_id id = keys_in (tree.get nat_cmp by_id id)
 
--- the list contains the key, and the set doesn't
+-- the list contains the key, and the set does not
 abbrev pub is_left_out : {Key : Type 0} → (Key → Key → Ordering) → List Key → BTreeSet Key → Key → Bool
 is_left_out cmp keys set key = has_key cmp keys key && not (sorted.contains cmp set key)
 
 module _ {Index Key : Type 0} (cmp : Key → Key → Ordering) (users : Index → Key → ℕ) (stand : Index → ObjectMap → Type 0) (held : ObjectMap) (index : Index) (by_key : BTreeMap Key (BTreeSet ℕ)) where
-  -- The index stands for the objects held, and its users are the keys that have ids, each once. A key that is kept has an id.
+  -- The index stands for the objects held, and its users are the keys that have ids, each once. A
+  -- key that is stored has an id.
   pub record InUse : Type 0 where
     pub rows : stand index held
     pub one_user : (key : Key) → users index key ≡ (if has_ids cmp by_key key then 1 else 0)
     pub each : AllHaveRows cmp by_key
 
-  -- These keys are in use, and each id stands at the keys that it is open with, and at no others.
+  -- These keys are in use, and each id is at exactly the keys that it is open with.
   pub record Standing (by_id : BTreeMap ℕ (List Key)) : Type 0 where
     pub in_use : InUse
     pub ids : (key : Key) (id : ℕ) → row_at cmp by_key key id ≡ has_key cmp (keys_at by_id id) key
@@ -44,7 +45,8 @@ module _ {Key Row : Type 0} (filter : Filter Key Row) (held : ObjectMap) where
   abbrev pub any_met : List Mark → List Key → Bool
   any_met changed keys = list_any (λ key. meets (filter.reads held key) changed) keys
 
-  -- what is looked up, at most, as an id is opened with these keys: what each of them reads that isn't used yet
+  -- the most objects that are looked up when an id is opened with these keys: what the unused ones
+  -- read
   abbrev pub open_cost : (Key → Bool) → List Key → ℕ
   open_cost used keys = sum_by (λ key. if used key then 0 else cost held (filter.reads held key)) keys
 
@@ -52,7 +54,7 @@ module _ {Key Row : Type 0} (filter : Filter Key Row) (held : ObjectMap) where
   abbrev pub row_if : Bool → Key → Option Row
   row_if used key = if used then Some (filter.row_of held key) else None
 
-  -- New keys, each once, read all that is looked up as an id is opened with these.
+  -- New keys, each once, read everything that is looked up when an id is opened with these.
   pub record EntersWithin (cmp : Key → Key → Ordering) (used : Key → Bool) (keys : List Key) (old new : ℕ) : Type 0 where
     pub entered : List Key
     pub each : AllByRecursion (λ key. (has_key cmp keys key ≡ true) × (used key ≡ false)) entered

@@ -1,8 +1,9 @@
-//! Rows that subscriptions share, each kept once for all ids that have its key. An id is open with a list of keys, which can be
-//! changed.
+//! Rows that subscriptions share, each stored once for all ids that have its key. An id is open
+//! with a list of keys, which can be changed.
 //!
-//! Stands on row_table for the rows of an index, on mark_graph for the ids of each key, on row_views for what is said of keys that
-//! have ids, and on object_store for the store and its changes. The contract of `RowSets` cites `specs/Standing`.
+//! Depends on row_table for the rows of an index, on mark_graph for the ids of each key, on
+//! row_views for the definitions of keys that have ids, and on object_store for the store and its
+//! changes. The contract of `RowSets` cites `specs/Standing`.
 #![tactic(auto)]
 
 pub mod sets;

@@ -27,8 +27,8 @@ use row_table::row_index::RowIndex;
 use std::alloc::Global;
 use std::collections::BTreeMap;
 
-/// The rows of an index that ids are open with, each kept once for all ids that have its key. After Memory nothing is known of the
-/// rows, but the keys of the ids stay.
+/// The rows of an index that ids are open with, each stored once for all ids that have its key.
+/// After Memory the rows are not known, but the keys of the ids are unchanged.
 #[derive(Drop)]
 pub struct RowSets<I: RowIndex + Drop>
 where
@@ -44,7 +44,7 @@ impl<I: RowIndex + Drop> RowSets<I>
 where
     I::Key: Copied,
 {
-    /// No id is open with a key. The index has no users.
+    /// Creates sets without open ids. The index must have no users.
     pub fn new(alloc: Global, index: I) -> RowSets<I>
         requires { (key : I.Key) → I.users index key ≡ 0 }
         ensures index { result.used.index ≡ index }
@@ -59,7 +59,8 @@ where
         }
     }
 
-    /// Opens an id with these keys, whatever it was open with. The row of a key that it has before and after is not found anew.
+    /// Opens an id with these keys, in place of its old ones. The row of a key that is among both
+    /// is not computed again.
     pub fn set<L>(
         &mut self,
         store: &Store,
@@ -91,7 +92,7 @@ where
         Ok(())
     }
 
-    /// Leaves an id with no keys. It allocates nothing.
+    /// Removes all keys of an id. Allocates nothing.
     pub fn clear(&mut self, id: u64)
         ensures keys { SetsAt id [] (keys_at self.old.by_id) (keys_at self.new.by_id) }
         ensures stands { (held : ObjectMap) → Standing I.Key.Ord.cmp I.users I.stands held
@@ -106,7 +107,8 @@ where
         self.used.take_others(keys.as_slice(), &none, id);
     }
 
-    /// Brings the rows up to a change of the store. Gives the ids, ascending, that have a key whose row reads a mark of it.
+    /// Updates the rows for a change of the store. Returns the ids, ascending, that have a key
+    /// whose row reads a mark of it.
     pub fn follow<L>(
         &mut self,
         store: &Store,
@@ -134,7 +136,7 @@ where
         rows_at(self.alloc, &self.used.by_key, keys.as_slice())
     }
 
-    /// The row of a key that an id has.
+    /// Returns the row of a key that an id has.
     pub fn row(&self, key: &I::Key) -> Option<&I::Row>
         ensures used { (held : ObjectMap) → Standing I.Key.Ord.cmp I.users I.stands held
             self.now.used.index self.now.used.by_key self.now.by_id → option_copied result
@@ -148,7 +150,7 @@ where
         self.used.index.row(key)
     }
 
-    /// The row of a key that no id need have. Nothing more is kept.
+    /// Returns the row of any key. Nothing is stored.
     pub fn peek<L>(
         &self,
         store: &Store,
@@ -166,7 +168,7 @@ where
         self.used.index.peek(store, key, steps)
     }
 
-    /// The keys that an id is open with.
+    /// Returns the keys that an id is open with.
     pub fn keys(&self, id: u64) -> &[I::Key]
         ensures { result.now ≡ keys_at self.now.by_id id }
     {
@@ -174,7 +176,7 @@ where
     }
 }
 
-// The keys of an id.
+// Returns the keys of an id.
 fn keys_of<K>(by_id: &BTreeMap<u64, List<K>>, id: u64) -> &[K]
     ensures { result.now ≡ keys_at by_id.now id }
 {

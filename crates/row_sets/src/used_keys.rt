@@ -36,7 +36,7 @@ impl<I: RowIndex + Drop> UsedKeys<I>
 where
     I::Key: Copied,
 {
-    /// No key has ids.
+    /// Creates a set without keys that have ids.
     pub(crate) fn new(alloc: Global, index: I) -> UsedKeys<I>
         ensures index { result.index ≡ index }
         ensures none { result.by_key.entries ≡ [] }
@@ -97,7 +97,7 @@ where
         self.enter(store, key, had_ids, steps)
     }
 
-    // Lets the key be a user of its row, unless it had ids.
+    // Makes the key a user of its row, unless it had ids.
     fn enter<L>(
         &mut self,
         store: &Store,
@@ -120,7 +120,8 @@ where
         self.index.enter(store, key.copy(self.alloc)?, steps)
     }
 
-    /// Removes an id from each key of the old ones that isn't among the new. A key that has none then leaves the index.
+    /// Removes an id from each old key that is not among the new ones. A key without ids leaves the
+    /// index.
     pub(crate) fn take_left_out(
         &mut self,
         old: &[I::Key],
@@ -143,8 +144,8 @@ where
         Ok(())
     }
 
-    /// Removes an id from each key of the old ones that isn't among the new. A key that has none then leaves the index. It
-    /// allocates nothing.
+    /// Removes an id from each old key that is not among the new ones. A key without ids leaves the
+    /// index. Allocates nothing.
     pub(crate) fn take_others(&mut self, old: &[I::Key], new: &SortedSet<I::Key>, id: u64)
         ensures ids { RemovesRow I.Key.Ord.cmp (is_left_out I.Key.Ord.cmp old.now new.now) id
             self.old.by_key self.new.by_key }
@@ -158,7 +159,7 @@ where
         }
     }
 
-    // Removes an id from a key, unless it is one of these.
+    // Removes an id from a key, unless the key is one of these.
     fn take_unless(&mut self, key: &I::Key, kept: &SortedSet<I::Key>, id: u64)
         ensures ids { RemovesRow I.Key.Ord.cmp (λ k. eq_by_cmp I.Key.Ord.cmp key.now k
             && not (contains I.Key.Ord.cmp kept.now k)) id self.old.by_key self.new.by_key }

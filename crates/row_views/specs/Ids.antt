@@ -1,4 +1,4 @@
--- Ids, each with what is at it, and the ids of each key.
+-- Ids with their values, and the ids of each key.
 use Rattle.std.specs.Prelude.{◌≡◌, ℕ, nat_eq, Bool, true, false, List, Option, Some, None, if◌then◌else◌}
 use Rattle.std.specs.BTreeMap as tree
 use Rattle.std.specs.BTreeMap.{BTreeMap}
@@ -8,13 +8,13 @@ use Rattle.std.specs.declared.cmp.Ordering.{Ordering}
 use Rattle.mark_graph.specs.RowMarks.{AllHaveRows, has_rows, row_at}
 use Rattle.row_table.specs.IndexRows.{OneMore, has_key}
 
--- ---- what is at ids
+-- ---- the values of ids
 
--- this is at the id, and at each other id what was
+-- the id has this value, and each other id has its old value
 abbrev pub SetsAt : {X : Type 0} → ℕ → X → (ℕ → X) → (ℕ → X) → Type 0
 SetsAt id value old new = (n : ℕ) → new n ≡ (if nat_eq n id then value else old n)
 
--- each id has what it had
+-- each id has its old value
 abbrev pub Keeps : {X : Type 0} → (ℕ → X) → (ℕ → X) → Type 0
 Keeps old new = (id : ℕ) → new id ≡ old id
 
@@ -22,7 +22,7 @@ Keeps old new = (id : ℕ) → new id ≡ old id
 abbrev pub key_at : {Key : Type 0} → BTreeMap ℕ Key → ℕ → Option Key
 key_at by_id id = tree.get nat_cmp by_id id
 
--- ---- the ids of rows that have numbers
+-- ---- the ids of rows by number
 
 -- it is this number, if there is one
 abbrev pub is_number : Option ℕ → ℕ → Bool
@@ -34,12 +34,12 @@ abbrev pub number_of : {Key : Type 0} → (Key → Option ℕ) → Option Key �
 number_of number_at None = None
 number_of number_at (Some key) = number_at key
 
--- the id stands at the number, if there is one
+-- the id is at the number, if there is one
 abbrev pub id_at : BTreeMap ℕ (BTreeSet ℕ) → Option ℕ → ℕ → Bool
 id_at by_number None id = false
 id_at by_number (Some number) id = row_at nat_cmp by_number number id
 
--- ids stand at the number, if there is one
+-- there are ids at the number, if there is one
 abbrev pub has_ids_at : BTreeMap ℕ (BTreeSet ℕ) → Option ℕ → Bool
 has_ids_at by_number None = false
 has_ids_at by_number (Some number) = has_rows nat_cmp by_number number
@@ -65,14 +65,14 @@ module _ {Key : Type 0} (cmp : Key → Key → Ordering) where
   abbrev pub has_ids : BTreeMap Key (BTreeSet ℕ) → Key → Bool
   has_ids by_key key = has_rows cmp by_key key
 
-  -- The ids at the number of a key are those that are open with it. An id stands at the number of its key alone. A number that is
-  -- kept has an id.
+  -- The ids at the number of a key are those that are open with it. An id is only at the number of
+  -- its key. A number that is stored has an id.
   pub record AreTied (number_at : Key → Option ℕ) (by_number : BTreeMap ℕ (BTreeSet ℕ)) (by_id : BTreeMap ℕ Key) : Type 0 where
     pub ids : (key : Key) (id : ℕ) → id_at by_number (number_at key) id ≡ is_key key (key_at by_id id)
     pub alone : (number id : ℕ) → row_at nat_cmp by_number number id ≡ true → number_of number_at (key_at by_id id) ≡ Some number
     pub each : AllHaveRows nat_cmp by_number
 
-  -- the key has a user more, unless it has ids, and each other key has as many
+  -- the key has one more user, unless it has ids, and each other key has as many as before
   abbrev pub OneMoreUnless : Bool → Key → (Key → ℕ) → (Key → ℕ) → Type 0
   OneMoreUnless true key old new = (k : Key) → new k ≡ old k
   OneMoreUnless false key old new = OneMore cmp key old new

@@ -1,4 +1,4 @@
--- The rows that have users, and the queries that they are of.
+-- The rows that have users, and their queries.
 use Rattle.std.specs.Prelude.{◌≡◌, ◌<◌, ℕ, Option, Some, None}
 use Rattle.std.specs.List.{Contains}
 use Rattle.view_types.specs.Objects.{ObjectMap}

@@ -20,7 +20,8 @@ abbrev pub reads_one : Config → ObjectMap → List Mark → Option Query → B
 reads_one config held changed None = false
 reads_one config held changed (Some query) = meets (query_reads config held query) changed
 
--- A query that is kept for another shows what the other does, told as the other asks, by the same rows.
+-- The query that is kept for another has the same view, in the form that the other requests, and
+-- the same rows.
 abbrev pub ShowsSame : (Query → Option Query) → Type 0
 ShowsSame kept = (query asked : Query) → kept query ≡ Some asked → (config : Config) (held : ObjectMap)
     → (as_asked query (view_of config held asked) ≡ view_of config held query) × (rows config held asked ≡ rows config held query)

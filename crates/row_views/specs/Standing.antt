@@ -1,4 +1,4 @@
--- When the rows of ids stand for the objects held.
+-- The rows of ids are those over the objects held.
 use Rattle.std.specs.Prelude.{◌≡◌, ◌≤◌, ◌+◌, ℕ, Bool, true, false, List, Option, Some, None, if◌then◌else◌, option_map}
 use Rattle.std.specs.BTreeMap.{BTreeMap}
 use Rattle.std.specs.BTreeSet.{BTreeSet}
@@ -24,11 +24,12 @@ module _ {Key Row : Type 0} (filter : Filter Key Row) where
   is_met held changed None = false
   is_met held changed (Some key) = meets (filter.reads held key) changed
 
-  -- the key, if there is one, has the row that it had
+  -- the row of the key, if there is one, is unchanged
   abbrev pub HasSameRow : ObjectMap → ObjectMap → Option Key → Type 0
   HasSameRow before after key = option_map (filter.row_of after) key ≡ option_map (filter.row_of before) key
 
-  -- Keys that are used and read a mark of a change, each once, read all that is looked up as their rows follow it.
+  -- Keys that are used and read a mark of a change, each once, read everything that is looked up
+  -- when their rows follow it.
   pub record FollowCost (cmp : Key → Key → Ordering) (used : Key → Bool) (changed : List Mark) (before after : ObjectMap) (old new : ℕ) : Type 0 where
     pub keys : List Key
     pub each : AllByRecursion (λ key. (used key ≡ true) × (meets (filter.reads before key) changed ≡ true)) keys

@@ -20,16 +20,17 @@ use object_store::store::Store;
 use view_types::query::Query;
 use view_types::view::View;
 
-/// The views of queries, each for the id of a subscription. After Memory nothing is known of the views, but the queries of the ids
-/// stay.
+/// The views of queries, each for the id of a subscription. After Memory the views are not known,
+/// but the queries of the ids are unchanged.
 pub trait QueryViews: Drop {
-    /// A query whose view is kept, as far as its view depends on it. Of all others there is none.
+    /// The part of a query that its view depends on, if the view is kept. None for all other
+    /// queries.
     ghost kept_query: { TheQuery → Option TheQuery };
 
     /// The query that an id is open with, as far as its view depends on it.
     ghost query_of: { Self → ℕ → Option TheQuery };
 
-    /// How many users the row of a key has in the index that keeps it. Rows that no index here keeps have none.
+    /// How many users the row of a key has in the index that stores it. None if no index here does.
     ghost users: { Self → RowKey → ℕ };
 
     /// The views are those over these objects.
@@ -39,7 +40,7 @@ pub trait QueryViews: Drop {
     fn keeps(query: &Query) -> bool
         ensures { result ≡ is_some (kept_query query.now) };
 
-    /// Opens an id, which was open with no query, if the view of the query is kept at all.
+    /// Opens an id, which was not open, if the view of the query is kept.
     fn open<L>(
         &mut self,
         store: &Store,
@@ -56,13 +57,14 @@ pub trait QueryViews: Drop {
             ≤ steps.old + open_cost config store.now.objects (kept_query query.now) }
         ensures kept { OnErr result (Keeps (query_of self.old) (query_of self.new)) };
 
-    /// Closes an id, if it is open. It allocates nothing.
+    /// Closes an id, if it is open. Allocates nothing.
     fn close(&mut self, id: u64)
         ensures queries { SetsAt id None (query_of self.old) (query_of self.new) }
         ensures stands { (config : Config) (held : ObjectMap)
             → stands self.old config held → stands self.new config held };
 
-    /// Brings the views up to a change of the store. Gives the ids of those whose queries read a mark of it.
+    /// Updates the views for a change of the store. Returns the ids of the queries that read a mark
+    /// of it.
     fn follow<L>(
         &mut self,
         store: &Store,
@@ -81,14 +83,14 @@ pub trait QueryViews: Drop {
             steps.old steps.new) }
         ensures queries { Keeps (query_of self.old) (query_of self.new) };
 
-    /// The view of the query that an id is open with. The rows of an inbound view are told whole.
+    /// Returns the view of the query that an id is open with. Inbound views are in the whole form.
     fn view(&self, id: u64) -> Result<Option<View>, Memory>
         ensures { IfOk result (λ view. (config : Config) (held : ObjectMap)
             → AtKeys held → AreLawful held → stands self.now config held
             → view ≡ view_at config held (query_of self.now id)) };
 
-    /// The view of a query that no id need be open with, if it is kept at all. Rows that are kept are used, and the others made for
-    /// this call.
+    /// Returns the view of a query, if such views are kept. Stored rows are used, and the others
+    /// are computed for this call.
     fn peek<L>(
         &self,
         store: &Store,
@@ -101,10 +103,10 @@ pub trait QueryViews: Drop {
         ensures steps { (config : Config) → stands self.now config store.now.objects → steps.new
             ≤ steps.old + open_cost config store.now.objects (kept_query query.now) };
 
-    /// What is kept of a query tells its view, and what it reads.
+    /// The kept part of a query determines its view, and what it reads.
     ghost same: { ShowsSame kept_query };
 
-    /// The views stand in one way only, so that a field of a struct may say that they do.
+    /// The proof that the views stand is unique, so that it can be a field of a struct.
     ghost unique: { (views : Self) (config : Config) (held : ObjectMap)
         → IsProp (stands views config held) };
 

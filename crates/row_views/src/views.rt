@@ -25,8 +25,8 @@ use row_table::row_index::RowIndex;
 use std::alloc::Global;
 use std::collections::BTreeMap;
 
-/// The rows of an index that ids are open with, each kept once for all ids of its key. After Memory nothing is known of the rows,
-/// but the keys of the ids stay.
+/// The rows of an index that ids are open with, each stored once for all ids of its key. After
+/// Memory the rows are not known, but the keys of the ids are unchanged.
 #[derive(Drop)]
 pub struct RowViews<I: RowIndex + Drop>
 where
@@ -45,7 +45,7 @@ impl<I: RowIndex + Drop> RowViews<I>
 where
     I::Key: Copied,
 {
-    /// No id is open. The index has no users.
+    /// Creates views without open ids. The index must have no users.
     pub fn new(alloc: Global, index: I) -> RowViews<I>
         requires { (key : I.Key) → I.users index key ≡ 0 }
         ensures index { result.index ≡ index }
@@ -61,7 +61,7 @@ where
         }
     }
 
-    /// Opens an id with a key, which was open with none.
+    /// Opens an id with a key. The id must not be open.
     pub fn open<L>(
         &mut self,
         store: &Store,
@@ -89,7 +89,7 @@ where
         Ok(())
     }
 
-    // Lets the key be a user of its row, if it has no ids yet. Gives the number of the row.
+    // Makes the key a user of its row, if it has no ids yet. Returns the number of the row.
     fn enter<L>(
         &mut self,
         store: &Store,
@@ -118,7 +118,7 @@ where
         Ok(self.index.number(key))
     }
 
-    /// Closes an id, if it is open. It allocates nothing.
+    /// Closes an id, if it is open. Allocates nothing.
     pub fn close(&mut self, id: u64)
         ensures keys { SetsAt id None (key_at self.old.by_id) (key_at self.new.by_id) }
         ensures stands { (held : ObjectMap) → Standing I.Key.Ord.cmp I.users I.number_at I.stands
@@ -135,7 +135,8 @@ where
         }
     }
 
-    /// Brings the rows up to a change of the store. Gives the ids, ascending, of those keys whose rows read a mark of it.
+    /// Updates the rows for a change of the store. Returns the ids, ascending, of the keys whose
+    /// rows read a mark of it.
     pub fn follow<L>(
         &mut self,
         store: &Store,
@@ -167,7 +168,8 @@ where
         rows_at(self.alloc, &self.by_number, self.index.met())
     }
 
-    /// The ids of those keys whose rows may be others than before the last change. All others have the rows that they had.
+    /// Returns the ids of the keys whose rows may differ from those before the last change. All
+    /// others have the same rows.
     pub fn differing(&self) -> Result<List<u64>, Memory>
         ensures { IfOk result (λ ids. (held : ObjectMap) → Standing I.Key.Ord.cmp I.users
             I.number_at I.stands held self.now.index self.now.by_number self.now.by_id → (id : ℕ) →
@@ -178,7 +180,7 @@ where
         rows_at(self.alloc, &self.by_number, numbers.as_slice())
     }
 
-    // The numbers of the rows of these keys, without those that have no users.
+    // Returns the numbers of the rows of these keys, without those that have no users.
     fn numbers_of(&self, keys: &[I::Key]) -> Result<List<u64>, Memory>
         ensures { IfOk result (λ numbers.
             numbers ≡ filter_map (I.number_at self.now.index) keys.now) }
@@ -190,14 +192,14 @@ where
         Ok(numbers)
     }
 
-    /// The key that an id is open with.
+    /// Returns the key that an id is open with.
     pub fn key(&self, id: u64) -> Option<&I::Key>
         ensures { option_copied result ≡ key_at self.now.by_id id }
     {
         self.by_id.get(&id)
     }
 
-    /// The row of the key that an id is open with.
+    /// Returns the row of the key that an id is open with.
     pub fn row(&self, id: u64) -> Option<&I::Row>
         ensures { (held : ObjectMap) → Standing I.Key.Ord.cmp I.users I.number_at I.stands held
             self.now.index self.now.by_number self.now.by_id → option_copied result ≡ option_map
@@ -209,7 +211,7 @@ where
         }
     }
 
-    /// The row of a key that no id need be open with. Nothing more is kept.
+    /// Returns the row of any key. Nothing is stored.
     pub fn peek<L>(
         &self,
         store: &Store,
@@ -246,7 +248,7 @@ fn put_at(
     }
 }
 
-// Removes the id from the number, if there is one. Answers whether others are left there.
+// Removes the id from the number, if there is one. Returns whether others are left there.
 fn take_at(by: &mut BTreeMap<u64, SortedSet<u64>>, number: Option<u64>, id: u64) -> bool
     ensures taken { RemovesRow nat_cmp (is_number number) id by.old by.new }
     ensures kept { AllHaveRows nat_cmp by.old → AllHaveRows nat_cmp by.new }

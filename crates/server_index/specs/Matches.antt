@@ -1,4 +1,4 @@
--- The Servers that match a port of a Pod, by their names, each with what the port's row shows of it.
+-- The Servers that match a port of a Pod, by their names, each with its part of the port's row.
 use Rattle.std.specs.Prelude.{◌≡◌, ℕ, Bool, false, if◌then◌else◌, List, Option, Some, None}
 use Rattle.std.specs.BTreeMap as tree
 use Rattle.std.specs.Cmp.Lexicographic.{slice_cmp}
@@ -23,16 +23,16 @@ use Rattle.mark_rules.specs.declared.keys.ServerKey.{ServerKey}
 use Rattle.server_index.specs.declared.matching.Matching.{Matching}
 use Rattle.server_index.specs.declared.notes.ServerNotes.{ServerNotes}
 
--- what a row shows of a Server besides its name
+-- the part of a row from a Server, except its name
 abbrev pub Terms : Type 0
 Terms = Protocol × Policy
 
--- that of a Server which selects the Pod and the port, and none of any other
+-- that of a Server which selects the Pod and the port; none for any other
 abbrev pub terms_of : List ℕ → Pod → ℕ → Option ServerSpec → Option Terms
 terms_of ns pod port None = None
 terms_of ns pod port (Some server) = if is_for_port ns pod port server then Some (server.protocol, server.policy) else None
 
--- that of the Server of the name
+-- that of the Server with the name
 abbrev pub terms_at : ObjectMap → ServerKey → Pod → List ℕ → Option Terms
 terms_at held key pod name = terms_of key.ns pod key.port (server_found (get held (server_key key.ns name)))
 
@@ -40,18 +40,18 @@ abbrev pub at_name : Matching → List ℕ → Option Terms
 at_name servers name = tree.get (slice_cmp nat_cmp) servers.by_name name
 
 module _ (held : ObjectMap) (key : ServerKey) (pod : Pod) where
-  -- the name stands among the Servers exactly where the Server matches the port, with what the row shows of it
+  -- the name is among the Servers exactly if the Server matches the port, with its part of the row
   abbrev pub IsUp : Matching → List ℕ → Type 0
   IsUp servers name = at_name servers name ≡ terms_at held key pod name
 
   abbrev pub AreUp : Matching → Type 0
   AreUp servers = (name : List ℕ) → IsUp servers name
 
-  -- each name is up at whose key the test passes, and each that was up before
+  -- each name whose key passes is up, and so is each that was up before
   abbrev pub BringsUp : (ObjKey → Bool) → Matching → Matching → Type 0
   BringsUp passes old new = (name : List ℕ) → (passes (server_key key.ns name) ≡ false → IsUp old name) → IsUp new name
 
--- the row of a port whose Server of least name is this, if any matches
+-- the row of a port, if this is the matching Server with the least name
 abbrev pub part_from : Config → Pod → ℕ → Option (List ℕ × Terms) → ServerPart
 part_from config pod port None = (default_protocol pod port, default_policy config pod, None, probe_paths pod port)
 part_from config pod port (Some first) = (first.1.0, first.1.1, Some first.0, probe_paths pod port)
@@ -65,7 +65,7 @@ names_server ns _ = false
 
 -- ---- notes of a change
 
--- what is noted at a key: whether a Server stands there, and which
+-- what is noted under a key: whether there is a Server, and which
 abbrev pub noted_at : ServerNotes → ObjKey → Option (Option ServerSpec)
 noted_at notes k = tree.get key_order.TheImpl.cmp-value.it notes.by_key k
 
@@ -73,6 +73,6 @@ abbrev pub server_in : Option (Option ServerSpec) → Option ServerSpec
 server_in None = None
 server_in (Some found) = found
 
--- what is noted at a key is what is held there
+-- what is noted under a key is what is held there
 abbrev pub AreRight : ObjectMap → ServerNotes → Type 0
 AreRight held notes = (k : ObjKey) (found : Option ServerSpec) → noted_at notes k ≡ Some found → found ≡ server_found (get held k)

@@ -1,4 +1,5 @@
--- The Servers that may select a Pod with some labels: those that require none, and those whose first required label has the value of one.
+-- The Servers that may select a Pod with some labels: those that require none, and those whose
+-- first required label has the value of one.
 use Rattle.std.specs.Prelude.{◌≡◌, ◌||◌, ℕ, Bool, List, Option}
 use Rattle.std.specs.FinMap.{get}
 use Rattle.std.specs.List.{list_any}
@@ -12,11 +13,11 @@ use Rattle.view_types.specs.declared.object.Object.{Object}
 abbrev pub Label : Type 0
 Label = List ℕ × List ℕ
 
--- what is found is a Server of the namespace that requires no label, or the value of one of these; a value that is the name of the
--- namespace counts as none
+-- the object is a Server of the namespace that requires no label, or the value of one of these; a
+-- value equal to the name of the namespace is treated as none
 abbrev pub may_select : List ℕ → List Label → Option Object → Bool
 may_select ns labels found = requires_value (ns, ns) found || list_any (λ label. requires_value (ns, label.1) found) labels
 
--- a key stands in one of the lists exactly where such a Server is held at it
+-- a key is in one of the lists exactly if such a Server is held under it
 abbrev pub HaveServers : ObjectMap → List ℕ → List Label → List (List ObjKey) → Type 0
 HaveServers held ns labels lists = (k : ObjKey) → list_any (has_key k) lists ≡ may_select ns labels (get held k)

@@ -1,4 +1,4 @@
--- What is kept of a port, over the objects held.
+-- What is stored for a port, over the objects held.
 use Rattle.std.specs.Prelude.{◌≡◌, ℕ, Option, Some, option_map, slice_get}
 use Rattle.std.specs.Option.{ForSome}
 use Rattle.view_types.specs.Objects.{AtKeys, ObjectMap}
@@ -19,7 +19,8 @@ its_pod held key = pod_held held (Some (key.ns, key.pod))
 abbrev pub row_from : Config → ℕ → Matching → Option Pod → Option ServerPart
 row_from config port servers found = option_map (λ pod. part_from config pod port (slice_get servers.by_name.entries 0)) found
 
--- where the Pod is held, the Servers are those that match, and the row is that of the first; the marks are those that are read
+-- if the Pod is held, the Servers are those that match, and the row is that of the first; the marks
+-- are those that are read
 pub record Stands (config : Config) (held : ObjectMap) (key : ServerKey) (kept : KeptServer) : Type 0 where
   pub own : AtKeys held
   pub servers : ForSome (its_pod held key) (λ pod. AreUp held key pod kept.servers)

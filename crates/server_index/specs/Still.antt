@@ -1,4 +1,5 @@
--- What is kept of a port gives its row, and stays where the port reads no mark of a change.
+-- What is stored for a port determines its row, and is unchanged if the port reads no mark of a
+-- change.
 use Rattle.std.proofs.Common.{◌≡◌, ℕ, Bool, true, false, cond, List, [], ◌∷◌, Option, Some, None, refl, sym, ap, ◌∙◌}
 use Rattle.std.specs.BTreeMap as tree
 use Rattle.std.specs.Cmp.{tied_itself}
@@ -50,7 +51,7 @@ module _ (ns : List ℕ) (pod : Pod) (port : ℕ) where
   told s true = refl
   told s false = refl
 
-  -- a Server matches exactly where it has terms
+  -- a Server matches exactly if it has terms
   matches : (found : Option Object) → is_match ns pod port found ≡ is_some (terms_of ns pod port (server_found found))
   matches None = refl
   matches (Some (object.Server s)) = told s (is_for_port ns pod port s)
@@ -107,7 +108,7 @@ row_in kept = kept.row
 abbrev pub marks_in : KeptServer → List Mark
 marks_in kept = kept.marks
 
--- what is kept gives the row and its marks
+-- what is stored determines the row and its marks
 pub stands_show : (config : Config) → KeptShows (record { row_of = server_part config; reads = λ held. server_reads }) (Stands config) row_in marks_in
 stands_show config held key kept well = record {
   is_filter = well.row ∙ shown config held well.own key kept.servers (its_pod held key) well.servers;
@@ -120,7 +121,7 @@ module _ {changed : List Mark} {before after : ObjectMap} (leads : Leads changed
   pub pod_stays : has_mark changed (Obj (pod_key key.ns key.pod)) ≡ false → its_pod before key ≡ its_pod after key
   pod_stays misses = ap pod_found (held_stays leads (pod_key key.ns key.pod) misses)
 
-  -- the terms of a name whose key isn't of the change
+  -- the terms of a name whose key is not of the change
   pub terms_stay : (pod : Pod) (name : List ℕ) → has_mark changed (Obj (server_key key.ns name)) ≡ false → terms_at before key pod name ≡ terms_at after key pod name
   terms_stay pod name misses = ap (λ found. terms_of key.ns pod key.port (server_found found)) (held_stays leads (server_key key.ns name) misses)
 
@@ -138,7 +139,7 @@ module _ (key : ServerKey) (pod : Pod) where
       sym (sym (or-false (has_mark (marks_of (object.Server s)) (ServersIn key.ns))) ∙ server_has key.ns pod key.port (object.Server s) t) ∙ lacks)
   none_without _ lacks = refl
 
-  -- the terms are seen through the mark
+  -- the terms depend only on the object with the mark
   through_mark : (found : Option Object) → terms found ≡ terms (if_marked (ServersIn key.ns) found)
   through_mark None = refl
   through_mark (Some o) =
@@ -152,7 +153,8 @@ module _ (key : ServerKey) (pod : Pod) where
   all_terms_stay {changed} {before} {after} leads misses name =
       through_mark (get before (server_key key.ns name)) ∙ ap terms (leads.same (ServersIn key.ns) (server_key key.ns name) misses) ∙ sym (through_mark (get after (server_key key.ns name)))
 
--- where the Servers that are kept are up after a change that leaves the Pod, and the row is from them, what is kept stands
+-- if the stored Servers are up after a change that leaves the Pod unchanged, and the row is from
+-- them, what is stored stands
 pub stands_after : (config : Config) (key : ServerKey) (kept : KeptServer) (before after : ObjectMap) → AtKeys after → its_pod before key ≡ its_pod after key
     → ((pod : Pod) → its_pod before key ≡ Some pod → AreUp after key pod kept.servers) → kept.row ≡ row_from config key.port kept.servers (its_pod before key) → kept.marks ≡ server_reads key
     → Stands config after key kept

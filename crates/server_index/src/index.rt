@@ -1,4 +1,4 @@
-// The index of what the ports of Pods are served by.
+// The index of the server parts of ports of Pods.
 ghost use Rattle.std.specs.Prelude.{◌≡◌, false, IfOk};
 ghost use Rattle.view_types.specs.Objects.{ObjectMap};
 ghost use Rattle.mark_rules.specs.Reads.{server_reads};
@@ -13,10 +13,10 @@ use row_table::table::RowTable;
 use std::alloc::Global;
 use view_types::config::Config;
 
-/// What the ports of Pods are served by, by their keys.
+/// The server parts of ports of Pods, by their keys.
 pub type ServerIndex = RowTable<ServerRule>;
 
-/// An index without users. It stands for all objects.
+/// Creates an index without users. It stands for all objects.
 pub fn new_index(alloc: Global, config: &Config) -> Result<ServerIndex, Memory>
     ensures filter { IfOk result (λ index. ⟦<RowTable<ServerRule> as RowIndex>⟧.filter index
         ≡ record { row_of = server_part config.now; reads = λ held. server_reads }) }

@@ -1,4 +1,4 @@
-// What is kept of a port: its row, and the Servers that match it.
+// What is stored for a port: its row, and the Servers that match it.
 ghost use Rattle.std.specs.Prelude.{◌≡◌, ◌≤◌, ◌+◌, ◌↔◌, false, Some, None, IsTrue, IfOk, OnOk, count_by, length, slice_get};
 ghost use Rattle.view_types.specs.Objects.{ObjectMap};
 ghost use Rattle.view_types.specs.declared.mark.Mark.TheVariants.{Obj, ServersIn};
@@ -27,12 +27,12 @@ use view_scratch::inbound::{default_policy, default_protocol};
 use view_types::mark::Mark;
 use view_types::policy::{Policy, Protocol};
 
-/// What a port is served by: the protocol, the policy, the name of the Server if one is chosen, and the
-/// paths of the Pod's probes.
+/// The server part of a port: the protocol, the policy, the name of the Server if one is chosen,
+/// and the paths of the Pod's probes.
 pub type ServerPart = (Protocol, Policy, Option<Text>, List<Text>);
 
-/// What a port is served by, if its Pod is held. Beside it stand the Servers that match the port, the marks that are read, and where the
-/// Pod stood among the objects held when it was looked up last.
+/// The server part of a port, if its Pod is held, with the Servers that match the port, the marks
+/// that are read, and the position of the Pod among the objects held when it was last looked up.
 #[derive(Drop)]
 pub struct KeptServer {
     pub(crate) row: Option<ServerPart>,
@@ -41,7 +41,7 @@ pub struct KeptServer {
     pod_place: usize,
 }
 
-/// Finds what a port is served by.
+/// Computes the server part of a port.
 pub(crate) fn find<L>(port: &Port, steps: &mut Steps<L>) -> Result<KeptServer, Memory>
     requires { port.now.from.now.store.now.spent ≡ false }
     ensures stands { IfOk result (Stands port.now.from.now.config.now
@@ -60,9 +60,9 @@ pub(crate) fn find<L>(port: &Port, steps: &mut Steps<L>) -> Result<KeptServer, M
     Ok(kept)
 }
 
-/// Brings what is kept of a port up to a change with these marks. Only the Servers of the change are
-/// looked at, unless it has the mark of the Pod, or is of more Servers than the namespace has after it.
-/// Tells whether the row may be another than before.
+/// Updates what is stored for a port for a change with these marks. Only the Servers of the change
+/// are checked, unless it has the mark of the Pod, or is of more Servers than the namespace then
+/// has. Returns whether the row may differ.
 pub(crate) fn follow<L>(
     port: &Port,
     changed: &[Mark],
@@ -91,7 +91,8 @@ pub(crate) fn follow<L>(
     follow_in_place(port, changed, kept, notes, steps)
 }
 
-/// Whether the change leaves the Pod as it was, and is of no more Servers of the namespace than these.
+/// Whether the change leaves the Pod unchanged, and is of no more Servers of the namespace than
+/// these.
 fn is_in_place(changed: &[Mark], servers: &[ObjKey], key: &ServerKey) -> bool
     ensures pod { IsTrue result
         → has_mark changed.now (Obj (pod_key key.now.ns key.now.pod)) ≡ false }
@@ -126,7 +127,8 @@ fn is_pod_key(key: &ServerKey, other: &ObjKey) -> bool
     other.kind.is_same(&Kind::Pod) && other.ns.is_same(&key.ns) && other.name.is_same(&key.pod)
 }
 
-/// Finds the row and the Servers again. The marks stay, since the key alone tells them.
+/// Computes the row and the Servers again. The marks are unchanged, since they depend on the key
+/// alone.
 fn find_again<L>(port: &Port, kept: &mut KeptServer, steps: &mut Steps<L>) -> Result<(), Memory>
     requires { port.now.from.now.store.now.spent ≡ false }
     ensures stands { OnOk result (kept.old.marks ≡ server_reads port.now.key.now
@@ -150,7 +152,7 @@ fn find_again<L>(port: &Port, kept: &mut KeptServer, steps: &mut Steps<L>) -> Re
     }
 }
 
-/// Finds the Servers that match the port of a Pod, and the row.
+/// Computes the Servers that match the port of a Pod, and the row.
 fn fill<L>(port: &PodPort, kept: &mut KeptServer, steps: &mut Steps<L>) -> Result<(), Memory>
     requires { port.now.from.now.store.now.spent ≡ false }
     ensures servers { OnOk result (AreUp port.now.from.now.store.now.objects port.now.key.now
@@ -166,7 +168,8 @@ fn fill<L>(port: &PodPort, kept: &mut KeptServer, steps: &mut Steps<L>) -> Resul
     Ok(())
 }
 
-/// Brings what is kept up to a change that leaves the Pod as it was. Tells whether the row may be another than before.
+/// Updates what is stored for a change that leaves the Pod unchanged. Returns whether the row may
+/// differ.
 fn follow_in_place<L>(
     port: &Port,
     changed: &[Mark],
@@ -198,7 +201,8 @@ fn follow_in_place<L>(
     }
 }
 
-/// Brings the Servers up to a change with these marks, and the row where a Server differs. Tells whether one does.
+/// Updates the Servers for a change with these marks, and the row if a Server differs. Returns
+/// whether one does.
 fn renew<L>(
     port: &PodPort,
     changed: &[Mark],
@@ -227,7 +231,7 @@ fn renew<L>(
     Ok(true)
 }
 
-/// What the Server of least name tells, else what holds without one.
+/// Returns the row by the Server with the least name, or the default one if there is none.
 fn part_from(port: &PodPort, servers: &Matching) -> Result<ServerPart, Memory>
     ensures { IfOk result (λ part. part ≡ part_from port.now.from.now.config.now port.now.pod.now
         port.now.key.now.port (slice_get servers.now.by_name.entries 0)) }

@@ -28,8 +28,8 @@ impl Matching {
         }
     }
 
-    /// Puts a Server of the name with these terms, or takes it out where there are none. Tells whether
-    /// anything differs then.
+    /// Puts a Server with this name and these terms, or removes it if there are none. Returns
+    /// whether anything differs then.
     pub(crate) fn put(
         &mut self,
         name: &Text,
@@ -62,7 +62,7 @@ impl Matching {
         self.by_name.get(name).copied()
     }
 
-    /// The Server of least name.
+    /// Returns the Server with the least name.
     pub(crate) fn first(&self) -> Option<(&Text, &(Protocol, Policy))>
         ensures { option_map (λ p. (p.0.now, p.1.now)) result
             ≡ slice_get self.now.by_name.entries 0 }

@@ -1,4 +1,4 @@
-// The Servers that a change touched, each looked up once for all rows.
+// The Servers of a change, each looked up once for all rows.
 ghost use Rattle.std.specs.Prelude.{◌≡◌, ◌≤◌, ◌+◌, Some, IsTrue, IfOk, OnOk, is_some};
 ghost use Rattle.std.specs.FinMap.{get};
 ghost use Rattle.std.specs.Option.{option_copied};
@@ -16,7 +16,7 @@ use std::alloc::Global;
 use std::collections::BTreeMap;
 use view_types::server::ServerSpec;
 
-/// What stands at the keys of Servers after a change.
+/// The Servers under keys after a change.
 #[derive(Drop)]
 pub struct ServerNotes {
     by_key: BTreeMap<ObjKey, Option<ServerSpec>>,
@@ -24,7 +24,7 @@ pub struct ServerNotes {
 }
 
 impl ServerNotes {
-    /// Nothing is known yet.
+    /// Creates notes of no key.
     pub(crate) fn new(alloc: Global) -> ServerNotes
         ensures { (held : ObjectMap) → AreRight held result }
     {
@@ -34,7 +34,7 @@ impl ServerNotes {
         }
     }
 
-    /// Looks up the Server at the key, unless that is noted.
+    /// Looks up the Server under the key, unless it is noted.
     pub(crate) fn note<L>(
         &mut self,
         store: &Store,
@@ -56,7 +56,7 @@ impl ServerNotes {
         Ok(())
     }
 
-    /// The Server that is noted at the key.
+    /// Returns the Server that is noted under the key.
     pub(crate) fn of(&self, key: &ObjKey) -> Option<&ServerSpec>
         ensures { option_copied result ≡ server_in (noted_at self.now key.now) }
     {
@@ -67,7 +67,7 @@ impl ServerNotes {
     }
 }
 
-/// The Server at the key.
+/// Returns the Server under the key.
 pub(crate) fn server_at<'a, L>(
     store: &'a Store,
     key: &ObjKey,

@@ -1,4 +1,4 @@
-// The keys of the Servers that may select a Pod, by what they require of its labels.
+// The keys of the Servers that may select a Pod, by the labels that they require.
 ghost use Rattle.std.specs.Prelude.{◌≡◌, ◌≤◌, false, IfOk, IfSome, length, map};
 ghost use Rattle.std.specs.List.{sum_by};
 ghost use Rattle.server_index.specs.Requiring.{HaveServers};
@@ -9,8 +9,9 @@ use mesh_base::text::Text;
 use object_store::store::Store;
 use std::alloc::Global;
 
-/// Lists of keys in which all Servers of the namespace stand that may select a Pod with these labels. None where they have more
-/// keys than this together, as they may where two labels have one value, or where as many labels would have to be looked up.
+/// Returns lists that contain the keys of all Servers of the namespace that may select a Pod with
+/// these labels. None if they have more than `most` keys in total, with duplicates, or if there are
+/// not fewer labels than that.
 pub(crate) fn required_lists<'a>(
     alloc: Global,
     store: &'a Store,

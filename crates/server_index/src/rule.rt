@@ -1,4 +1,4 @@
-// How what the ports of Pods are served by is found and kept.
+// The computation and update of the server parts of ports of Pods.
 ghost use Rattle.mark_rules.specs.Reads.{server_reads};
 ghost use Rattle.mark_rules.specs.Rows.{server_part};
 ghost use Rattle.server_index.specs.Matches.{AreRight};
@@ -21,7 +21,7 @@ use std::alloc::Global;
 use view_types::config::Config;
 use view_types::mark::Mark;
 
-/// Finds what the ports of Pods are served by under a configuration.
+/// Computes the server parts of ports of Pods under a configuration.
 #[derive(Drop)]
 pub struct ServerRule {
     pub config: Config,

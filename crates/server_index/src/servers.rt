@@ -1,4 +1,4 @@
-// The Servers that match a port, found among those of the namespace, or brought up to a change.
+// The Servers that match a port: found among those of the namespace, or updated for a change.
 ghost use Rattle.std.specs.Prelude.{◌≡◌, ◌≤◌, ◌+◌, ◌||◌, ◌↔◌, false, if◌then◌else◌, IfOk, OnOk, IsTrue, count_by, is_some, length, map};
 ghost use Rattle.std.specs.FinMap.{entries, get};
 ghost use Rattle.std.specs.List.{list_any, sum_by};
@@ -29,8 +29,8 @@ use view_types::mark::Mark;
 use view_types::policy::{Policy, Protocol};
 use view_types::server::ServerSpec;
 
-/// The Servers of the namespace that match the port. Those are looked at that may select the Pod by their first required label, or
-/// all where these are few.
+/// Returns the Servers of the namespace that match the port. Checks those that may select the Pod
+/// by their first required label, or all if there are few.
 pub(crate) fn servers_for<L>(port: &PodPort, steps: &mut Steps<L>) -> Result<Matching, Memory>
     requires { port.now.from.now.store.now.spent ≡ false }
     ensures servers { IfOk result (AreUp port.now.from.now.store.now.objects port.now.key.now
@@ -47,7 +47,7 @@ pub(crate) fn servers_for<L>(port: &PodPort, steps: &mut Steps<L>) -> Result<Mat
     }
 }
 
-/// The Servers that match, where those that may select the Pod stand in these lists.
+/// Returns the Servers that match, if those that may select the Pod are in these lists.
 fn match_lists<L>(
     port: &PodPort,
     lists: &[&[ObjKey]],
@@ -64,7 +64,7 @@ fn match_lists<L>(
     Ok(servers)
 }
 
-/// The Servers that match, where these are the keys of all Servers of the namespace.
+/// Returns the Servers that match, if these are the keys of all Servers of the namespace.
 fn match_all<L>(port: &PodPort, keys: &[ObjKey], steps: &mut Steps<L>) -> Result<Matching, Memory>
     requires { keys.now ≡ keys_at port.now.from.now.store.now.objects
         (ServersIn port.now.key.now.ns) }
@@ -79,7 +79,7 @@ fn match_all<L>(port: &PodPort, keys: &[ObjKey], steps: &mut Steps<L>) -> Result
     Ok(servers)
 }
 
-/// Puts the Servers at the keys of these lists in where they match.
+/// Inserts the Servers under the keys of these lists that match.
 fn add_lists<L>(
     port: &PodPort,
     lists: &[&[ObjKey]],
@@ -96,7 +96,7 @@ fn add_lists<L>(
     Ok(())
 }
 
-/// Puts the Servers at these keys in where they match.
+/// Inserts the Servers under these keys that match.
 fn add_servers<L>(
     port: &PodPort,
     keys: &[ObjKey],
@@ -113,7 +113,7 @@ fn add_servers<L>(
     Ok(())
 }
 
-/// Puts the Server at a key in where it matches.
+/// Inserts the Server under a key if it matches.
 fn add_server<L>(
     port: &PodPort,
     key: &ObjKey,
@@ -131,7 +131,7 @@ fn add_server<L>(
     put_server(port, key, server, servers)
 }
 
-/// Brings the Servers that match up to a change with these marks. Tells whether any differs.
+/// Updates the Servers that match for a change with these marks. Returns whether any differs.
 pub(crate) fn follow_servers<L>(
     port: &PodPort,
     changed: &[Mark],
@@ -161,7 +161,7 @@ fn either(one: bool, other: bool) -> bool
     one || other
 }
 
-/// Brings the Servers that match up to what the mark of a change tells.
+/// Updates the Servers that match for a mark of a change.
 fn follow_mark<L>(
     port: &PodPort,
     mark: &Mark,
@@ -183,7 +183,7 @@ fn follow_mark<L>(
     }
 }
 
-/// Puts the Server at the key of a change in or out.
+/// Inserts or removes the Server under the key of a change.
 fn follow_key<L>(
     port: &PodPort,
     key: &ObjKey,
@@ -209,7 +209,7 @@ fn follow_key<L>(
     put_server(port, key, notes.of(key), servers)
 }
 
-/// How many marks are keys of Servers of the namespace.
+/// Returns how many marks are keys of Servers of the namespace.
 pub(crate) fn count_servers(ns: &Text, marks: &[Mark]) -> usize
     ensures { result ≡ count_by (names_server ns.now) marks.now }
 {
@@ -233,7 +233,7 @@ fn is_server_in(key: &ObjKey, ns: &Text) -> bool
     key.kind.is_same(&Kind::Server) && key.ns.is_same(ns)
 }
 
-/// Puts the Server of a key in where it matches, and out where it doesn't.
+/// Inserts the Server of a key if it matches, and removes it otherwise.
 fn put_server(
     port: &PodPort,
     key: &ObjKey,
@@ -250,7 +250,7 @@ fn put_server(
     servers.put(&key.name, terms_of(port, server))
 }
 
-/// The protocol and the policy of a Server that matches the port.
+/// Returns the protocol and the policy of a Server that matches the port.
 fn terms_of(port: &PodPort, server: Option<&ServerSpec>) -> Option<(Protocol, Policy)>
     ensures { result ≡ terms_of port.now.key.now.ns port.now.pod.now port.now.key.now.port
         (option_copied server.entry) }

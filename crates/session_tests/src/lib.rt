@@ -1,7 +1,7 @@
-//! Tests of a link's session: what each call answers, once with ample memory. They stand apart, since a crate with tests is
-//! proved twice.
+//! Tests of a link's session: the result of each call, once with enough memory. They are in a crate
+//! of their own, since a crate with tests is proved twice.
 //!
-//! Stands on session_core.
+//! Depends on session_core.
 #![tactic(auto)]
 
 #[cfg(test)]

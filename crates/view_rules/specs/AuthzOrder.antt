@@ -19,6 +19,6 @@ authz_cmp a b = ordering_then (nat_cmp (authz_number a.0) (authz_number b.0)) (s
 abbrev pub authz_key : AuthzRow → AuthzKey
 authz_key row = (row.kind, row.name)
 
--- the rows rise by kind and name, so that each stands once
+-- the rows ascend strictly by kind and name, so that each occurs once
 abbrev pub RowsRise : List AuthzRow → Type 0
 RowsRise rows = IsStrictlySortedBy authz_cmp (map authz_key rows)

@@ -1,4 +1,4 @@
--- Rows of a view that stand at keys, each key once: as a map by their keys, and what differs between two lists of them.
+-- Rows of a view with unique keys: as a map by their keys, and the differences of two lists.
 use Rattle.std.specs.Prelude.{Bool, not, List, [], ◌∷◌, map}
 use Rattle.std.specs.FinMap.{FinMap, empty, insert, remove}
 use Rattle.std.specs.List.{filter, list_any}
@@ -8,7 +8,7 @@ use Rattle.std.specs.declared.cmp.Ordering.{Ordering}
 module _ {X K : Type 0} (R : K → K → Ordering) (key : X → K) where
   -- ---- as a map
 
-  -- each row in the place of that of its key
+  -- each row replaces that of its key
   abbrev pub put_all : List X → FinMap R X → FinMap R X
   put_all [] m = m
   put_all (x ∷ xs) m = put_all xs (insert m (key x) x)
@@ -20,12 +20,12 @@ module _ {X K : Type 0} (R : K → K → Ordering) (key : X → K) where
   take_all [] m = m
   take_all (k ∷ ks) m = take_all ks (remove m k)
 
-  -- ---- what the second list has that the first hasn't
+  -- ---- what the second list has that the first has not
 
   abbrev pub has_key : List X → K → Bool
   has_key rows k = list_any (λ row. eq_by_cmp R k (key row)) rows
 
-  -- the keys of the first at which the second has no row
+  -- the keys of the first list that have no row in the second
   abbrev pub gone_keys : List X → List X → List K
   gone_keys old new = filter (λ k. not (has_key new k)) (map key old)
 

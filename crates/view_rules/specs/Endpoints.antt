@@ -23,7 +23,7 @@ use Rattle.view_types.specs.declared.endpoint.EndpointView.{EndpointView}
 use Rattle.view_rules.specs.InOrder.{in_order_by}
 use Rattle.view_rules.specs.PodRows.{row_for}
 
--- where a Service is held
+-- the key of a Service
 abbrev pub service_key : List ℕ → List ℕ → ObjKey
 service_key ns name = record { kind = kind.Service; ns = ns; name = name }
 
@@ -38,7 +38,7 @@ service_found (Some o) = as_service o
 abbrev pub service_held : ObjectMap → List ℕ → List ℕ → Option Service
 service_held held ns name = service_found (get held (service_key ns name))
 
--- the name of the first TCP port of the number
+-- the name of the first TCP port with the number
 abbrev pub port_name : ℕ → List NamedPort → Option (List ℕ)
 port_name number ports = option_map (λ p. p.name) (find (λ p. p.tcp && (p.port == number)) ports)
 
@@ -50,7 +50,7 @@ abbrev pub is_text : List ℕ → Option (List ℕ) → Bool
 is_text text None = false
 is_text text (Some found) = bytes_eq found text
 
--- the slice, where the object is one of the Service's
+-- the slice, if the object is one of the Service's
 abbrev pub slice_in : List ℕ → List ℕ → Object → Option Slice
 slice_in ns name (object.EndpointSlice s) = if bytes_eq s.meta.ns ns && is_text name (service_of s) then Some s else None
 slice_in ns name _ = None
@@ -62,15 +62,15 @@ slices_among ns name objects = filter_map (slice_in ns name) objects
 abbrev pub slices_held : ObjectMap → List ℕ → List ℕ → List Slice
 slices_held held ns name = slices_among ns name (values held)
 
--- how a row is made at an address and port
+-- makes a row for an address and port
 abbrev pub RowAt : Type 0
 RowAt = Ip → ℕ → EndpointRow
 
--- by what its endpoint targets
+-- by the target of its endpoint
 abbrev pub RowFor : Type 0
 RowFor = Option (List ℕ × List ℕ) → RowAt
 
--- the rows that the places of a slice give, in the order of the places
+-- the rows from the places of a slice, in the order of the places
 abbrev pub port_rows : RowAt → List ℕ → Ip → NamedPort → List EndpointRow
 port_rows row port_name ip port = if port.tcp && bytes_eq port.name port_name then row ip port.port ∷ [] else []
 
@@ -99,7 +99,7 @@ pair_of row = (row.ip, row.port)
 abbrev pub first_rows : List EndpointRow → List EndpointRow
 first_rows rows = in_order_by pair_cmp pair_of rows
 
--- the rows at the ports of a name
+-- the rows at the ports with a name
 abbrev pub rows_from : RowFor → List Slice → Option (List ℕ) → List EndpointRow
 rows_from row slices None = []
 rows_from row slices (Some port_name) = first_rows (flat_map (slice_rows row port_name) slices)
@@ -114,6 +114,6 @@ endpoints_from row slices port (Some s) =
     if s.external then no_endpoints
     else record { exists = true; rows = rows_from row slices (port_name port s.ports) }
 
--- the endpoints of the port of the Service of the namespace and name, where these objects are held
+-- the endpoints of the port of the Service of the namespace and name, over these objects
 abbrev pub endpoints : Config → ObjectMap → List ℕ → List ℕ → ℕ → EndpointView
 endpoints config held ns name port = endpoints_from (row_for config held) (slices_held held ns name) port (service_held held ns name)

@@ -1,4 +1,4 @@
--- What a subscriber sees who folds the messages that it is sent.
+-- What a subscriber sees after applying the messages that it is sent.
 use Rattle.std.specs.Prelude.{◌≡◌, ℕ, true, false, List, [], ◌∷◌, Option, Some, None, map}
 use Rattle.std.specs.FinMap.{FinMap, values}
 use Rattle.std.specs.List.Sorted.{IsStrictlySortedBy}
@@ -20,7 +20,7 @@ use Rattle.view_rules.specs.Endpoints.{no_endpoints, pair_cmp, pair_of}
 abbrev pub RowMap : Type 0
 RowMap = FinMap pair_cmp EndpointRow
 
--- each row in the place of that of its address and port
+-- each row replaces that of its address and port
 abbrev pub put_rows : List EndpointRow → RowMap → RowMap
 put_rows = put_all pair_cmp pair_of
 
@@ -51,7 +51,7 @@ with_rows rows view = record { exists = true; rows = values (put_rows rows (row_
 abbrev pub without_pairs : List (Ip × ℕ) → EndpointView → EndpointView
 without_pairs pairs view = record { exists = view.exists; rows = values (take_out pairs (row_map view.rows)) }
 
--- the endpoints that are seen; before the first message there are none
+-- the endpoints shown; none before the first message
 abbrev pub seen : Option View → EndpointView
 seen (Some (Endpoints view)) = view
 seen _ = no_endpoints
@@ -61,12 +61,12 @@ abbrev pub authz_of : ServerView → List AuthzRow
 authz_of Absent = []
 authz_of (Present row) = row.authz
 
--- with its authorizations edited; a view that is absent stays so
+-- with its authorizations edited; an absent view stays absent
 abbrev pub with_authz : (AuthzMap → AuthzMap) → ServerView → ServerView
 with_authz edit Absent = Absent
 with_authz edit (Present row) = Present (record row { authz = values (edit (authz_map row.authz)) })
 
--- the view of a port that is seen; before the first message it is absent
+-- the view of a port that is shown; absent before the first message
 abbrev pub seen_port : Option View → ServerView
 seen_port (Some (ServerRows view)) = view
 seen_port _ = Absent
@@ -87,17 +87,18 @@ abbrev pub folded_onto : Option View → List Message → Option View
 folded_onto view [] = view
 folded_onto view (m ∷ ms) = folded_onto (Some (shown_after view m)) ms
 
--- the view that the messages show; before the first there is none
+-- the view that the messages show; none before the first
 abbrev pub fold : List Message → Option View
 fold messages = folded_onto None messages
 
--- what holds of each view of endpoints: rows are in order, each address and port once, and a Service that isn't there
--- has none
+-- each view of endpoints: rows are in order, each address and port once, and a Service that does
+-- not exist has none
 pub record IsOrderly (view : EndpointView) : Type 0 where
   pub rise : IsStrictlySortedBy pair_cmp (map pair_of view.rows)
   pub absent : view.exists ≡ false → view.rows ≡ []
 
--- so it is of the endpoints that were shown, and of the authorizations of a Server of which it is told what changes
+-- the same for the endpoints that were shown, and for the authorizations of a Server that is sent
+-- by rows
 abbrev pub IsOrderlyIfShown : Option View → Type 0
 IsOrderlyIfShown (Some (Endpoints view)) = IsOrderly view
 IsOrderlyIfShown (Some (ServerRows view)) = RowsRise (authz_of view)

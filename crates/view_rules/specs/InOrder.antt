@@ -6,7 +6,7 @@ use Rattle.std.specs.Ordering.{nat_cmp}
 use Rattle.std.specs.declared.cmp.Ordering.{Ordering}
 use Rattle.mesh_base.specs.Keyed.{keyed}
 
--- each key once, by its first item
+-- each key once, with its first item
 abbrev pub in_order_by : {X K : Type 0} (R : K → K → Ordering) → (X → K) → List X → List X
 in_order_by R key items = values (from_entries {R = R} (keyed R key (λ item. item) items))
 

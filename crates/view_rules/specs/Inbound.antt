@@ -1,4 +1,5 @@
--- What holds for a port of a Pod: its protocol, who may come in, the routes of its Server, and the paths of its probes.
+-- The policy of a port of a Pod: protocol, authorizations, routes of its Server, paths of its
+-- probes.
 use Rattle.std.specs.Prelude.{ℕ, ◌==◌, if◌then◌else◌, List, [], ◌∷◌, Option, Some, None, codes, filter_map, map, option_and_then}
 use Rattle.std.specs.FinMap.{get}
 use Rattle.std.specs.Option.{unwrap_or}
@@ -32,14 +33,14 @@ path_at port probe = if probe.0 == port then Some probe.1 else None
 abbrev pub probe_paths : Pod → ℕ → List (List ℕ)
 probe_paths pod port = in_byte_order (filter_map (path_at port) pod.probes)
 
--- where there are routes, probes don't count
+-- probes are not used if there are routes
 abbrev pub unless_routes : {A : Type 0} → List A → List (List ℕ) → List (List ℕ)
 unless_routes [] paths = paths
 unless_routes (route ∷ routes) paths = []
 
 -- ---- without a Server
 
--- the policy that the Pod's annotation names, where it is one, else the configured one
+-- the policy that the Pod's annotation names, if it is one, or the configured one
 abbrev pub default_policy : Config → Pod → Policy
 default_policy config pod = unwrap_or (option_and_then policy_of (get pod.meta.notes (codes "config.linkerd.io/default-inbound-policy"))) config.default_policy
 
@@ -58,7 +59,7 @@ default_row config pod port = record {
 
 -- ---- with a Server
 
--- Backends and timeouts are for those who send.
+-- Inbound views have no backends and no timeouts.
 abbrev pub inbound_rule : Rule → RuleRow
 inbound_rule rule = record { matches = rule.matches; filters = rule.filters; backends = []; request_timeout = None; backend_timeout = None }
 
@@ -89,6 +90,6 @@ abbrev pub inbound_at : Config → ObjectMap → List ℕ → ℕ → Option Pod
 inbound_at config held ns port None = Absent
 inbound_at config held ns port (Some pod) = Present (port_row config held pod port (chosen_server held ns pod port))
 
--- what holds for the port of the Pod of the namespace and name, where these objects are held
+-- the policy of the port of the Pod of the namespace and name, over these objects
 abbrev pub inbound : Config → ObjectMap → List ℕ → List ℕ → ℕ → ServerView
 inbound config held ns name port = inbound_at config held ns port (pod_held held (Some (ns, name)))

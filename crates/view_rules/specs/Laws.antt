@@ -1,4 +1,4 @@
--- The endpoints of a Service port, by the places that give them; whose an address is; and when two views are the same.
+-- The places that yield the endpoints of a Service port, the owners of addresses, and equal views.
 use Rattle.std.specs.Prelude.{◌≡◌, ◌≢◌, ◌↔◌, ℕ, Bool, true, false, if◌then◌else◌, slice_get, IsTrue, List, Option, Some, None, All, Contains, find, map}
 use Rattle.std.specs.Bool.{Decides}
 use Rattle.std.specs.Cmp.Lexicographic.{slice_cmp}
@@ -33,12 +33,12 @@ use Rattle.view_rules.specs.Same.{same_profile, same_row}
 use Rattle.view_rules.specs.SamePolicies.{same_authz, same_outbound, same_server}
 use Rattle.view_rules.specs.Views.{view_of}
 
--- the name of the Service port of the number, where the Service has endpoints
+-- the name of the Service port with the number, if the Service has endpoints
 abbrev pub name_of_port : ℕ → Option Service → Option (List ℕ)
 name_of_port number None = None
 name_of_port number (Some s) = if s.external then None else port_name number s.ports
 
--- some place in the slices of the Service gives the address and port, at a port of the Service port's name
+-- a place in the slices of the Service yields the pair, at a port of the Service port's name
 pub record IsGiven (held : ObjectMap) (ns name : List ℕ) (named : Option (List ℕ)) (ip : Ip) (port : ℕ) : Type 0 where
   pub slice : Slice
   pub key : ObjKey
@@ -56,7 +56,7 @@ pub record IsGiven (held : ObjectMap) (ns name : List ℕ) (named : Option (List
   pub same_name : named ≡ Some entry.name
   pub number : entry.port ≡ port
 
--- a pair stands in the view exactly where some place gives it
+-- a pair is in the view exactly if some place yields it
 abbrev pub PairsAreGiven : Type 0
 PairsAreGiven = (config : Config) (held : ObjectMap) (ns name : List ℕ) (number : ℕ) (ip : Ip) (port : ℕ)
     → Contains (map pair_of (endpoints config held ns name number).rows) (ip, port) ↔ IsGiven held ns name (name_of_port number (service_held held ns name)) ip port
@@ -64,7 +64,7 @@ PairsAreGiven = (config : Config) (held : ObjectMap) (ns name : List ℕ) (numbe
 abbrev pub is_at : Ip × ℕ → EndpointRow → Bool
 is_at pair row = eq_by_cmp pair_cmp pair (pair_of row)
 
--- the rows rise by address and port, each pair once, and each is the first of its pair
+-- the rows ascend by address and port, each pair once, and each is the first of its pair
 pub record AreFirst (rows first : List EndpointRow) : Type 0 where
   pub rise : IsStrictlySortedBy pair_cmp (map pair_of first)
   pub firsts : All (λ row. find (is_at (pair_of row)) rows ≡ Some row) first
@@ -73,22 +73,22 @@ pub record AreFirst (rows first : List EndpointRow) : Type 0 where
 abbrev pub FirstRowsAreFirst : Type 0
 FirstRowsAreFirst = (rows : List EndpointRow) → AreFirst rows (first_rows rows)
 
--- the slices of a Service come in the order of their names, so that the first place is the least
+-- the slices of a Service are in the order of their names, so that the first place is the least
 abbrev pub SlicesByName : Type 0
 SlicesByName = (held : ObjectMap) → AtKeys held → (ns name : List ℕ)
     → IsStrictlySortedBy (slice_cmp nat_cmp) (map (λ (s : Slice). s.meta.name) (slices_held held ns name))
 
--- the rows of each view are in order, and a Service that isn't there has none
+-- the rows of each view are in order, and a Service that does not exist has none
 abbrev pub EndpointsAreOrderly : Type 0
 EndpointsAreOrderly = (config : Config) (held : ObjectMap) (ns name : List ℕ) (port : ℕ) → IsOrderly (endpoints config held ns name port)
 
--- so are the rows of the view of each query, by which it is told what changes
+-- so are the rows of the view of each query that is sent by rows
 abbrev pub ViewsAreOrderly : Type 0
 ViewsAreOrderly = (config : Config) (held : ObjectMap) → AtKeys held → (query : Query) → IsOrderlyIfShown (Some (view_of config held query))
 
 -- ---- the place that a row comes from
 
--- the name of a slice, and the places of an endpoint in it, of an address in the endpoint, and of a port in the slice
+-- the name of a slice, and the indexes of an endpoint, of one of its addresses, and of a port
 pub record Place : Type 0 where
   pub slice : List ℕ
   pub point : ℕ
@@ -98,7 +98,7 @@ pub record Place : Type 0 where
 abbrev pub place_cmp : Place → Place → Ordering
 place_cmp a b = ordering_then (slice_cmp nat_cmp a.slice b.slice) (ordering_then (nat_cmp a.point b.point) (ordering_then (nat_cmp a.address b.address) (nat_cmp a.port b.port)))
 
--- what stands in the slice at the place gives the row, which its endpoint's target makes, at ports of the name
+-- the slice yields the row at the place, made for the endpoint's target, at ports of the name
 pub record GivesFrom (row_of : RowFor) (port_name : List ℕ) (slice : Slice) (place : Place) (row : EndpointRow) : Type 0 where
   pub with_addresses : has_addresses slice.family ≡ true
   pub point : Point
@@ -115,14 +115,14 @@ pub record GivesFrom (row_of : RowFor) (port_name : List ℕ) (slice : Slice) (p
 abbrev pub slice_key : List ℕ → List ℕ → ObjKey
 slice_key ns name = record { kind = kind.EndpointSlice; ns = ns; name = name }
 
--- the place, in a slice of the Service, gives the row
+-- the place, in a slice of the Service, yields the row
 pub record Gives (config : Config) (held : ObjectMap) (ns name port_name : List ℕ) (place : Place) (row : EndpointRow) : Type 0 where
   pub slice : Slice
   pub at_key : get held (slice_key ns place.slice) ≡ Some (object.EndpointSlice slice)
   pub of_service : service_of slice ≡ Some name
   pub from : GivesFrom (row_for config held) port_name slice place row
 
--- the row comes from a place, and no place before it gives a row of the same address and port
+-- the row comes from a place, and no lesser place yields a row of the same address and port
 pub record IsOfTheLeast (config : Config) (held : ObjectMap) (ns name port_name : List ℕ) (row : EndpointRow) : Type 0 where
   pub place : Place
   pub gives : Gives config held ns name port_name place row
@@ -149,15 +149,15 @@ SameServerDecides = (v w : ServerView) → Decides (same_server v w) (v ≡ w)
 abbrev pub SameOutboundDecides : Type 0
 SameOutboundDecides = (v w : OutboundView) → Decides (same_outbound v w) (v ≡ w)
 
--- ---- whose an address is
+-- ---- the owners of addresses
 
--- the Service is held, isn't of the type ExternalName, and has the address as a cluster IP
+-- the Service is held, is not of the type ExternalName, and has the address as a cluster IP
 pub record IsServiceWith (held : ObjectMap) (ip : Ip) (s : Service) : Type 0 where
   pub at_key : get held (service_key s.meta.ns s.meta.name) ≡ Some (object.Service s)
   pub inside : s.external ≡ false
   pub has : Contains s.addrs ip
 
--- the Pod is held and hasn't ended, and the address is its own rather than the node's
+-- the Pod is held and has not ended, and the address is its own, not the node's
 pub record IsPodWith (held : ObjectMap) (ip : Ip) (pod : Pod) : Type 0 where
   pub at_key : get held (pod_key pod.meta.ns pod.meta.name) ≡ Some (object.Pod pod)
   pub apart : pod.host_network ≡ false
@@ -168,12 +168,12 @@ pub record IsPodWith (held : ObjectMap) (ip : Ip) (pod : Pod) : Type 0 where
 abbrev pub name_cmp : Meta → Meta → Ordering
 name_cmp a b = ordering_then (slice_cmp nat_cmp a.ns b.ns) (slice_cmp nat_cmp a.name b.name)
 
--- it is one of these, and none of them comes before it
+-- it is one of these, and none of them precedes it
 pub record IsLeastOf {X : Type 0} (meta : X → Meta) (Is : X → Type 0) (x : X) : Type 0 where
   pub is : Is x
   pub least : (other : X) → Is other → name_cmp (meta x) (meta other) ≢ Greater
 
--- what is found is the least of these; where none is found there is none
+-- the one found is the least of these; if none is found, there is none
 pub record FindsLeast {X : Type 0} (meta : X → Meta) (Is : X → Type 0) (found : Option X) : Type 0 where
   pub some : (x : X) → found ≡ Some x → IsLeastOf meta Is x
   pub none : found ≡ None → (x : X) → Is x → ⊥

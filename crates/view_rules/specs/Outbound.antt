@@ -1,4 +1,5 @@
--- Where traffic to a target goes: through the routes of a Service, straight to a Pod or to an address that nobody has.
+-- The destination of traffic to a target: the routes of a Service, a Pod, or an address without
+-- owner.
 use Rattle.std.specs.Prelude.{◌||◌, ℕ, Bool, false, if◌then◌else◌, List, [], Option, Some, None, map, not}
 use Rattle.std.specs.Option.{unwrap_or}
 use Rattle.k8s_meta.specs.PortSet.{is_within}
@@ -25,12 +26,12 @@ use Rattle.view_rules.specs.Routes.{attached_routes, is_service_parent, route_ro
 
 -- ---- the routes of a Service
 
--- it is held and isn't of the type ExternalName
+-- it is held and is not of the type ExternalName
 abbrev pub exists : Option Service → Bool
 exists None = false
 exists (Some service) = not service.external
 
--- it isn't a Service, or one that doesn't exist
+-- it is not a Service, or one that does not exist
 abbrev pub is_missing : ObjectMap → BackendRef → Bool
 is_missing held backend = not backend.service || not (exists (service_held held backend.ns backend.name))
 
@@ -52,7 +53,7 @@ outbound_rule held rule = record {
   backend_timeout = rule.backend_timeout;
 }
 
--- Authorizations are for those who receive.
+-- Outbound views have no authorizations.
 abbrev pub outbound_route : ObjectMap → Route → RouteRow
 outbound_route held route = route_row (outbound_rule held) [] route
 
@@ -73,12 +74,12 @@ to_service held ns name port = to_found held ns name port (service_held held ns 
 abbrev pub to_pod : Config → Option Pod → Ip → ℕ → OutboundView
 to_pod config pod ip port = Forward (row_of config pod ip port) (is_within (pod_ranges pod) port)
 
--- the Service comes before a Pod
+-- the Service takes precedence over a Pod
 abbrev pub to_address : Config → ObjectMap → Ip → ℕ → Option Service → OutboundView
 to_address config held ip port (Some service) = to_service held service.meta.ns service.meta.name port
 to_address config held ip port None = to_pod config (pod_at held ip) ip port
 
--- where traffic to the target goes, where these objects are held
+-- the destination of traffic to the target, over these objects
 abbrev pub outbound : Config → ObjectMap → Target → OutboundView
 outbound config held (target.Service ns name port) = to_service held ns name port
 outbound config held (target.Address ip port) = to_address config held ip port (service_at held ip)

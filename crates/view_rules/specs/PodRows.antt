@@ -28,7 +28,7 @@ abbrev pub pod_found : Option Object → Option Pod
 pod_found None = None
 pod_found (Some o) = as_pod o
 
--- what an endpoint targets, by namespace and name
+-- the target of an endpoint, by namespace and name
 abbrev pub pod_held : ObjectMap → Option (List ℕ × List ℕ) → Option Pod
 pod_held held None = None
 pod_held held (Some target) = pod_found (get held (pod_key target.0 target.1))
@@ -42,7 +42,7 @@ bare_row ip port = record { ip = ip; port = port; weight = 10000; labels = empty
 abbrev pub is_opaque : Pod → ℕ → Bool
 is_opaque pod port = is_within (opaque_ranges pod.meta) port
 
--- the port at which proxies take tunnelled connections
+-- the port at which proxies accept tunnelled connections
 abbrev pub tunnel_port : ℕ
 tunnel_port = 4143
 
@@ -71,14 +71,14 @@ labelled_row pod row = record {
   h2 = row.h2;
 }
 
--- an endpoint of a Pod has its labels, and where the Pod is meshed also its identity, the tunnel, and HTTP/2 except at
--- an opaque port
+-- an endpoint of a Pod has its labels and, if the Pod is meshed, its identity, the tunnel, and
+-- HTTP/2 except at an opaque port
 abbrev pub row_of : Config → Option Pod → Ip → ℕ → EndpointRow
 row_of config None ip port = bare_row ip port
 row_of config (Some pod) ip port =
     let row = labelled_row pod (bare_row ip port) in
     if is_meshed config pod.meta then meshed_row config pod port row else row
 
--- the row of an endpoint that targets this, where these objects are held
+-- the row of an endpoint with this target, over these objects
 abbrev pub row_for : Config → ObjectMap → Option (List ℕ × List ℕ) → Ip → ℕ → EndpointRow
 row_for config held target = row_of config (pod_held held target)

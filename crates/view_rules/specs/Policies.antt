@@ -1,4 +1,4 @@
--- Who applies to a Server or to a route, and what a view shows of one that applies.
+-- Which authorizations apply to a Server or a route, and the row of one in a view.
 use Rattle.std.specs.Prelude.{◌&&◌, ◌||◌, ℕ, Bool, true, false, if◌then◌else◌, List, [], ◌∷◌, Option, Some, None, codes, drop, filter, filter_map, find, is_some, nat_eq}
 use Rattle.std.specs.FinMap.{get, values}
 use Rattle.std.specs.List.{list_all, list_any, starts_with}
@@ -38,7 +38,7 @@ use Rattle.view_rules.specs.Selects.{selects}
 
 -- ---- what a policy refers to
 
--- the namespace of a reference, by default that of its policy
+-- the namespace of a reference; the default is that of its policy
 abbrev pub ns_of : List ℕ → Ref → List ℕ
 ns_of own need = unwrap_or need.ns own
 
@@ -62,18 +62,18 @@ net_authn_found _ = None
 abbrev pub net_authn_held : ObjectMap → List ℕ → List ℕ → Option NetAuthn
 net_authn_held held ns name = net_authn_found (get held (net_authn_key ns name))
 
--- A ServiceAccount needs no object. A reference to another kind of object counts as missing.
+-- A ServiceAccount needs no object. Any other kind of object is missing.
 abbrev pub is_there : ObjectMap → List ℕ → List ℕ → RefKind → Bool
 is_there held ns name ref.ServiceAccount = true
 is_there held ns name ref.MeshAuthn = is_some (mesh_authn_held held ns name)
 is_there held ns name ref.NetAuthn = is_some (net_authn_held held ns name)
 is_there held ns name _ = false
 
--- each of its references is there
+-- none of its references is missing
 abbrev pub is_complete : ObjectMap → AuthzPolicy → Bool
 is_complete held policy = list_all (λ need. is_there held (ns_of policy.meta.ns need) need.name need.kind) policy.needs
 
--- ---- who applies to a Server
+-- ---- authorizations of a Server
 
 abbrev pub names_server : ServerRef → ServerSpec → Bool
 names_server (Named name) server = bytes_eq name server.meta.name
@@ -83,13 +83,13 @@ names_server (Chosen selector) server = selects selector server.meta.labels
 abbrev pub authorizes : ServerAuthz → ServerSpec → Bool
 authorizes authorization server = bytes_eq authorization.meta.ns server.meta.ns && names_server authorization.server server
 
--- the target is the Server, or is the Namespace that it is in
+-- the target is the Server, or the Namespace that it is in
 abbrev pub is_on_server : ServerSpec → RefKind → List ℕ → Bool
 is_on_server server ref.Server name = bytes_eq name server.meta.name
 is_on_server server ref.Namespace name = bytes_eq name server.meta.ns
 is_on_server server _ name = false
 
--- A policy stands in the namespace and its target has no other one. It applies where it is complete and the target passes.
+-- The policy and its target are in the namespace, the policy is complete, and its target passes.
 abbrev pub policy_applies : ObjectMap → List ℕ → (RefKind → List ℕ → Bool) → AuthzPolicy → Bool
 policy_applies held ns is_target policy =
     bytes_eq policy.meta.ns ns
@@ -102,7 +102,7 @@ applies_to_server held server (object.ServerAuthorization authorization) = autho
 applies_to_server held server (object.AuthorizationPolicy policy) = policy_applies held server.meta.ns (is_on_server server) policy
 applies_to_server held server _ = false
 
--- ---- who applies to a route
+-- ---- authorizations of a route
 
 abbrev pub is_route_kind : Kind → RefKind → Bool
 is_route_kind kind.LinkerdRoute ref.LinkerdRoute = true
@@ -154,11 +154,11 @@ clients held policy =
     (λ need. ids_at held (ns_of policy.meta.ns need) need.name need.kind)
     (find (λ need. gives_clients need.kind) policy.needs)
 
--- `*` stands for everyone
+-- `*` means everyone
 abbrev pub is_star : List ℕ → Bool
 is_star string = bytes_eq string (codes "*")
 
--- `*.s` stands for the identities that end in `.s`
+-- `*.s` means the identities that end in `.s`
 abbrev pub is_wild : List ℕ → Bool
 is_wild string = starts_with nat_eq string (codes "*.")
 
@@ -166,7 +166,7 @@ is_wild string = starts_with nat_eq string (codes "*.")
 abbrev pub namespace_suffix : Config → List ℕ → List ℕ
 namespace_suffix config ns = identity_of config ns []
 
--- what each entry of a list of clients gives: an identity, a suffix, or everyone
+-- what an entry of a list of clients means: an identity, a suffix, or everyone
 abbrev pub identity_in : Config → IdSpec → Option (List ℕ)
 identity_in config (Written string) = if is_star string || is_wild string then None else Some string
 identity_in config (Account ns name) = Some (identity_of config ns name)
@@ -196,7 +196,7 @@ abbrev pub policy_authn : Config → Option (List IdSpec) → Authn
 policy_authn config None = Anyone
 policy_authn config (Some ids) = clients_shown config ids
 
--- what is shown of an authorization
+-- the row of an authorization
 abbrev pub authz_row : Config → ObjectMap → Object → Option AuthzRow
 authz_row config held (object.ServerAuthorization authorization) =
     Some record { kind = authz.ServerAuthorization; name = authorization.meta.name; blocks = authorization.blocks; authn = authn_shown config authorization.authn }
@@ -204,6 +204,6 @@ authz_row config held (object.AuthorizationPolicy policy) =
     Some record { kind = authz.AuthorizationPolicy; name = policy.meta.name; blocks = unwrap_or (networks held policy) everywhere; authn = policy_authn config (clients held policy) }
 authz_row config held _ = None
 
--- The rows of those that pass. They stand by kind and name, as the objects of a namespace do.
+-- The rows of those that pass, in order of kind and name, as are the objects of a namespace.
 abbrev pub authz_rows : Config → ObjectMap → (Object → Bool) → List AuthzRow
 authz_rows config held applies = filter_map (authz_row config held) (filter applies (values held))

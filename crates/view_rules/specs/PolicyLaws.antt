@@ -1,4 +1,4 @@
--- What the definitions of Servers, authorizations and routes amount to, in terms of the objects held.
+-- The meaning of the definitions of Servers, authorizations and routes over the objects held.
 use Rattle.std.specs.Prelude.{◌≡◌, ◌↔◌, ℕ, Bool, true, false, List, Some, Contains, map}
 use Rattle.std.specs.Bool.{Decides}
 use Rattle.std.specs.Cmp.{IsTotalOrder}
@@ -35,12 +35,12 @@ use Rattle.view_rules.specs.Routes.{as_route, attached_routes, place_of, route_c
 use Rattle.view_rules.specs.Selects.{selects}
 use Rattle.view_rules.specs.Servers.{chosen_server}
 
--- ---- what the tests tell
+-- ---- the tests
 
 abbrev pub SelectsDecides : Type 0
 SelectsDecides = (selector : Selector) (labels : LabelMap) → Decides (selects selector labels) (Selects selector labels)
 
--- strings rise by their bytes, and are those of the list
+-- strings ascend in byte order, and are those of the list
 pub record AreInByteOrder (strings sorted : List (List ℕ)) : Type 0 where
   pub rise : IsStrictlySortedBy (slice_cmp nat_cmp) sorted
   pub same : (string : List ℕ) → Contains sorted string ↔ Contains strings string
@@ -73,7 +73,7 @@ pub record IsServerFor (held : ObjectMap) (ns : List ℕ) (pod : Pod) (number : 
   pub selected : Selects selector pod.meta.labels
   pub port : MeansPort server.port pod number
 
--- the one with the least name is chosen, and none exactly where there is none
+-- the one with the least name is chosen, and none exactly if there is none
 abbrev pub ServersAreTheLeast : Type 0
 ServersAreTheLeast = (held : ObjectMap) → AtKeys held → (ns : List ℕ) (pod : Pod) (number : ℕ)
     → FindsLeast (λ (s : ServerSpec). s.meta) (IsServerFor held ns pod number) (chosen_server held ns pod number)
@@ -91,7 +91,7 @@ abbrev pub RowsAreOfThoseThatApply : Type 0
 RowsAreOfThoseThatApply = (config : Config) (held : ObjectMap) → AtKeys held → (applies : Object → Bool) (row : AuthzRow)
     → Contains (authz_rows config held applies) row ↔ IsShown config held applies row
 
--- the rows of a Server, and those of a route, rise by kind and name
+-- the rows of a Server, and those of a route, ascend by kind and name
 abbrev pub RowsAreInOrder : Type 0
 RowsAreInOrder = (config : Config) (held : ObjectMap) → AtKeys held
     → ((server : ServerSpec) → RowsRise (authz_rows config held (applies_to_server held server)))
@@ -112,7 +112,7 @@ pub record IsAttached (held : ObjectMap) (ns : List ℕ) (is_parent : Parent →
   pub among_parents : Contains route.parents parent
   pub passes : is_parent parent ≡ true
 
--- they rise by creation time, name and group, and each route that is attached stands there
+-- they ascend by creation time, name and group, and are the routes that are attached
 pub record AreAttached (held : ObjectMap) (ns : List ℕ) (is_parent : Parent → Bool) (routes : List Route) : Type 0 where
   pub rise : IsStrictlySortedBy route_cmp (map place_of routes)
   pub same : (route : Route) → Contains routes route ↔ IsAttached held ns is_parent route
@@ -126,7 +126,7 @@ RouteOrderIsTotal = IsTotalOrder route_cmp
 
 -- ---- backends
 
--- the Service of a backend is held and isn't of the type ExternalName
+-- the Service of a backend is held and is not of the type ExternalName
 pub record IsPresent (held : ObjectMap) (backend : BackendRef) : Type 0 where
   pub of_service : backend.service ≡ true
   pub service : Service

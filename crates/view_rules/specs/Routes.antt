@@ -1,4 +1,4 @@
--- The routes that are attached to a Server or to a Service, their order, and what a view shows of one.
+-- The routes that are attached to a Server or a Service, their order, and the row of one in a view.
 use Rattle.std.specs.Prelude.{◌&&◌, ◌==◌, ℕ, Bool, true, false, List, Option, Some, None, codes, filter, filter_map, map, not}
 use Rattle.std.specs.Cmp.Lexicographic.{slice_cmp}
 use Rattle.std.specs.FinMap.{values}
@@ -23,7 +23,7 @@ use Rattle.view_types.specs.declared.server_view.RouteRow.{RouteRow}
 use Rattle.view_types.specs.declared.server_view.RuleRow.{RuleRow}
 use Rattle.view_rules.specs.InOrder.{in_order_by}
 
--- of both groups
+-- the routes of both groups
 abbrev pub as_route : Object → Option Route
 as_route (object.LinkerdRoute route) = Some route
 as_route (object.GatewayRoute route) = Some route
@@ -35,12 +35,12 @@ abbrev pub is_server : ParentKind → Bool
 is_server Server = true
 is_server Service = false
 
--- the port is that of the traffic, or none
+-- the port is that of the traffic, or there is none
 abbrev pub is_port_or_none : ℕ → Option ℕ → Bool
 is_port_or_none port None = true
 is_port_or_none port (Some asked) = asked == port
 
--- the Server of the name; a port isn't asked
+-- the Server of the name, at any port
 abbrev pub is_server_parent : List ℕ → Parent → Bool
 is_server_parent name parent = is_server parent.kind && bytes_eq parent.name name
 
@@ -64,7 +64,7 @@ abbrev pub route_group : Kind → List ℕ
 route_group kind.GatewayRoute = codes "gateway.networking.k8s.io"
 route_group _ = codes "policy.linkerd.io"
 
--- by creation time, where the older comes first and one without a time last; then by name; then by group
+-- by creation time, the oldest first and those without a time last; then by name; then by group
 pub record RoutePlace : Type 0 where
   pub created : Option (List ℕ)
   pub name : List ℕ
@@ -85,7 +85,7 @@ attached_routes held ns is_parent = in_order_by route_cmp place_of (filter (has_
 abbrev pub route_key : Route → ObjKey
 route_key route = record { kind = route.kind; ns = route.meta.ns; name = route.meta.name }
 
--- what is shown of a route, with these rules and authorizations
+-- the row of a route, with these rules and authorizations
 abbrev pub route_row : (Rule → RuleRow) → List AuthzRow → Route → RouteRow
 route_row rule_row authz route = record {
   kind = route.kind;

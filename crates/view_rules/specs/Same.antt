@@ -1,5 +1,5 @@
--- When two rows, or two profiles, are the same: nothing differs. A law says that they are the same exactly where they are
--- equal.
+-- When two rows, or two profiles, are the same: nothing differs. A law states that they are the
+-- same exactly if they are equal.
 use Rattle.std.specs.Prelude.{◌&&◌, ◌==◌, ℕ, Bool, true, false, List, [], ◌∷◌, Option, Some, None}
 use Rattle.std.specs.Bool.{beq}
 use Rattle.std.specs.Cmp.Lexicographic.{pointwise, slice_cmp}
@@ -48,7 +48,7 @@ pass [] [] = true
 pass (test ∷ tests) (x ∷ xs) = test x && pass tests xs
 pass _ _ = false
 
--- the requests of the second are those of the first, in which a test stands for each match
+-- the requests of the second match are those of the first, whose inner matches are given as tests
 abbrev pub same_request_by : ReqMatch-F (ReqMatch → Bool) → ReqMatch-F ReqMatch → Bool
 same_request_by (ReqMatch-F.Method name) (ReqMatch-F.Method other) = bytes_eq name other
 same_request_by (ReqMatch-F.Path regex) (ReqMatch-F.Path other) = bytes_eq regex other

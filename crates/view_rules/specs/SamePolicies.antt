@@ -1,5 +1,5 @@
--- When two inbound or outbound views are the same: nothing differs. Laws say that they are the same exactly where they are
--- equal.
+-- When two inbound or outbound views are the same: nothing differs. Laws state that they are the
+-- same exactly if they are equal.
 use Rattle.std.specs.Prelude.{◌&&◌, ◌==◌, ℕ, Bool, true, false}
 use Rattle.std.specs.Bool.{beq}
 use Rattle.std.specs.Cmp.Lexicographic.{pointwise}

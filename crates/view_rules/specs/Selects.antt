@@ -1,4 +1,5 @@
--- The test by which objects are chosen: whether a selector selects labels. A law says that it is true exactly where it does.
+-- The test of selectors: whether a selector selects labels. A law states that it is true exactly if
+-- it does.
 use Rattle.std.specs.Prelude.{◌&&◌, ℕ, Bool, true, false, List, Option, Some, None, is_none, is_some, not}
 use Rattle.std.specs.List.{list_all, list_any}
 use Rattle.std.specs.FinMap.{entries}
@@ -24,7 +25,7 @@ op_holds Lacking values label = is_none label
 abbrev pub rule_holds : LabelMap → SelRule → Bool
 rule_holds labels rule = op_holds rule.op rule.values (label_of labels rule.key)
 
--- each exact pair stands in the labels, and each rule holds of them
+-- each exact pair is among the labels, and each rule holds for them
 abbrev pub selects : Selector → LabelMap → Bool
 selects selector labels =
     list_all (λ pair. is_some_text pair.1 (label_of labels pair.0)) (entries selector.exact) && list_all (rule_holds labels) selector.rules

@@ -23,7 +23,7 @@ selects_pod (Some selector) pod = selects selector pod.meta.labels
 abbrev pub is_named : List ℕ → ℕ → NamedPort → Bool
 is_named name number port = port.tcp && bytes_eq port.name name && (port.port == number)
 
--- the port by its number, or by the name of a TCP container port of that number
+-- the port has the number, or a TCP container port has the name and the number
 abbrev pub selects_port : PortRef → Pod → ℕ → Bool
 selects_port (Number port) pod number = port == number
 selects_port (Named name) pod number = list_any (is_named name number) pod.ports
@@ -43,6 +43,6 @@ abbrev pub server_found : Option Object → Option ServerSpec
 server_found None = None
 server_found (Some o) = as_server o
 
--- The Servers of a namespace stand in the order of their names, so that the first is the least.
+-- The Servers of a namespace are in the order of their names, so that the first is the least.
 abbrev pub chosen_server : ObjectMap → List ℕ → Pod → ℕ → Option ServerSpec
 chosen_server held ns pod number = server_found (find (is_server_for ns pod number) (values held))

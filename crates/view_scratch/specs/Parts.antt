@@ -1,4 +1,5 @@
--- What the rows of an endpoint tell at every address and port: it is made once, and the rows of `PodRows` come of it.
+-- The part of the rows of an endpoint that is the same for each address and port. It is computed
+-- once, and the rows of `PodRows` are made from it.
 use Rattle.std.specs.Prelude.{◌&&◌, ℕ, false, List, [], Option, Some, None, flat_map, map, not, if◌then◌else◌}
 use Rattle.std.specs.Cmp.Lexicographic.{slice_cmp}
 use Rattle.std.specs.FinMap.{FinMap, empty}
@@ -17,7 +18,7 @@ use Rattle.view_rules.specs.PodRows.{labels_of, tunnel_port}
 use Rattle.view_scratch.specs.declared.endpoint.Endpoint.{Endpoint}
 use Rattle.view_scratch.specs.declared.endpoint.Mesh.{Mesh}
 
--- what a Pod tells that is meshed
+-- the part for a meshed Pod
 abbrev pub mesh_of : Config → Pod → Option Mesh
 mesh_of config pod =
     if is_meshed config pod.meta then Some record { identity = identity_of config pod.meta.ns pod.account; opaque = record { ranges = opaque_ranges pod.meta } }
@@ -39,14 +40,14 @@ row_with (Some mesh) labels ip port = record {
   h2 = not (is_within mesh.opaque.ranges port);
 }
 
--- the row at an address and port
+-- the row for an address and port
 abbrev pub row_at : Endpoint → Ip → ℕ → EndpointRow
 row_at endpoint ip port = row_with endpoint.mesh endpoint.labels ip port
 
--- the number of a TCP port of the name
+-- the number of a TCP port with the name
 abbrev pub number_at : List ℕ → NamedPort → Option ℕ
 number_at name port = if port.tcp && bytes_eq port.name name then Some port.port else None
 
--- the rows of an endpoint at ports of these numbers
+-- the rows of an endpoint at ports with these numbers
 abbrev pub rows_of_point : RowFor → List ℕ → Point → List EndpointRow
 rows_of_point row numbers point = if point.ready then flat_map (λ ip. map (row point.pod ip) numbers) point.addrs else []

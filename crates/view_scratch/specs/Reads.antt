@@ -1,4 +1,4 @@
--- What is looked up for a part of a view.
+-- The marks whose objects are looked up for a part of a view.
 use Rattle.std.specs.Prelude.{◌++◌, ℕ, List, [], ◌∷◌, Option, Some, None, flat_map}
 use Rattle.view_types.specs.Objects.{ObjectMap}
 use Rattle.view_types.specs.declared.mark.Mark.{Mark}

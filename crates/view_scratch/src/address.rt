@@ -18,7 +18,7 @@ use view_types::object::Object;
 use view_types::pod::Pod;
 use view_types::service::Service;
 
-/// The least Service, by namespace and name, with this cluster IP.
+/// Returns the least Service, by namespace and name, with this cluster IP.
 pub fn service_at<'a, L>(
     store: &'a Store,
     ip: Ip,
@@ -34,7 +34,8 @@ pub fn service_at<'a, L>(
     Ok(service_found(object_at(store, store.service_at(ip), steps)))
 }
 
-/// The least Pod, by namespace and name, that has this address of its own and hasn't ended.
+/// Returns the least Pod, by namespace and name, that has this address of its own and has not
+/// ended.
 pub fn pod_at<'a, L>(
     store: &'a Store,
     ip: Ip,
@@ -49,7 +50,7 @@ pub fn pod_at<'a, L>(
     Ok(pod_found(object_at(store, store.pod_at(ip), steps)))
 }
 
-/// The object at the first key of an address, if there is one.
+/// Returns the object under the first key of an address, if there is one.
 #[tactic(auto, using(object_store::proofs::Counts::copied_some))]
 fn object_at<'a, L>(
     store: &'a Store,

@@ -26,8 +26,8 @@ use view_types::object::Object;
 use view_types::service::NamedPort;
 use view_types::slice::{Family, Point, Slice};
 
-/// A row for each place in the Service's slices that gives one at ports of this name. A pair of address and port
-/// stands as often as places give it.
+/// Returns the rows from the places of the Service's slices at ports with this name. A pair of
+/// address and port occurs once per place.
 pub(crate) fn rows_of_places<L>(
     from: &Snapshot,
     ns: &Text,
@@ -51,7 +51,7 @@ pub(crate) fn rows_of_places<L>(
     Ok(rows)
 }
 
-/// The slice at the key, if it is one of the Service's.
+/// Returns the slice under the key, if it is one of the Service's.
 #[tactic(auto, using(object_store::proofs::Counts::copied_some))]
 pub fn slice_at<'a, L>(
     store: &'a Store,
@@ -115,7 +115,7 @@ fn is_of(slice: &Slice, name: &Text) -> bool
     }
 }
 
-/// Adds a row for each place in the slice that gives one at ports of this name.
+/// Adds the rows from the places of the slice at ports with this name.
 pub fn add_slice<L>(
     from: &Snapshot,
     rows: &mut List<EndpointRow>,
@@ -153,7 +153,7 @@ fn add_places<L>(
     add_points(from, rows, points, numbers.as_slice(), steps)
 }
 
-/// The numbers of the TCP ports of the name.
+/// Returns the numbers of the TCP ports with the name.
 fn numbers_named(alloc: Global, ports: &[NamedPort], name: &Text) -> Result<List<u16>, Memory>
     ensures { IfOk result (λ numbers. numbers ≡ filter_map (number_at name.now) ports.now) }
 {

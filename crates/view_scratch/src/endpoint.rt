@@ -21,14 +21,14 @@ const WEIGHT: u32 = 10_000;
 /// The port at which proxies accept tunnelled connections.
 const TUNNEL_PORT: u16 = 4143;
 
-/// What the rows of an endpoint tell at every address and port.
+/// The part of the rows of an endpoint that is the same for each address and port.
 #[derive(Drop)]
 pub(crate) struct Endpoint {
     labels: Labels,
     mesh: Option<Mesh>,
 }
 
-/// What they tell of a Pod that is meshed.
+/// The part for a meshed Pod.
 #[derive(Drop)]
 pub(crate) struct Mesh {
     identity: Text,
@@ -36,7 +36,7 @@ pub(crate) struct Mesh {
 }
 
 impl Endpoint {
-    /// The endpoint that targets this Pod, or that is known by its address and port alone.
+    /// Creates the endpoint of a Pod, or of an address and port alone.
     pub(crate) fn of(alloc: Global, config: &Config, pod: Option<&Pod>) -> Result<Endpoint, Memory>
         ensures { IfOk result (λ endpoint. endpoint ≡ endpoint_of config.now (option_copied pod.entry)) }
     {
@@ -58,7 +58,7 @@ impl Endpoint {
         })
     }
 
-    /// Its row at an address and port.
+    /// Returns its row for an address and port.
     pub(crate) fn row_at(&self, alloc: Global, ip: Ip, port: u16) -> Result<EndpointRow, Memory>
         ensures { IfOk result (λ row. row ≡ row_at self.now ip port) }
     {
@@ -70,7 +70,7 @@ impl Endpoint {
     }
 }
 
-/// The row of an endpoint at an address and port, whose Pod this is if it has one.
+/// Returns the row of an endpoint for an address and port, with its Pod if it has one.
 #[tactic(auto, using(crate::proofs::Rows::rows_of_parts))]
 pub(crate) fn row_of(
     alloc: Global,

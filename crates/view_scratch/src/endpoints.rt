@@ -16,7 +16,7 @@ use policy_rows::snapshot::Snapshot;
 use std::alloc::Global;
 use view_types::endpoint::{EndpointRow, EndpointView};
 
-/// The endpoints of the Service port, by what is held.
+/// Returns the endpoints of the Service port over the objects held.
 #[tactic(auto, using(mark_rules::proofs::Counts::cost_cons))]
 pub fn endpoints<L>(
     from: &Snapshot,

@@ -34,7 +34,7 @@ use view_types::route::{Route, Rule};
 use view_types::server::ServerSpec;
 use view_types::server_view::{RouteRow, RuleRow, ServerRow, ServerView};
 
-/// What holds for a port of the Pod of the namespace and name, by what is held.
+/// Returns the policy of a port of the Pod of the namespace and name over the objects held.
 pub fn inbound<L>(
     from: &Snapshot,
     ns: &Text,
@@ -90,7 +90,7 @@ fn default_row(alloc: Global, config: &Config, pod: &Pod, port: u16) -> Result<S
     })
 }
 
-/// The protocol of a Pod's port that no Server selects.
+/// Returns the protocol of a Pod's port that no Server selects.
 pub fn default_protocol(alloc: Global, pod: &Pod, port: u16) -> Result<Protocol, Memory>
     ensures { IfOk result (λ protocol. protocol ≡ default_protocol pod.now port) }
 {
@@ -100,7 +100,7 @@ pub fn default_protocol(alloc: Global, pod: &Pod, port: u16) -> Result<Protocol,
     Ok(Protocol::Unknown)
 }
 
-/// The policy of a Pod's port that no Server selects: that which the Pod's annotation names, else the
+/// Returns the policy of a Pod's port that no Server selects: that of the Pod's annotation, or the
 /// configured one.
 pub fn default_policy(config: &Config, pod: &Pod) -> Policy
     ensures { result ≡ default_policy config.now pod.now }
@@ -205,7 +205,7 @@ fn inbound_route<L>(
     route_row(from.alloc, route, rules, authz)
 }
 
-/// What is shown of the rules of a route to those who receive.
+/// Returns the rules of a route in an inbound view.
 pub fn inbound_rules(alloc: Global, rules: &[Rule]) -> Result<List<RuleRow>, Memory>
     ensures { IfOk result (λ rows. rows ≡ map inbound_rule rules.now) }
 {
@@ -216,7 +216,7 @@ pub fn inbound_rules(alloc: Global, rules: &[Rule]) -> Result<List<RuleRow>, Mem
     Ok(rows)
 }
 
-/// Backends and timeouts are for those who send.
+/// Returns a rule in an inbound view, without backends and timeouts.
 fn inbound_rule(alloc: Global, rule: &Rule) -> Result<RuleRow, Memory>
     ensures { IfOk result (λ row. row ≡ inbound_rule rule.now) }
 {

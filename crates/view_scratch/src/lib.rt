@@ -1,10 +1,11 @@
-//! Views, each made anew, which every other way of finding them is held against.
+//! Views, computed from the objects alone: the reference for all other ways to compute them.
 //!
-//! Stands on view_rules, mark_rules, row_places, object_store and policy_rows. The contract cites the view of a query (`Views`
-//! of view_rules) over the objects of the store. Slices, Servers, policies, routes, and whose an address is, are found by the keys
-//! that the store keeps for marks, and not among all objects; what has a name is found by its key. A spent store keeps its keys
-//! no longer, so that a view that needs them is out of memory. The clauses `steps` say which marks the look-ups of each part
-//! count against (`cost` of mark_rules).
+//! Depends on view_rules, mark_rules, row_places, object_store and policy_rows. The contract cites
+//! the view of a query (`Views` of view_rules) over the objects of the store. Slices, Servers,
+//! policies, routes and the owners of addresses are found by the keys that the store has for marks,
+//! not among all objects; named objects are found by key. A spent store has no valid keys, so a
+//! view that needs them is out of memory. The clauses `steps` bound the look-ups of each part by
+//! its marks (`cost` of mark_rules).
 #![tactic(auto)]
 
 pub mod address;

@@ -11,21 +11,21 @@ use std::alloc::Global;
 use view_types::pod::Pod;
 use view_types::service::Service;
 
-/// The port is opaque for the Pod or Service of this metadata.
+/// Whether the port is opaque for the Pod or Service with this metadata.
 pub fn is_opaque(alloc: Global, meta: &Meta, port: u16) -> Result<bool, Memory>
     ensures { IfOk result (λ opaque. opaque ≡ is_within (opaque_ranges meta.now) port) }
 {
     Ok(opaque_ports(alloc, meta)?.holds(port))
 }
 
-/// The port is opaque where nothing says otherwise.
+/// Whether the port is opaque by default.
 pub(crate) fn is_opaque_by_default(alloc: Global, port: u16) -> Result<bool, Memory>
     ensures { IfOk result (λ opaque. opaque ≡ is_within (ranges_from None) port) }
 {
     Ok(usual_ports(alloc)?.holds(port))
 }
 
-/// The port is opaque for the Service, if there is one.
+/// Whether the port is opaque for the Service, if there is one.
 pub(crate) fn is_opaque_for(
     alloc: Global,
     service: Option<&Service>,
@@ -40,7 +40,7 @@ pub(crate) fn is_opaque_for(
     }
 }
 
-/// The port is opaque for the Pod of an address, if one has it.
+/// Whether the port is opaque for the Pod of an address, if there is one.
 pub(crate) fn is_opaque_at(alloc: Global, pod: Option<&Pod>, port: u16) -> Result<bool, Memory>
     ensures { IfOk result (λ opaque. opaque ≡ is_within (pod_ranges (option_copied pod.entry)) port) }
 {

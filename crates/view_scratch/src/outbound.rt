@@ -32,7 +32,7 @@ use view_types::route::{BackendRef, Route, Rule};
 use view_types::server_view::{BackendRow, RouteRow, RuleRow};
 use view_types::service::Service;
 
-/// Where traffic to a target goes, by what is held.
+/// Returns the destination of traffic to a target over the objects held.
 pub fn outbound<L>(
     from: &Snapshot,
     target: &Target,
@@ -75,7 +75,7 @@ fn to_address<L>(
     }
 }
 
-/// The view of an address that no Service has: the Pod there, if there is one.
+/// Returns the view of an address that no Service has: the Pod there, if there is one.
 pub fn to_pod(
     alloc: Global,
     config: &Config,
@@ -135,7 +135,7 @@ fn outbound_routes<L>(
     route_rows(from, routes.as_slice(), steps)
 }
 
-/// What is shown of these routes to those who send.
+/// Returns the rows of these routes in an outbound view.
 pub fn route_rows<L>(
     from: &Snapshot,
     routes: &[&Route],
@@ -153,7 +153,7 @@ pub fn route_rows<L>(
     Ok(rows)
 }
 
-/// Authorizations are for those who receive.
+/// Returns the row of a route in an outbound view, without authorizations.
 fn outbound_route<L>(
     from: &Snapshot,
     route: &Route,

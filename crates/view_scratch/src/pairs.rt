@@ -6,7 +6,7 @@ use mesh_base::memory::Memory;
 use row_places::order::keep_first;
 use view_types::endpoint::EndpointRow;
 
-/// Each pair of address and port once, in order, by the first row of the pair.
+/// Sorts rows by address and port, and keeps the first row of each pair.
 pub(crate) fn first_rows(rows: List<EndpointRow>) -> Result<List<EndpointRow>, Memory>
     ensures { IfOk result (λ first. first ≡ first_rows rows) }
 {

@@ -12,7 +12,7 @@ use object_store::store::Store;
 use view_types::object::Object;
 use view_types::pod::Pod;
 
-/// The Pod that an endpoint targets, by its namespace and name, if it is held.
+/// Returns the Pod that an endpoint targets, by its namespace and name, if it is held.
 pub(crate) fn pod_held<'a, L>(
     store: &'a Store,
     target: &Option<(Text, Text)>,
@@ -27,7 +27,7 @@ pub(crate) fn pod_held<'a, L>(
     }
 }
 
-/// The Pod of the namespace and name, if it is held.
+/// Returns the Pod of the namespace and name, if it is held.
 pub fn pod_named<'a, L>(
     store: &'a Store,
     ns: &Text,

@@ -34,7 +34,7 @@ pub struct ServicePort<'a> {
     pub port: u16,
 }
 
-/// The profile of a target, for a client in this namespace if it says one, by what is held.
+/// Returns the profile of a target, for a client in this namespace if it declares one.
 pub fn profile<L>(
     from: &Snapshot,
     target: &Target,
@@ -83,7 +83,8 @@ fn address_profile<L>(
     }
 }
 
-/// The profile of a Service's port, by the ServiceProfile that the client's namespace or the Service's own holds.
+/// Returns the profile of a Service port, from the ServiceProfile in the client's namespace or the
+/// Service's.
 pub fn service_profile<L>(
     from: &Snapshot,
     client: &Option<Text>,
@@ -111,7 +112,8 @@ pub fn service_profile<L>(
     })
 }
 
-/// The profile of the full name in the client's namespace, if it says one and one is held there, else in the Service's.
+/// Returns the profile of the full name in the client's namespace, if it has one, or in the
+/// Service's.
 fn profile_for<'a, L>(
     store: &'a Store,
     client: &Option<Text>,
@@ -182,7 +184,8 @@ fn overrides_in(alloc: Global, found: Option<&Profile>) -> Result<List<Override>
     }
 }
 
-/// The profile of an address that no Service has, by the Pod that has it, if there is one.
+/// Returns the profile of an address that no Service has, from the Pod that has it, if there is
+/// one.
 pub fn pod_profile(
     alloc: Global,
     config: &Config,

@@ -15,7 +15,7 @@ use view_types::config::Config;
 use view_types::query::Query;
 use view_types::view::View;
 
-/// The view of a query, by what is held.
+/// Returns the view of a query over the objects held.
 pub fn scratch<L>(
     alloc: Global,
     store: &Store,

@@ -11,7 +11,7 @@ use object_store::store::Store;
 use view_types::object::Object;
 use view_types::service::{NamedPort, Service};
 
-/// The Service of the namespace and name, if it is held.
+/// Returns the Service of the namespace and name, if it is held.
 pub fn service_held<'a, L>(
     store: &'a Store,
     ns: &Text,
@@ -43,7 +43,7 @@ fn as_service(object: &Object) -> Option<&Service>
     }
 }
 
-/// The name of the first TCP port of the number.
+/// Returns the name of the first TCP port with the number.
 pub fn port_name(ports: &[NamedPort], number: u16) -> Option<&Text>
     ensures { option_copied result ≡ port_name number ports.now }
 {

@@ -1,5 +1,5 @@
--- What later calls require of the objects that are held, and their readers give: strings are in UTF-8, numbers are
--- within their types, and the bounds between members hold.
+-- What calls require of the objects held, and readers ensure: strings are in UTF-8, numbers are
+-- within their types, and the relations between fields hold.
 use Rattle.std.specs.Prelude.{◌≡◌, ◌≢◌, ◌≤◌, ◌<◌, ◌^◌, ◌&&◌, ℕ, Bool, true, false, List, [], Option, Some, IsUtf8, count_by, nat_lt}
 use Rattle.std.specs.List.{AllByRecursion, list_all}
 use Rattle.std.specs.Str.{is_utf8}
@@ -91,7 +91,7 @@ pub record IsLawfulServer (server : ServerSpec) : Type 0 where
   pub meta : IsLawfulMeta server.meta
   pub port : IsLawfulPortRef server.port
 
--- no network has more bits than its addresses, or a bit of its base after them
+-- a network has at most as many bits as its addresses, and the host bits of its base are zero
 pub record IsLawfulNet (net : Net) : Type 0 where
   pub base : FitsIp net.base
   pub round : IsRound net
@@ -115,12 +115,12 @@ pub record IsLawfulServerAuthz (authz : ServerAuthz) : Type 0 where
   pub blocks : AllByRecursion IsLawfulBlock authz.blocks
   pub authn : IsLawfulAuthnSpec authz.authn
 
--- the references that give networks
+-- the references to networks
 abbrev pub gives_networks : RefKind → Bool
 gives_networks NetAuthnRef = true
 gives_networks _ = false
 
--- the references that give clients
+-- the references to clients
 abbrev pub gives_clients : RefKind → Bool
 gives_clients MeshAuthnRef = true
 gives_clients ServiceAccount = true
@@ -129,7 +129,7 @@ gives_clients _ = false
 abbrev pub count_of : (RefKind → Bool) → List Ref → ℕ
 count_of test needs = count_by (λ need. test need.kind) needs
 
--- at most one reference gives networks, and at most one clients
+-- at most one reference to networks, and at most one to clients
 pub record AreLawfulNeeds (needs : List Ref) : Type 0 where
   pub networks : count_of gives_networks needs ≤ 1
   pub clients : count_of gives_clients needs ≤ 1
@@ -153,7 +153,7 @@ pub record IsLawfulNetAuthn (authn : NetAuthn) : Type 0 where
 
 -- ---- profiles
 
--- the match, where that is what the matches in it are
+-- whether all strings of the match are in UTF-8, if that is known of the matches in it
 abbrev pub has_strings_by : ReqMatch-F Bool → Bool
 has_strings_by (ReqMatch-F.Method name) = is_utf8 name
 has_strings_by (ReqMatch-F.Path regex) = is_utf8 regex
@@ -161,7 +161,7 @@ has_strings_by (ReqMatch-F.All parts) = list_all (λ part. part) parts
 has_strings_by (ReqMatch-F.Any parts) = list_all (λ part. part) parts
 has_strings_by (ReqMatch-F.Not part) = part
 
--- the strings of the match, however deep, are in UTF-8
+-- the strings of the match, at any depth, are in UTF-8
 abbrev pub has_strings : ReqMatch → Bool
 has_strings = fold-ReqMatch Bool has_strings_by
 
@@ -171,7 +171,7 @@ has_statuses_by (RespMatch-F.All parts) = list_all (λ part. part) parts
 has_statuses_by (RespMatch-F.Any parts) = list_all (λ part. part) parts
 has_statuses_by (RespMatch-F.Not part) = part
 
--- the status codes of the match, however deep, are below 2 ^ 16
+-- the status codes of the match, at any depth, are below 2 ^ 16
 abbrev pub has_statuses : RespMatch → Bool
 has_statuses = fold-RespMatch Bool has_statuses_by
 
@@ -220,7 +220,7 @@ pub record AreLawfulHeaders (add set : List (List ℕ × List ℕ)) (remove : Li
   pub replaced : ArePairs set
   pub removed : AllByRecursion IsUtf8 remove
 
--- No part of a redirect is there and empty.
+-- No part of a redirect is present and empty.
 pub record IsLawfulRedirect (scheme host : Option (List ℕ)) (port : Option ℕ) (status : ℕ) : Type 0 where
   pub scheme_text : IsString scheme
   pub scheme_filled : scheme ≢ Some []

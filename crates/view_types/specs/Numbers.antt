@@ -1,4 +1,4 @@
--- The numbers of protocols, policies and kinds of authorizations: their places in their lists, from 1.
+-- The numbers of protocols, policies and kinds of authorizations: the order of their lists, from 1.
 use Rattle.std.specs.Prelude.{ℕ}
 use Rattle.view_types.specs.declared.policy.Policy.{Policy}
 use Rattle.view_types.specs.declared.policy.Policy.TheVariants.{AllUnauthenticated, AllAuthenticated, ClusterUnauthenticated, ClusterAuthenticated, Deny, Audit}

@@ -1,4 +1,4 @@
--- What the objects of all kinds share.
+-- What objects of all kinds have in common.
 use Rattle.std.specs.Prelude.{◌≡◌, List, Some, map}
 use Rattle.std.specs.List.{All, IsDistinct}
 use Rattle.std.specs.Ordering.{eq_by_cmp}
@@ -37,7 +37,7 @@ kind_of (NetworkAuthentication o) = kind.NetworkAuthentication
 kind_of (LinkerdRoute o) = kind.LinkerdRoute
 kind_of (GatewayRoute o) = kind.GatewayRoute
 
--- the key at which an object is held
+-- the key of an object
 abbrev pub key_of : Object → ObjKey
 key_of o = let meta = meta_of o in record { kind = kind_of o; ns = meta.ns; name = meta.name }
 
@@ -45,11 +45,11 @@ key_of o = let meta = meta_of o in record { kind = kind_of o; ns = meta.ns; name
 abbrev pub ObjectMap : Type 0
 ObjectMap = FinMap key_cmp Object
 
--- each object is held at its own key
+-- each object is stored under its own key
 abbrev pub AtKeys : ObjectMap → Type 0
 AtKeys held = (k : ObjKey) (o : Object) → get held k ≡ Some o → key_of o ≡ k
 
--- a list of objects of one kind, no two of them with one key
+-- a list of objects of one kind, with distinct keys
 pub record IsListOf (kind : Kind) (items : List Object) : Type 0 where
   pub each : All (λ o. kind_of o ≡ kind) items
   pub apart : IsDistinct (eq_by_cmp key_cmp) (map key_of items)

@@ -11,7 +11,7 @@ query_whole port = Port port.ns port.pod port.port
 abbrev pub query_by_rows : PodPort → Query
 query_by_rows port = PortRows port.ns port.pod port.port
 
--- an inbound view, told by rows
+-- the inbound view sent by rows
 abbrev pub by_rows : View → View
 by_rows (Server view) = ServerRows view
 by_rows view = view

@@ -9,14 +9,14 @@ use mesh_base::text::Text;
 use net_cidr::block::Block;
 use std::alloc::Global;
 
-/// Which Servers a ServerAuthorization is for.
+/// The Servers that a ServerAuthorization applies to.
 #[derive(Drop)]
 pub enum ServerRef {
     Named(Text),
     Chosen(Selector),
 }
 
-/// An identity as an object writes it.
+/// An identity, as written in an object.
 #[derive(Drop)]
 pub enum IdSpec {
     /// An identity, `*`, or `*` and a suffix.
@@ -27,7 +27,7 @@ pub enum IdSpec {
     Namespace(Text),
 }
 
-/// Whom a ServerAuthorization admits.
+/// The clients that a ServerAuthorization admits.
 #[derive(Drop)]
 pub enum AuthnSpec {
     Anyone,
@@ -44,7 +44,7 @@ pub struct ServerAuthz {
     pub authn: AuthnSpec,
 }
 
-/// What a reference refers to.
+/// The kind of object that a reference refers to.
 #[derive(Clone, Copy, PartialEq, Eq, PartialOrd, Ord)]
 pub enum RefKind {
     Server,
@@ -57,7 +57,7 @@ pub enum RefKind {
     Other,
 }
 
-/// A reference to another object. Without a namespace it means the object's own.
+/// A reference to another object. The default namespace is that of the object itself.
 #[derive(Drop)]
 pub struct Ref {
     pub kind: RefKind,

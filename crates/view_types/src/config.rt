@@ -10,7 +10,7 @@ use net_cidr::ip::Ip;
 use net_cidr::net::Net;
 use std::alloc::Global;
 
-/// What is configured for a run.
+/// The configuration of a run.
 #[derive(Drop)]
 pub struct Config {
     pub cluster_domain: Text,
@@ -34,7 +34,7 @@ impl Copied for Config {
 }
 
 impl Config {
-    /// The configuration of a run that is told nothing.
+    /// Returns the default configuration.
     pub fn usual(alloc: Global) -> Result<Config, Memory>
         ensures { IfOk result (λ config. config ≡ usual_config) }
     {

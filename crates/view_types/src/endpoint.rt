@@ -16,15 +16,15 @@ pub struct EndpointRow {
     pub port: u16,
     pub weight: u32,
     pub labels: Labels,
-    /// The identity that its proxy proves, where it has one.
+    /// The identity of its proxy, if it has one.
     pub identity: Option<Text>,
     /// The port at which its proxy accepts tunnelled connections.
     pub tunnel: Option<u16>,
-    /// It is reached by HTTP/2.
+    /// Whether it is reached by HTTP/2.
     pub h2: bool,
 }
 
-/// The endpoints of a Service, by address and port, each pair once. With rows the Service exists.
+/// The endpoints of a Service, by address and port, each pair once. A Service with rows exists.
 #[derive(Drop)]
 pub struct EndpointView {
     pub exists: bool,

@@ -1,10 +1,10 @@
-//! The types that the controllers share: the objects of a cluster, what proxies ask for, the views that they are
-//! given, and the messages that carry the difference.
+//! The types that the controllers share: the objects of a cluster, the queries of proxies, the
+//! views that they are sent, and the messages that carry the differences between views.
 //!
-//! Stands on mesh_base, net_cidr, label_select and k8s_meta. Its specs hold what the crates above cite of an object: its
-//! key (`specs/Objects`) and what later calls require of it (`specs/Lawful`); and the usual configuration
-//! (`specs/Defaults`), and the queries for a port (`specs/Ports`). What views show is defined in view_rules.
-//! Every copy equals its source (`Copied`), and views compare exactly (`Same`).
+//! Depends on mesh_base, net_cidr, label_select and k8s_meta. The specs define the key of an object
+//! (`specs/Objects`), what calls require of it (`specs/Lawful`), the default configuration
+//! (`specs/Defaults`) and the queries for a port (`specs/Ports`). The contents of views are defined
+//! in view_rules. Every copy equals its source (`Copied`), and views compare exactly (`Same`).
 #![tactic(auto)]
 
 pub mod authn;

@@ -9,10 +9,10 @@ use mesh_base::text::Text;
 use net_cidr::ip::Ip;
 use std::alloc::Global;
 
-/// What a change of an object touches, and what a view reads.
+/// What a change of an object affects, and what a view reads.
 #[derive(Drop, PartialEq, Eq, PartialOrd, Ord)]
 pub enum Mark {
-    /// The object at a key.
+    /// The object under a key.
     Obj(ObjKey),
     /// The EndpointSlices of a Service, by namespace and name.
     SlicesOf(Text, Text),

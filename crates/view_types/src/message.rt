@@ -10,14 +10,14 @@ use mesh_base::text::Text;
 use net_cidr::ip::Ip;
 use std::alloc::Global;
 
-/// What is sent to a subscriber.
+/// A message to a subscriber.
 #[derive(Drop)]
 pub enum Message {
     /// Endpoints that are new or have changed.
     Add(List<EndpointRow>),
-    /// Addresses and ports at which there is no endpoint any more.
+    /// Addresses and ports that no longer have an endpoint.
     Remove(List<(Ip, u16)>),
-    /// There are no endpoints; whether the Service exists.
+    /// There are no endpoints. The flag is whether the Service exists.
     NoEndpoints(bool),
     /// The whole profile of a target.
     Profile(ProfileView),
@@ -25,11 +25,11 @@ pub enum Message {
     Server(ServerView),
     /// The whole outbound view of a target.
     Outbound(OutboundView),
-    /// The whole inbound view of a port of a Pod, of which later messages tell what changes.
+    /// The whole inbound view of a port of a Pod. Later messages carry only what changes.
     Whole(ServerView),
     /// Authorizations of the Server that are new or have changed.
     AuthzPut(List<AuthzRow>),
-    /// Kinds and names of authorizations that the Server has no more.
+    /// Kinds and names of authorizations that the Server no longer has.
     AuthzGone(List<(AuthzKind, Text)>),
 }
 

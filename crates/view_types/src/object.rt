@@ -17,7 +17,7 @@ use mesh_base::memory::Memory;
 use std::alloc::Global;
 use std::cmp::Ordering;
 
-/// An object of the cluster. What it holds stands behind a pointer, so that a list of objects moves little.
+/// An object of the cluster. Its contents are boxed, so that moving objects in a list is cheap.
 pub enum Object {
     Pod(Boxed<Pod>),
     Service(Boxed<Service>),
@@ -32,7 +32,7 @@ pub enum Object {
     GatewayRoute(Boxed<Route>),
 }
 
-/// Written by hand, so that a crate that drops objects needs no proof of what is in them.
+/// Written by hand, so that crates that drop objects need no proofs about their contents.
 impl Drop for Object {
     fn drop(self) {
         match self {
@@ -88,7 +88,7 @@ impl Object {
         }
     }
 
-    /// The key at which the object is held.
+    /// Returns the key of the object.
     pub fn key(&self, alloc: Global) -> Result<ObjKey, Memory>
         ensures { IfOk result (λ key. key ≡ key_of self.now) }
     {
@@ -100,7 +100,7 @@ impl Object {
         })
     }
 
-    /// How the object's key compares with a key. It allocates nothing.
+    /// Compares the object's key with a key. Allocates nothing.
     pub fn compare_key(&self, key: &ObjKey) -> Ordering
         ensures { result ≡ key_cmp (key_of self.now) key.now }
     {
@@ -114,7 +114,7 @@ impl Object {
         }
     }
 
-    /// How the keys of two objects compare. It allocates nothing.
+    /// Compares the keys of two objects. Allocates nothing.
     pub fn compare_keys(&self, other: &Object) -> Ordering
         ensures { result ≡ key_cmp (key_of self.now) (key_of other.now) }
     {

@@ -22,7 +22,7 @@ pub struct Pod {
     pub addrs: List<Ip>,
     /// The ports of its containers.
     pub ports: List<NamedPort>,
-    /// The ports that its HTTP probes ask, each with the path that is asked for.
+    /// The ports and paths of its HTTP probes.
     pub probes: List<(u16, Text)>,
 }
 

@@ -2,7 +2,7 @@ ghost use Rattle.std.specs.Prelude.{◌≡◌, ◌↔◌, IsTrue};
 
 use mesh_base::same::Same;
 
-/// What a server admits where no authorization decides.
+/// What a server admits when no authorization decides.
 #[derive(Clone, Copy, PartialEq, Eq)]
 pub enum Policy {
     AllUnauthenticated,

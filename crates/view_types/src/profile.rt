@@ -9,7 +9,7 @@ use mesh_base::same::Same;
 use mesh_base::text::Text;
 use std::alloc::Global;
 
-/// Which requests a route of a profile is for.
+/// The requests that a route of a profile applies to.
 #[derive(Drop)]
 pub enum ReqMatch {
     Method(Text),
@@ -20,17 +20,17 @@ pub enum ReqMatch {
     Not(Boxed<ReqMatch>),
 }
 
-/// Which responses a class of a profile is for.
+/// The responses that a response class of a profile applies to.
 #[derive(Drop)]
 pub enum RespMatch {
-    /// The least and the greatest status code.
+    /// The lowest and the highest status code.
     Status(u16, u16),
     All(List<RespMatch>),
     Any(List<RespMatch>),
     Not(Boxed<RespMatch>),
 }
 
-/// A class of responses.
+/// A response class.
 #[derive(Drop)]
 pub struct RespClass {
     pub condition: RespMatch,
@@ -48,7 +48,7 @@ pub struct ProfileRoute {
     pub timeout: Option<u64>,
 }
 
-/// Where traffic goes in place of the Service.
+/// A destination of traffic that replaces the Service.
 #[derive(Drop)]
 pub struct Override {
     pub authority: Text,

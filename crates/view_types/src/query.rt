@@ -7,32 +7,32 @@ use mesh_base::text::Text;
 use net_cidr::ip::Ip;
 use std::alloc::Global;
 
-/// What a proxy may subscribe to.
+/// The kinds of subscriptions of a proxy.
 #[derive(Clone, Copy, PartialEq, Eq)]
 pub enum Method {
     Get,
     GetProfile,
     WatchPort,
     Watch,
-    /// As WatchPort, but told what changes of a Server's authorizations.
+    /// As WatchPort, but later messages carry only what changes of a Server's authorizations.
     WatchPort2,
 }
 
-/// Where traffic is to go. A port is from 1 to 65535.
+/// The target of traffic. A port is from 1 to 65535.
 #[derive(Drop, PartialEq, Eq, PartialOrd, Ord, Hash)]
 pub enum Target {
     Service { ns: Text, name: Text, port: u16 },
     Address { ip: Ip, port: u16 },
 }
 
-/// What a client says of itself.
+/// What a client declares about itself.
 #[derive(Drop)]
 pub struct Context {
     pub ns: Option<Text>,
     pub node: Option<Text>,
 }
 
-/// What a subscription asks for.
+/// What a subscription requests.
 pub enum Query {
     Get {
         ns: Text,
@@ -52,7 +52,7 @@ pub enum Query {
     Traffic {
         target: Target,
     },
-    /// As Port, but told what changes of a Server's authorizations.
+    /// As Port, but later messages carry only what changes of a Server's authorizations.
     PortRows {
         ns: Text,
         pod: Text,
@@ -69,7 +69,7 @@ pub struct PodPort {
 }
 
 impl PodPort {
-    /// The query for its policy, which is told whole.
+    /// Returns the query for its policy, which is always sent whole.
     pub fn whole(self) -> Query
         ensures { result ≡ query_whole self }
     {
@@ -77,7 +77,7 @@ impl PodPort {
         Query::Port { ns, pod, port }
     }
 
-    /// The query for its policy, of which is told what changes of a Server's authorizations.
+    /// Returns the query for its policy, sent by what changes of a Server's authorizations.
     pub fn by_rows(self) -> Query
         ensures { result ≡ query_by_rows self }
     {

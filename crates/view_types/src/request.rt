@@ -7,7 +7,7 @@ use mesh_base::text::Text;
 use net_cidr::ip::Ip;
 use std::alloc::Global;
 
-/// How a client is known.
+/// How a client is authenticated.
 #[derive(Drop)]
 pub enum ClientTls {
     Plain,

@@ -9,14 +9,14 @@ use mesh_base::same::Same;
 use mesh_base::text::Text;
 use std::alloc::Global;
 
-/// What a route may be attached to.
+/// The kinds of objects that a route may be attached to.
 #[derive(Clone, Copy, PartialEq, Eq, PartialOrd, Ord)]
 pub enum ParentKind {
     Server,
     Service,
 }
 
-/// What a route is attached to, in its own namespace.
+/// An object that a route is attached to, in the route's own namespace.
 #[derive(Drop)]
 pub struct Parent {
     pub kind: ParentKind,
@@ -32,16 +32,16 @@ pub enum PathMatch {
     Regex(Text),
 }
 
-/// Which header or query part matches.
+/// Which headers or query parameters match.
 #[derive(Drop)]
 pub struct NameMatch {
     pub name: Text,
     pub value: Text,
-    /// The value is a regular expression.
+    /// Whether the value is a regular expression.
     pub regex: bool,
 }
 
-/// Which requests match. All parts have to.
+/// Which requests match: those that match all parts.
 #[derive(Drop)]
 pub struct HttpMatch {
     pub path: PathMatch,
@@ -50,7 +50,7 @@ pub struct HttpMatch {
     pub method: Option<Text>,
 }
 
-/// What is done to a request. It is carried, and not acted on.
+/// A filter of requests. It is passed on, and has no effect here.
 #[derive(Drop)]
 pub enum Filter {
     Headers {
@@ -66,10 +66,10 @@ pub enum Filter {
     },
 }
 
-/// Where requests go.
+/// A destination of requests.
 #[derive(Drop)]
 pub struct BackendRef {
-    /// It refers to a Service.
+    /// Whether it refers to a Service.
     pub service: bool,
     pub ns: Text,
     pub name: Text,
@@ -95,7 +95,7 @@ pub struct Route {
     /// One of the two kinds of routes.
     pub kind: Kind,
     pub meta: Meta,
-    /// Those that count.
+    /// Those that are supported.
     pub parents: List<Parent>,
     pub hosts: List<Text>,
     pub rules: List<Rule>,

@@ -19,7 +19,7 @@ pub enum PortRef {
 #[derive(Drop)]
 pub struct ServerSpec {
     pub meta: Meta,
-    /// None selects no Pod.
+    /// Selects no Pod if None.
     pub pods: Option<Selector>,
     pub port: PortRef,
     pub protocol: Protocol,

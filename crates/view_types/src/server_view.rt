@@ -19,7 +19,7 @@ pub enum AuthzKind {
     AuthorizationPolicy,
 }
 
-/// Whom an authorization admits.
+/// The clients that an authorization admits.
 #[derive(Drop)]
 pub enum Authn {
     Anyone,
@@ -48,7 +48,7 @@ pub struct BackendRow {
     pub name: Text,
     pub port: u16,
     pub weight: u32,
-    /// It isn't a Service, or its Service isn't held.
+    /// Whether it is not a Service, or the Service is not held.
     pub missing: bool,
 }
 
@@ -75,16 +75,16 @@ pub struct RouteRow {
     pub authz: List<AuthzRow>,
 }
 
-/// What holds for a port of a Pod.
+/// The policy of a port of a Pod.
 #[derive(Drop)]
 pub struct ServerRow {
     pub protocol: Protocol,
     pub policy: Policy,
-    /// The name of the Server, where there is one.
+    /// The name of the Server, if there is one.
     pub server: Option<Text>,
     pub authz: List<AuthzRow>,
     pub routes: List<RouteRow>,
-    /// The paths of the Pod's probes on the port, in byte order, each once. There are none where there are
+    /// The paths of the Pod's probes on the port, in byte order, each once. Empty if there are
     /// routes.
     pub probes: List<Text>,
 }
@@ -97,7 +97,7 @@ pub enum ServerView {
 }
 
 impl AuthzKind {
-    /// Its place among the kinds, from 1.
+    /// Returns its number among the kinds, from 1.
     pub fn number(self) -> u8
         ensures { result ≡ authz_number self }
     {
@@ -275,7 +275,7 @@ impl Same for ServerRow {
 }
 
 impl ServerRow {
-    /// Whether nothing but the Server's own authorizations differs.
+    /// Whether the rows differ in the Server's own authorizations alone, or not at all.
     pub fn is_same_but_authz(&self, other: &ServerRow) -> bool
         ensures { IsTrue result ↔ (record (self.now) { authz = other.now.authz } ≡ other.now) }
     {

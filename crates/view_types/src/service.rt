@@ -8,14 +8,14 @@ use mesh_base::text::Text;
 use net_cidr::ip::Ip;
 use std::alloc::Global;
 
-/// A port with a name, of a Service, an EndpointSlice or a container.
+/// A named port of a Service, an EndpointSlice or a container.
 #[derive(Drop)]
 pub struct NamedPort {
-    /// Empty where the port has none.
+    /// Empty if the port has no name.
     pub name: Text,
     /// From 1 to 65535.
     pub port: u16,
-    /// The protocol is TCP.
+    /// Whether the protocol is TCP.
     pub tcp: bool,
 }
 
@@ -23,7 +23,7 @@ pub struct NamedPort {
 #[derive(Drop)]
 pub struct Service {
     pub meta: Meta,
-    /// The type is ExternalName.
+    /// Whether the type is ExternalName.
     pub external: bool,
     /// The cluster IPs, each once.
     pub addrs: List<Ip>,

@@ -9,7 +9,7 @@ use mesh_base::text::Text;
 use net_cidr::ip::Ip;
 use std::alloc::Global;
 
-/// What the addresses of an EndpointSlice are.
+/// The type of the addresses of an EndpointSlice.
 #[derive(Clone, Copy, PartialEq, Eq)]
 pub enum Family {
     V4,

@@ -7,27 +7,27 @@ use mesh_base::memory::Memory;
 use mesh_base::text::Text;
 use std::alloc::Global;
 
-/// What decided on a request.
+/// What decided a request.
 #[derive(Drop)]
 pub enum Decider {
     /// An authorization in the Server's namespace, by its name.
     Authz { kind: AuthzKind, name: Text },
-    /// The policy in force.
+    /// The effective policy.
     Default(Policy),
-    /// A probe of the Pod, by the place of its path, from 0, among the distinct paths of the Pod's probes
-    /// on the port in byte order.
+    /// A probe of the Pod, by the index of its path among the distinct paths of the Pod's probes on
+    /// the port in byte order.
     Probe { place: u64 },
 }
 
-/// What comes of a request to a port of a Pod.
+/// The verdict on a request to a port of a Pod.
 #[derive(Drop)]
 pub enum Verdict {
     Allowed(Decider),
-    /// No authorization admits the client; the decider is the policy in force.
+    /// No authorization admits the client; the decider is the effective policy.
     Denied(Decider),
     /// The Server has routes, and none matches.
     NotFound,
-    /// No such Pod is held.
+    /// There is no such Pod.
     NoWorkload,
 }
 

@@ -9,19 +9,19 @@ use mesh_base::memory::Memory;
 use mesh_base::same::Same;
 use std::alloc::Global;
 
-/// What a query shows of the objects held.
+/// The view of a query over the objects held.
 pub enum View {
     Endpoints(EndpointView),
     Profile(ProfileView),
     Server(ServerView),
     Outbound(OutboundView),
-    /// An inbound view whose subscriber is told what changes of the Server's authorizations. These are in the order of
-    /// their kinds and names, each once.
+    /// An inbound view whose later messages carry only what changes of the Server's authorizations.
+    /// These are in the order of their kinds and names, each once.
     ServerRows(ServerView),
 }
 
 impl View {
-    /// An inbound view, told by its rows; any other stays.
+    /// Converts an inbound view to one that is sent by rows. Any other view is returned as it is.
     pub fn by_rows(self) -> View
         ensures { result ≡ by_rows self }
     {

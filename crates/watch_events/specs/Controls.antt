@@ -1,4 +1,4 @@
--- What a control line says.
+-- The contents of a control line.
 use Rattle.std.specs.Prelude.{ℕ, List, Option, Some, None, Result, Ok, Err, bytes_eq, codes, option_and_then, if◌then◌else◌}
 use Rattle.k8s_meta.specs.Scalars.{number}
 use Rattle.k8s_meta.specs.Spots.{Spot, ◌·◌}
@@ -42,7 +42,7 @@ control_word t =
     if bytes_eq t (codes "simulate") then Some words.Simulate else
     if bytes_eq t (codes "stop") then Some words.Stop else None
 
--- the subscription that a line ends or drains
+-- a line that ends or drains a subscription
 unfoldable pub cancellation_of : Spot → Result Line LineFault
 cancellation_of s = do
   id ← of_query (required (number 0 4294967295) (s · keys.Id))

@@ -1,4 +1,4 @@
--- What a watch event says.
+-- The contents of a watch event.
 use Rattle.std.specs.Prelude.{ℕ, List, Option, Some, None, Result, Ok, Err, bytes_eq, codes, option_and_then, if◌then◌else◌}
 use Rattle.k8s_meta.specs.Spots.{Spot, ◌·◌}
 use Rattle.k8s_meta.specs.Words.{object, required, string_in}
@@ -15,7 +15,7 @@ use Rattle.watch_events.specs.declared.line.Line.TheVariants as lines
 use Rattle.watch_events.specs.declared.line.LineFault.{LineFault}
 use Rattle.watch_events.specs.declared.line.LineFault.TheVariants as faults
 
--- the object is held from now on
+-- puts the object
 unfoldable pub set_of : Spot → Result Line LineFault
 set_of s = do
   o ← of_object (required object (s · keys.Object))
@@ -23,7 +23,7 @@ set_of s = do
   x ← of_object (object_at kind o)
   Ok (lines.Event (events.Set x))
 
--- The object is gone: its name and its namespace alone are read.
+-- Removes the object: only its name and its namespace are read.
 unfoldable pub delete_of : Spot → Result Line LineFault
 delete_of s = do
   o ← of_object (required object (s · keys.Object))
@@ -39,7 +39,7 @@ event_type t =
     if bytes_eq t (codes "BOOKMARK") then Some Bookmark else
     if bytes_eq t (codes "ERROR") then Some Error else None
 
--- A bookmark's object isn't read.
+-- The object of a bookmark is not read.
 abbrev pub event_as : Option EventType → Spot → Result Line LineFault
 event_as None s = Err faults.UnknownType
 event_as (Some Added) s = set_of s

@@ -1,4 +1,4 @@
--- How the fault of a line is written.
+-- The text of the fault of a line.
 use Rattle.std.specs.Prelude.{ℕ, List, [], ◌++◌, codes}
 use Rattle.std.specs.Fmt.{decimal}
 use Rattle.k8s_meta.specs.FaultText.{read_fault_text}

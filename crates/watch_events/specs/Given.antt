@@ -1,4 +1,4 @@
--- What was returned is what the definition gives, unless memory ran out.
+-- The result is that of the definition, unless memory ran out.
 use Rattle.std.specs.Prelude.{◌≡◌, Result, Ok, Err}
 use Rattle.watch_events.specs.declared.line.LineFault.{LineFault}
 use Rattle.watch_events.specs.declared.line.LineFault.TheVariants.{Memory}
@@ -11,7 +11,7 @@ abbrev pub Gives : {A : Type 0} → Result A LineFault → Result A LineFault �
 Gives (Ok x) read = read ≡ Ok x
 Gives (Err fault) read = Fails fault read
 
--- the same of what was returned, as `view` sees it
+-- the same for the result in the view
 abbrev pub GivesAs : {A B : Type 0} → (A → B) → Result A LineFault → Result B LineFault → Type 0
 GivesAs view (Ok x) read = read ≡ Ok (view x)
 GivesAs view (Err fault) read = Fails fault read

@@ -1,4 +1,4 @@
--- The key of an object that is gone: its name and its namespace alone.
+-- The key of a removed object: only its name and its namespace are read.
 use Rattle.std.specs.Prelude.{codes, Result, Ok}
 use Rattle.mesh_base.specs.declared.key.Kind.{Kind}
 use Rattle.mesh_base.specs.declared.key.ObjKey.{ObjKey}

@@ -1,4 +1,4 @@
--- Which kind of object is meant, by the name of a kind and an API group.
+-- Kinds of objects by name and API group.
 use Rattle.std.specs.Prelude.{ℕ, List, [], ◌∷◌, Option, Some, None, Result, codes, unwrap_or, ◌&&◌, if◌then◌else◌}
 use Rattle.std.specs.Option.{ok_or}
 use Rattle.std.specs.Str.{bytes_eq}
@@ -11,7 +11,7 @@ use Rattle.mesh_base.specs.declared.key.Kind.TheVariants.{Pod, Service, Endpoint
 use Rattle.watch_events.specs.declared.line.LineFault.{LineFault}
 use Rattle.watch_events.specs.declared.line.LineFault.TheVariants as faults
 
--- the part of an API version before its first '/', or nothing where there is none
+-- the part of an API version before its first '/', or empty without one
 abbrev pub before_slash : List (List ℕ) → List ℕ
 before_slash (group ∷ version ∷ more) = group
 before_slash _ = []
@@ -19,7 +19,7 @@ before_slash _ = []
 unfoldable pub group_in : List ℕ → List ℕ
 group_in version = before_slash (pieces 47 version)
 
--- the string at a spot, or the empty string where there is none
+-- the string at a spot, or the empty string if there is none
 abbrev pub text_or_empty : Spot → List ℕ
 text_or_empty s = unwrap_or (string_in s.value) []
 
@@ -36,7 +36,7 @@ policy_kind kind =
     if bytes_eq kind (codes "NetworkAuthentication") then Some NetworkAuthentication else
     if bytes_eq kind (codes "HTTPRoute") then Some LinkerdRoute else None
 
--- the kind of this name in this group
+-- the kind with this name in this group
 unfoldable pub kind_named : List ℕ → List ℕ → Option Kind
 kind_named kind group =
     if bytes_eq group (codes "policy.linkerd.io") then policy_kind kind else
@@ -46,6 +46,6 @@ kind_named kind group =
     if bytes_eq kind (codes "ServiceProfile") && bytes_eq group (codes "linkerd.io") then Some ServiceProfile else
     if bytes_eq kind (codes "HTTPRoute") && bytes_eq group (codes "gateway.networking.k8s.io") then Some GatewayRoute else None
 
--- the kind of this name in the group that the value names
+-- the kind with this name in the group of the value
 unfoldable pub kind_of : List ℕ → Spot → Result Kind LineFault
 kind_of name s = ok_or (kind_named name (group_of s)) faults.UnknownKind

@@ -1,4 +1,4 @@
--- What holds of each object and of each line that was read, and applying it requires.
+-- The properties of each object and line that is read, which applying it requires.
 use Rattle.std.specs.Prelude.{◌≡◌, ◌<◌, ℕ, List, Ok, IsUtf8}
 use Rattle.std.specs.List.{AllByRecursion}
 use Rattle.k8s_meta.specs.Given.{GivesOnly}
@@ -28,31 +28,31 @@ IsLawfulOf kind o = IsLawful o × (kind_of o ≡ kind)
 abbrev pub ObjectsAreLawful : Type 0
 ObjectsAreLawful = (kind : Kind) → GivesOnly (IsLawfulOf kind) (object_at kind)
 
--- Its objects are lawful, and a list's are of its kind, no two of them with one key.
+-- Its objects are lawful. Those of a list are of its kind, with distinct keys.
 abbrev pub IsLawfulEvent : Event → Type 0
 IsLawfulEvent (Set object) = IsLawful object
 IsLawfulEvent (Delete key) = Unit {0}
 IsLawfulEvent (Relist kind items) = IsListOf kind items × AllByRecursion IsLawful items
 IsLawfulEvent Bookmark = Unit {0}
 
--- a Service and a port of it: its names are in UTF-8, and the port is within its type
+-- a port of a Service: its names are in UTF-8, and the port is within its type
 pub record IsLawfulServicePort (ns name : List ℕ) (port : ℕ) : Type 0 where
   pub ns_text : IsUtf8 ns
   pub name_text : IsUtf8 name
   pub small : port < 65536
 
--- An address, too, is within its type.
+-- An address is within its type, too.
 abbrev pub IsLawfulTarget : Target → Type 0
 IsLawfulTarget (targets.Service ns name port) = IsLawfulServicePort ns name port
 IsLawfulTarget (targets.Address ip port) = FitsIp ip × (port < 65536)
 
--- What of a query stands in messages. That is nothing of a Pod's port, whose messages tell its Server.
+-- The parts of a query that occur in messages. A query for a port of a Pod has none.
 abbrev pub IsLawfulQuery : Query → Type 0
 IsLawfulQuery (queries.Profile target ctx) = IsLawfulTarget target
 IsLawfulQuery (queries.Traffic target) = IsLawfulTarget target
 IsLawfulQuery _ = Unit {0}
 
--- Of a simulation, the client's address and the port are within their types.
+-- The client's address and the port of a simulation are within their types.
 abbrev pub IsLawfulRequest : Request → Type 0
 IsLawfulRequest request = FitsIp request.client × (request.port < 65536)
 
@@ -62,7 +62,7 @@ IsLawfulLine (lines.Subscribe id query) = IsLawfulQuery query
 IsLawfulLine (lines.Simulate request) = IsLawfulRequest request
 IsLawfulLine _ = Unit {0}
 
--- each line that is read, whatever its length, and each under a limit
+-- each line that is read, both of any length and up to a limit
 abbrev pub TextsAreLawful : Type 0
 TextsAreLawful = (config : Config) (bytes : List ℕ) (line : Line) → text_line config bytes ≡ Ok line → IsLawfulLine line
 

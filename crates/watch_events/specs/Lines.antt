@@ -1,4 +1,4 @@
--- What a line says, or its first fault.
+-- The contents of a line, or its first fault.
 use Rattle.std.specs.Prelude.{ℕ, List, [], Bool, Option, Some, None, Result, Ok, Err, ◌||◌, ◌==◌, option_and_then, if◌then◌else◌}
 use Rattle.std.specs.List.{list_all}
 use Rattle.serde_json.specs.Data.{Data}
@@ -29,7 +29,7 @@ abbrev pub list_as : Option (List ℕ) → Spot → Result Line LineFault
 list_as None s = Err faults.NoForm
 list_as (Some name) s = list_of name s
 
--- a control line, else a watch event, else a list
+-- a control line, or else a watch event, or else a list
 unfoldable pub form_of : Config → Spot → Result Line LineFault
 form_of config s =
     if is_absent (s · keys.Control) then
@@ -48,7 +48,8 @@ json_line config (Some value) = form_of config (line_spot value)
 unfoldable pub text_line : Config → List ℕ → Result Line LineFault
 text_line config bytes = if is_blank bytes then Ok lines.Blank else json_line config (json_of bytes)
 
--- What a row of a feed says, where lines read so. A row is a line, or none for one that is longer than the limit.
+-- The contents of a row of a feed, by those of lines. A row is a line, or none for one that is
+-- longer than the limit.
 abbrev pub row_says : (List ℕ → Result Line LineFault) → Row → Result Line LineFault
 row_says reads None = Err faults.TooLong
 row_says reads (Some bytes) = reads bytes

@@ -20,7 +20,7 @@ use Rattle.view_types.specs.declared.query.Target.{Target}
 use Rattle.view_types.specs.declared.query.Target.TheVariants.{Service, Address}
 use Rattle.watch_events.specs.declared.query.ServicePort.{ServicePort}
 
--- the words for methods
+-- the names of methods
 unfoldable pub method_of : List ℕ → Option Method
 method_of t =
     if bytes_eq t (codes "Get") then Some methods.Get else
@@ -29,7 +29,7 @@ method_of t =
     if bytes_eq t (codes "Watch") then Some methods.Watch else
     if bytes_eq t (codes "WatchPort2") then Some methods.WatchPort2 else None
 
--- An address is no port of a Service.
+-- An address is not a port of a Service.
 abbrev pub service_port : Target → Option ServicePort
 service_port (Service ns name port) = Some (record { ns = ns; name = name; port = port })
 service_port (Address ip port) = None
@@ -73,11 +73,11 @@ port_at q = do
   port ← required (number 1 65535) (q · keys.Port)
   Ok (record { ns = pod.0; pod = pod.1; port = port })
 
--- what holds for it, told whole or by what changes
+-- its policy, sent whole or by what changes
 unfoldable pub policy_at : (PodPort → Query) → Spot → Result Query ReadFault
 policy_at ask q = port_at q >>= λ port. Ok (ask port)
 
--- where traffic to a target goes
+-- the destination of traffic to a target
 unfoldable pub traffic_at : Config → Spot → Result Query ReadFault
 traffic_at config q = do
   target ← required (target_at config) (q · keys.Path)

@@ -27,7 +27,7 @@ pair_from at _ = Err (faults.WrongType at)
 unfoldable pub pair_at : Spot → Result (List ℕ × List ℕ) ReadFault
 pair_at s = list s >>= pair_from s.at
 
--- a fault of an entry is the list's
+-- a fault of an entry is one of the list
 abbrev pub of_entries : {A : Type 0} → List ℕ → Result A ReadFault → Result A ReadFault
 of_entries at (Ok x) = Ok x
 of_entries at (Err fault) = Err (faults.WrongType at)
@@ -47,11 +47,11 @@ http_at h = do
   headers ← pairs_at (h · keys.Headers)
   Ok (record { method = method; path = path; host = host; query = query; headers = headers })
 
--- a string that isn't empty
+-- a string that is not empty
 unfoldable pub identity_at : Spot → Result (List ℕ) ReadFault
 identity_at s = text s >>= λ t. if length t == 0 then Err (faults.BadName s.at) else Ok t
 
--- A client with an identity has TLS, whatever the flag says.
+-- A client with an identity uses TLS, whatever the flag is.
 abbrev pub client_tls : Option (List ℕ) → Bool → ClientTls
 client_tls (Some identity) tls = Identity identity
 client_tls None true = Anonymous

@@ -23,7 +23,7 @@ use mesh_base::sub_id::SubId;
 use view_types::config::Config;
 use view_types::query::{Method, Query};
 
-/// What a control line asks for.
+/// The kind of a control line.
 #[derive(Clone, Copy)]
 pub enum ControlWord {
     Subscribe,
@@ -154,7 +154,7 @@ fn no_word<'a>(line: &'a Place<'a>) -> LineFault
     query_fault(line.member(Key::Control).wrong_type())
 }
 
-/// What a control line says.
+/// Reads a control line.
 pub fn read_control<'a>(config: &Config, line: &'a Place<'a>) -> Result<Line, LineFault>
     ensures { Gives result (control_of config.now (seen line.now)) }
 {

@@ -2,15 +2,15 @@ use mesh_base::key::{Kind, ObjKey};
 use mesh_base::list::List;
 use view_types::object::Object;
 
-/// What a watch event or a list says.
+/// The contents of a watch event or a list.
 #[derive(Drop)]
 pub enum Event {
-    /// The object is held from now on.
+    /// Puts the object.
     Set(Object),
-    /// No object is held at the key from now on.
+    /// Removes the object under the key.
     Delete(ObjKey),
-    /// The items are all objects of the kind, in all namespaces.
+    /// Replaces all objects of the kind, in all namespaces, by the items.
     Relist { kind: Kind, items: List<Object> },
-    /// The watch has come so far.
+    /// The watch has progressed to this point.
     Bookmark,
 }

@@ -11,7 +11,7 @@ pub enum EventType {
     Error,
 }
 
-/// The type that a word names.
+/// Returns the type with this name.
 pub fn event_type(word: &str) -> Option<EventType>
     ensures { result ≡ event_type word.now }
 {

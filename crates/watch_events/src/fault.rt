@@ -4,7 +4,7 @@ ghost use Rattle.watch_events.specs.Reading.{object_fault, query_fault};
 use crate::line::LineFault;
 use k8s_meta::fault::ReadFault;
 
-/// The fault of a line whose object, or whose list, has this fault.
+/// Returns the fault of a line whose object, or whose list, has this fault.
 pub fn object_fault(fault: ReadFault) -> LineFault
     ensures { result ≡ object_fault fault }
 {
@@ -14,7 +14,7 @@ pub fn object_fault(fault: ReadFault) -> LineFault
     }
 }
 
-/// The fault of a control line whose member has this fault.
+/// Returns the fault of a control line whose member has this fault.
 pub fn query_fault(fault: ReadFault) -> LineFault
     ensures { result ≡ query_fault fault }
 {

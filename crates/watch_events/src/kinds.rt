@@ -26,7 +26,7 @@ fn group_in(version: &str) -> &[u8]
     }
 }
 
-/// The string at a place, or the empty string where there is none.
+/// Returns the string at a place, or the empty string if there is none.
 pub fn text_or_empty<'a>(place: &Place<'a>) -> &'a str
     ensures { result.now ≡ text_or_empty (seen place.now) }
 {
@@ -85,7 +85,7 @@ fn kind_named(kind: &[u8], group: &[u8]) -> Option<Kind>
     }
 }
 
-/// The kind of this name in the group that the place names.
+/// Returns the kind with this name in the group at the place.
 #[tactic(auto, unfolding(crate::specs::Kinds::kind_of))]
 pub fn kind_of<'a>(name: &[u8], place: &'a Place<'a>) -> Result<Kind, LineFault>
     ensures { Gives result (kind_of name.now (seen place.now)) }

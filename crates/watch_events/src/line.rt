@@ -9,25 +9,25 @@ use mesh_base::text::Text;
 use view_types::query::Query;
 use view_types::request::Request;
 
-/// What a line says.
+/// The contents of a line.
 #[derive(Drop)]
 pub enum Line {
-    /// Spaces, tabs and carriage returns alone, or nothing.
+    /// Only spaces, tabs and carriage returns, or nothing.
     Blank,
     Event(Event),
-    /// From now on the query is answered under the number.
+    /// Opens a subscription to the query.
     Subscribe { id: SubId, query: Query },
-    /// The subscription of this number ends.
+    /// Ends the subscription.
     Cancel { id: SubId },
-    /// The subscriber of this number is sent what has changed for it.
+    /// Sends the subscriber what has changed in its view.
     Drain { id: SubId },
-    /// What comes of the request is to be told.
+    /// Requests the verdict on the request.
     Simulate(Request),
-    /// The program is to end.
+    /// Ends the program.
     Stop,
 }
 
-/// Why a line doesn't read.
+/// Why a line cannot be read.
 #[derive(Debug, Drop)]
 pub enum LineFault {
     Memory,
@@ -36,17 +36,17 @@ pub enum LineFault {
     NotJson,
     /// It is neither a control line nor a watch event nor a list.
     NoForm,
-    /// The type of a watch event is none of the five.
+    /// The type of a watch event is not one of the five.
     UnknownType,
     /// The watch has failed at its source.
     ErrorEvent,
-    /// No kind that is read has this name in this API group.
+    /// No supported kind has this name in this API group.
     UnknownKind,
-    /// Its object, or its list of objects, doesn't read.
+    /// The object, or the list of objects, has a fault.
     Object(ReadFault),
-    /// The item at this place of a list, counted from 0, has the key of an earlier one.
+    /// The item of a list at this index has the key of an earlier one.
     RepeatedItem { place: u64 },
-    /// The member of a control line is absent, or its value isn't accepted there.
+    /// The member of a control line is absent, or its value is not accepted there.
     BadQuery { path: Text },
 }
 

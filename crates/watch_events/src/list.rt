@@ -21,7 +21,7 @@ use std::alloc::Global;
 use std::collections::BTreeSet;
 use view_types::object::Object;
 
-/// The name of the kind that a list's kind, as `ServiceList`, is of.
+/// Returns the name of the kind of the items of a list, whose own kind is such as `ServiceList`.
 pub fn item_kind(kind: &str) -> Option<&[u8]>
     ensures { option_map (λ name. name.now) result ≡ item_kind kind.now }
 {
@@ -37,7 +37,7 @@ fn read_items<'a>(kind: Kind, list: &'a Place<'a>) -> Result<List<Object>, LineF
     }
 }
 
-// The first place whose key stands earlier.
+// Returns the index of the first item with the key of an earlier one.
 fn repeated(alloc: Global, items: &[Object]) -> Result<Option<usize>, Memory>
     ensures { IfOk result (λ place. place ≡ repeated items.now) }
 {
@@ -61,7 +61,7 @@ fn unless_repeated(kind: Kind, items: List<Object>, place: Option<usize>) -> Res
     }
 }
 
-/// What a list says, whose items are of the kind of this name.
+/// Reads a list with items of the kind with this name.
 #[tactic(auto, unfolding(crate::specs::Reading::then, crate::specs::ListLines::list_of))]
 pub fn read_list<'a>(name: &[u8], list: &'a Place<'a>) -> Result<Line, LineFault>
     ensures { Gives result (list_of name.now (seen list.now)) }

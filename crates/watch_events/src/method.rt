@@ -4,7 +4,7 @@ ghost use Rattle.watch_events.specs.Queries.{method_of};
 use k8s_meta::choice::Word;
 use view_types::query::Method;
 
-/// The method of this name.
+/// Returns the method with this name.
 #[tactic(auto, unfolding(crate::specs::Queries::method_of))]
 pub fn method_of(word: &str) -> Option<Method>
     ensures { result ≡ method_of word.now }
@@ -24,7 +24,7 @@ pub fn method_of(word: &str) -> Option<Method>
     }
 }
 
-/// The words for methods.
+/// The names of methods.
 #[derive(Clone, Copy)]
 pub(crate) struct MethodWord;
 

@@ -36,7 +36,7 @@ impl Reader for ObjectOf {
     }
 }
 
-/// The object at a place, as one of the kind.
+/// Reads the object at a place, as one of the kind.
 #[tactic(auto, unfolding(k8s_meta::specs::Spots::then, crate::specs::Objects::object_at))]
 pub fn read_object<'a>(kind: Kind, place: &'a Place<'a>) -> Result<Object, ReadFault>
     ensures { Reads result (object_at kind (seen place.now)) }
@@ -90,7 +90,7 @@ pub fn read_object<'a>(kind: Kind, place: &'a Place<'a>) -> Result<Object, ReadF
     }
 }
 
-/// The key of the object at a place: its name and its namespace alone are read.
+/// Reads the key of the object at a place: only its name and its namespace.
 #[tactic(auto, unfolding(k8s_meta::specs::Spots::then, crate::specs::Keys::key_at))]
 pub fn read_key<'a>(kind: Kind, object: &'a Place<'a>) -> Result<ObjKey, ReadFault>
     ensures { Reads result (key_at kind (seen object.now)) }

@@ -29,7 +29,7 @@ pub struct ServicePort {
     pub port: u16,
 }
 
-/// What a string leads to, if it is a target.
+/// Parses a target. None if the string is not one.
 fn target_of(alloc: Global, config: &Config, text: &str) -> Result<Option<Target>, Memory>
     ensures { IfOk result (λ target. target ≡ target_of config.now text.now) }
 {
@@ -40,7 +40,7 @@ fn target_of(alloc: Global, config: &Config, text: &str) -> Result<Option<Target
     }
 }
 
-/// The namespace and the name of the Pod that a string names, if it is a workload.
+/// Parses a workload: the namespace and the name of a Pod. None if the string is not one.
 fn workload_of(alloc: Global, text: &str) -> Result<Option<(Text, Text)>, Memory>
     ensures { IfOk result (λ pod. pod ≡ workload_of text.now) }
 {
@@ -113,7 +113,7 @@ impl Reader for Workload {
     }
 }
 
-/// What a client says of itself.
+/// What a client declares about itself.
 #[derive(Clone, Copy)]
 struct ContextToken;
 
@@ -129,7 +129,7 @@ impl Reader for ContextToken {
     }
 }
 
-/// What a query's client says of itself, if it does.
+/// Reads what the client of a query declares about itself, if anything.
 fn read_client<'a>(query: &'a Place<'a>) -> Result<Context, ReadFault>
     ensures { Reads result (default no_context context_at ((seen query.now) · keys.Token)) }
 {
@@ -140,7 +140,7 @@ fn read_client<'a>(query: &'a Place<'a>) -> Result<Context, ReadFault>
     query.default(Key::Token, &ContextToken, none)
 }
 
-/// The profile of a target, as a query asks for it.
+/// Reads a query for the profile of a target.
 #[tactic(auto, unfolding(k8s_meta::specs::Spots::then, crate::specs::Queries::profile_at))]
 pub fn read_profile<'a>(config: &Config, query: &'a Place<'a>) -> Result<Query, ReadFault>
     ensures { Reads result (profile_at config.now (seen query.now)) }
@@ -150,7 +150,7 @@ pub fn read_profile<'a>(config: &Config, query: &'a Place<'a>) -> Result<Query, 
     Ok(Query::Profile { target, ctx })
 }
 
-/// The endpoints of a port of a Service, as a query asks for them.
+/// Reads a query for the endpoints of a port of a Service.
 #[tactic(auto, unfolding(k8s_meta::specs::Spots::then, crate::specs::Queries::get_at))]
 pub fn read_get<'a>(config: &Config, query: &'a Place<'a>) -> Result<Query, ReadFault>
     ensures { Reads result (get_at config.now (seen query.now)) }
@@ -165,7 +165,7 @@ pub fn read_get<'a>(config: &Config, query: &'a Place<'a>) -> Result<Query, Read
     })
 }
 
-/// A port of a Pod.
+/// Reads a port of a Pod.
 #[tactic(auto, unfolding(k8s_meta::specs::Spots::then, crate::specs::Queries::port_at))]
 fn port_at<'a>(query: &'a Place<'a>) -> Result<PodPort, ReadFault>
     ensures { Reads result (port_at (seen query.now)) }
@@ -175,7 +175,7 @@ fn port_at<'a>(query: &'a Place<'a>) -> Result<PodPort, ReadFault>
     Ok(PodPort { ns, pod, port })
 }
 
-/// What holds for a port of a Pod, as a query asks for it.
+/// Reads a query for the policy of a port of a Pod.
 #[tactic(auto, unfolding(k8s_meta::specs::Spots::then, crate::specs::Queries::policy_at))]
 pub fn read_port<'a>(query: &'a Place<'a>) -> Result<Query, ReadFault>
     ensures { Reads result (policy_at query_whole (seen query.now)) }
@@ -184,7 +184,7 @@ pub fn read_port<'a>(query: &'a Place<'a>) -> Result<Query, ReadFault>
     Ok(port.whole())
 }
 
-/// The same, as a query asks for it that is to be told what changes.
+/// Reads the same query with messages that carry what changes.
 #[tactic(auto, unfolding(k8s_meta::specs::Spots::then, crate::specs::Queries::policy_at))]
 pub fn read_port_rows<'a>(query: &'a Place<'a>) -> Result<Query, ReadFault>
     ensures { Reads result (policy_at query_by_rows (seen query.now)) }
@@ -193,7 +193,7 @@ pub fn read_port_rows<'a>(query: &'a Place<'a>) -> Result<Query, ReadFault>
     Ok(port.by_rows())
 }
 
-/// Where traffic to a target goes, as a query asks for it.
+/// Reads a query for the destination of traffic to a target.
 #[tactic(auto, unfolding(k8s_meta::specs::Spots::then, crate::specs::Queries::traffic_at))]
 pub fn read_traffic<'a>(config: &Config, query: &'a Place<'a>) -> Result<Query, ReadFault>
     ensures { Reads result (traffic_at config.now (seen query.now)) }

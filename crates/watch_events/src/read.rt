@@ -82,7 +82,7 @@ fn read_here(alloc: Global, row: Option<&[u8]>, config: &Config) -> Result<Line,
     }
 }
 
-/// What a row says, or the first fault. A row is a line, or none for one that is longer than the limit.
+/// Reads a row: a line, or None for one that is longer than the limit. Returns its first fault.
 pub fn read_row(alloc: Global, row: Option<&[u8]>, config: &Config) -> Result<Line, LineFault>
     ensures value { Gives result (row_says (text_line config.now) (option_copied row.entry)) }
     ensures lawful { IfOk result IsLawfulLine }
@@ -101,7 +101,7 @@ fn row_of<'a>(line: &'a [u8], limits: &Limits) -> Option<&'a [u8]>
     }
 }
 
-/// What the bytes of a line say, or the first fault.
+/// Reads a line. Returns its first fault.
 pub fn read_line(
     alloc: Global,
     line: &[u8],

@@ -31,7 +31,7 @@ impl Reader for Pair {
     }
 }
 
-/// The two strings, where the items are two.
+/// Returns the two strings, if there are two items.
 #[tactic(auto, unfolding(k8s_meta::specs::Spots::then))]
 fn pair_of<'a>(place: &'a Place<'a>, items: &'a [Value]) -> Result<(Text, Text), ReadFault>
     ensures { Reads result (pair_from (seen place.now).at (items_view items.now)) }
@@ -44,7 +44,7 @@ fn pair_of<'a>(place: &'a Place<'a>, items: &'a [Value]) -> Result<(Text, Text),
     Ok((name, value))
 }
 
-/// The headers of a request. A fault names the list of them, not the entry.
+/// Reads the headers of a request. A fault is at the list, not at an entry.
 #[tactic(auto, unfolding(crate::specs::Simulations::pairs_at))]
 fn read_headers<'a>(http: &'a Place<'a>) -> Result<List<(Text, Text)>, ReadFault>
     ensures { Reads result (pairs_at ((seen http.now) · keys.Headers)) }
@@ -83,7 +83,7 @@ impl Reader for HttpPart {
     }
 }
 
-/// The name that a client's certificate says, which isn't empty.
+/// The name in a client's certificate, which is not empty.
 #[derive(Clone, Copy)]
 struct ClientName;
 
@@ -117,7 +117,7 @@ fn client_tls(identity: Option<Text>, tls: bool) -> ClientTls
     }
 }
 
-/// The request that a control line simulates.
+/// Reads the request that a control line simulates.
 #[tactic(auto, unfolding(k8s_meta::specs::Spots::then, crate::specs::Simulations::request_at))]
 pub fn read_request<'a>(line: &'a Place<'a>) -> Result<Request, ReadFault>
     ensures { Reads result (request_at (seen line.now)) }

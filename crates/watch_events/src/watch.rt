@@ -20,7 +20,7 @@ use k8s_meta::place::Place;
 use mesh_base::key::{Kind, ObjKey};
 use view_types::object::Object;
 
-// The object of an event.
+// Returns the object of an event.
 fn object_in<'a>(event: &'a Place<'a>) -> Result<Place<'a>, LineFault>
     ensures { GivesAs seen result (of_object (required object ((seen event.now) · keys.Object))) }
 {
@@ -84,7 +84,7 @@ fn type_of<'a>(event: &'a Place<'a>) -> Option<EventType>
     }
 }
 
-/// What a watch event says.
+/// Reads a watch event.
 pub fn read_event<'a>(event: &'a Place<'a>) -> Result<Line, LineFault>
     ensures { Gives result (event_of (seen event.now)) }
 {
