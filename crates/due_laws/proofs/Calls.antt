@@ -18,7 +18,7 @@ use Rattle.feed_history.specs.Marks.{MarkedRow}
 use Rattle.feed_history.specs.Program.{Program}
 use Rattle.feed_history.specs.declared.refusal.HubFault.{HubFault}
 use Rattle.feed_history.specs.declared.refusal.Refusal.TheVariants as refusals
-use Rattle.feed_history.specs.Live.{IsLiveByTheLast}
+use Rattle.feed_history.specs.Live.{LastLineDecidesLive}
 use Rattle.subscriptions.specs.Live.{LiveSubscription, query_at}
 use Rattle.mesh_hub.specs.HubAfter.{seen, seen_sub}
 use Rattle.mesh_hub.proofs.Calls.{after_alike, are_older, leads_here, number_in, program, read_alike, reads_lawfully, reads_of, rows_of, same_number}
@@ -43,7 +43,7 @@ unless : (b before : Bool) → (not b && before) ≡ cond b false before
 unless true before = refl
 unless false before = refl
 
-module _ (config : Config) (limits : Limits) (live : (p : Program) → IsLiveByTheLast p) (after_rows : (p : Program) → DueAfterRows p) (due_live : (p : Program) → DueAreLive p) where
+module _ (config : Config) (limits : Limits) (live : (p : Program) → LastLineDecidesLive p) (after_rows : (p : Program) → DueAfterRows p) (due_live : (p : Program) → DueAreLive p) where
   -- who is due depends on what the rows say alone
   due_alike : (one other : List ℕ → Result Line LineFault) (rows : List MarkedRow) → AllByRecursion (λ (row : MarkedRow). row_says one row.0 ≡ row_says other row.0) rows
       → (id : ℕ) → is_due (program config limits one) rows id ≡ is_due (program config limits other) rows id
@@ -118,7 +118,7 @@ module _ (config : Config) (limits : Limits) (live : (p : Program) → IsLiveByT
       (due_after config (after (program config limits reads) (rows_of past)) line id (is_due (program config limits reads) (rows_of past) id))) (sym (same_number (length past)))
       ∙ sym (after_rows (program config limits reads) (rows_of past) (Some (length past ∷ []), None) id)
 
-pub calls_are_due_histories : ((p : Program) → IsLiveByTheLast p) → ((p : Program) → DueAfterRows p) → ((p : Program) → DueAreLive p) → CallsAreDueHistories
+pub calls_are_due_histories : ((p : Program) → LastLineDecidesLive p) → ((p : Program) → DueAfterRows p) → ((p : Program) → DueAreLive p) → CallsAreDueHistories
 calls_are_due_histories live after_rows due_live config limits calls lawful = record {
   program = program config limits (reads_of calls);
   past = rows_of calls;

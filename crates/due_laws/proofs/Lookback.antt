@@ -9,7 +9,7 @@ use Rattle.watch_events.specs.declared.line.Line.{Line}
 use Rattle.watch_events.specs.declared.line.Line.TheVariants as lines
 use Rattle.watch_events.specs.declared.line.LineFault.{LineFault}
 use Rattle.feed_history.specs.History.{after, refusal_after}
-use Rattle.feed_history.specs.Live.{IsLiveByTheLast, asked_by, live_at, meets_too_long}
+use Rattle.feed_history.specs.Live.{LastLineDecidesLive, asked_by, live_at, meets_too_long}
 use Rattle.feed_history.specs.LookBack.{last_told}
 use Rattle.feed_history.specs.Marks.{MarkedRow}
 use Rattle.feed_history.specs.Program.{Program, reading}
@@ -25,7 +25,7 @@ taken : (b before : Bool) → last_told None (cond b (Some false) None) before �
 taken true before = refl
 taken false before = refl
 
-changed : (program : Program) → IsLiveByTheLast program → (past : List MarkedRow) (refusal : Option Refusal) (line : Result Line LineFault) (id : ℕ) (before : Bool)
+changed : (program : Program) → LastLineDecidesLive program → (past : List MarkedRow) (refusal : Option Refusal) (line : Result Line LineFault) (id : ℕ) (before : Bool)
     → last_told refusal (due_by program past line id) before ≡ cond (is_some refusal) before (due_after program.config (after program past) line id before)
 changed program live past (Some refusal) line id before = refl
 changed program live past None (Err fault) id before = refl
@@ -39,7 +39,7 @@ changed program live past None (Ok (lines.Subscribe asked query)) id before = ad
 changed program live past None (Ok (lines.Cancel asked)) id before = taken (eqb asked.0 id) before
 changed program live past None (Ok (lines.Drain asked)) id before = taken (eqb asked.0 id) before
 
-pub due_after_rows : (program : Program) → IsLiveByTheLast program → DueAfterRows program
+pub due_after_rows : (program : Program) → LastLineDecidesLive program → DueAfterRows program
 due_after_rows program live past row id = changed program live past (refusal_after program past row) (reading program row) id (is_due program past id)
 
 -- who is due is live

@@ -13,9 +13,9 @@ use Rattle.watch_events.specs.declared.line.LineFault.{LineFault}
 use Rattle.feed_history.specs.Events.{objects_after}
 use Rattle.feed_history.specs.History.{Asked, State, after, after_line, refusal_after}
 use Rattle.feed_history.specs.Ids.{unless_refused}
-use Rattle.feed_history.specs.LastDrain.{IsToldAtLastDrain, drain_in, last_drain}
+use Rattle.feed_history.specs.LastDrain.{LastDrainDecidesShown, drain_in, last_drain}
 use Rattle.feed_history.specs.Lawful.{HeldAreLawful, HeldAtKeys, ReadsLawfully}
-use Rattle.feed_history.specs.Live.{IsLiveByTheLast, asked_by, live_at, meets_too_long}
+use Rattle.feed_history.specs.Live.{LastLineDecidesLive, asked_by, live_at, meets_too_long}
 use Rattle.feed_history.specs.LookBack.{last_told}
 use Rattle.feed_history.specs.Marks.{MarkedRow}
 use Rattle.feed_history.specs.Program.{Program, reading}
@@ -91,7 +91,7 @@ module _ (program : Program) (stay : UntouchedQueriesStay) (id : ℕ) (query : Q
         step_unmoved past (at_keys past) (lawful past) (unmoved past) (row ∷ past) (refusal_after program past row) (reading program row) (row_lawful program reads row) refl live undue
 
 module _ (program : Program) (stay : UntouchedQueriesStay) (reads : ReadsLawfully program) (lawful : HeldAreLawful program) (at_keys : HeldAtKeys program)
-    (live : IsLiveByTheLast program) (told : IsToldAtLastDrain program) where
+    (live : LastLineDecidesLive program) (told : LastDrainDecidesShown program) where
   pub only_due_are_owed : OnlyDueAreOwed program
   only_due_are_owed past id asked found undue =
       ap (view_before program.config asked.query) (told past id asked found)

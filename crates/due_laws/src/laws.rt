@@ -6,7 +6,7 @@ ghost use Rattle.due_laws.specs.Laws.{DueAfterRows, DueAreLive, NeverDrainedAreD
 use batch_laws::laws::same_view_sends_nothing;
 use event_laws::laws::untouched_queries_stay;
 use history_laws::laws::{
-    held_are_lawful, held_at_their_keys, live_is_told_by_the_last, told_at_the_last_drain,
+    held_are_lawful, held_at_their_keys, last_drain_decides_shown, last_line_decides_live,
 };
 
 /// States how each accepted line changes which ids are due: a subscription adds its id, a drain and a cancellation remove theirs, and an
@@ -14,7 +14,7 @@ use history_laws::laws::{
 pub fn due_after_lines()
     ensures { (program : Program) → DueAfterRows program }
 {
-    live_is_told_by_the_last();
+    last_line_decides_live();
 }
 
 /// States that an id that is due is live.
@@ -28,8 +28,8 @@ pub fn only_due_are_owed()
 {
     held_are_lawful();
     held_at_their_keys();
-    live_is_told_by_the_last();
-    told_at_the_last_drain();
+    last_line_decides_live();
+    last_drain_decides_shown();
     untouched_queries_stay();
 }
 
@@ -52,7 +52,7 @@ pub fn only_due_are_sent()
 pub fn calls_are_due_histories()
     ensures { CallsAreDueHistories }
 {
-    live_is_told_by_the_last();
+    last_line_decides_live();
     due_after_lines();
     due_are_live();
 }

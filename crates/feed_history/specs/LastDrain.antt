@@ -24,6 +24,6 @@ abbrev pub last_drain : Program → List MarkedRow → ℕ → Option (List Mark
 last_drain program [] id = None
 last_drain program (row ∷ past) id = last_told (refusal_after program past row) (drain_in (row ∷ past) (reading program row) id) (last_drain program past id)
 
-abbrev pub IsToldAtLastDrain : Program → Type 0
-IsToldAtLastDrain program = (past : List MarkedRow) (id : ℕ) (asked : Asked) → asked_at id (after program past).subs ≡ Some asked
+abbrev pub LastDrainDecidesShown : Program → Type 0
+LastDrainDecidesShown program = (past : List MarkedRow) (id : ℕ) (asked : Asked) → asked_at id (after program past).subs ≡ Some asked
     → asked.told ≡ option_map (λ rows. (after program rows).objects) (last_drain program past id)

@@ -36,8 +36,8 @@ live_at program (row ∷ past) id = last_told (refusal_after program past row) (
 abbrev pub query_at : ℕ → List Asked → Option Query
 query_at id subs = option_map (λ asked. asked.query) (asked_at id subs)
 
-abbrev pub IsLiveByTheLast : Program → Type 0
-IsLiveByTheLast program = (past : List MarkedRow) (id : ℕ) → query_at id (after program past).subs ≡ live_at program past id
+abbrev pub LastLineDecidesLive : Program → Type 0
+LastLineDecidesLive program = (past : List MarkedRow) (id : ℕ) → query_at id (after program past).subs ≡ live_at program past id
 
 -- each id is below those that follow it
 abbrev pub Ascend : List Asked → Type 0

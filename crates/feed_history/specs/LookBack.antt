@@ -41,8 +41,8 @@ abbrev pub held_at : Program → List MarkedRow → ObjKey → Option Object
 held_at program [] key = None
 held_at program (row ∷ past) key = last_told (refusal_after program past row) (told_by (reading program row) key) (held_at program past key)
 
-abbrev pub IsToldByTheLast : Program → Type 0
-IsToldByTheLast program = (past : List MarkedRow) (key : ObjKey) → get (after program past).objects key ≡ held_at program past key
+abbrev pub LastEventDecidesHeld : Program → Type 0
+LastEventDecidesHeld program = (past : List MarkedRow) (key : ObjKey) → get (after program past).objects key ≡ held_at program past key
 
 -- A refused row has no effect: after any later rows, the state is the same without it.
 abbrev pub RefusedChangesNothing : Program → Type 0

@@ -12,7 +12,7 @@ use Rattle.feed_history.specs.Ids.{ended, in_place, unless_refused}
 use Rattle.feed_history.specs.LookBack.{last_told}
 use Rattle.feed_history.specs.Marks.{MarkedRow}
 use Rattle.feed_history.specs.Program.{Program, reading}
-use Rattle.feed_history.specs.LastDrain.{IsToldAtLastDrain, drain_in, last_drain}
+use Rattle.feed_history.specs.LastDrain.{LastDrainDecidesShown, drain_in, last_drain}
 use Rattle.history_laws.proofs.Lives.{IsAbove, IsOrdered, above_last, below, ordered}
 use Rattle.history_laws.proofs.Places.{ended_keeps, found_in_place, found_with, gone, then_at, told_keeps, was_drained}
 
@@ -63,7 +63,7 @@ told_step program now met (Ok (lines.Cancel asked)) None rows id last is here or
 told_step program now met (Ok (lines.Drain asked)) None rows id last is here ordered so_far =
     drained_told program now id last ordered so_far rows asked.0 (ap (λ (state : State). state.objects) here)
 
-pub told_at_last_drain : (program : Program) → IsToldAtLastDrain program
+pub told_at_last_drain : (program : Program) → LastDrainDecidesShown program
 told_at_last_drain program [] id asked found = absurd (cc found)
 told_at_last_drain program (row ∷ past) id asked found =
     told_step program (after program past) row.1 (reading program row) (refusal_after program past row) (row ∷ past) id (last_drain program past id) refl refl (ordered program past) (told_at_last_drain program past id) asked found

@@ -16,7 +16,7 @@ use Rattle.feed_history.specs.declared.refusal.Refusal.TheVariants as refusals
 use Rattle.feed_history.specs.Drains.{unless_too_long}
 use Rattle.feed_history.specs.History.{Asked, State, after, after_line, asked_at, hub_refusal, id_of, refusal_after, refusal_of, told_now, too_long_for}
 use Rattle.feed_history.specs.Ids.{ended, in_place, room_refusal, subscribe_refusal, unless_refused}
-use Rattle.feed_history.specs.Live.{Ascend, IsLiveByTheLast, LastIsGreatest, LiveIdsAscend, accepted_ids, asked_by, greatest, id_accepted, max_with, meets_too_long, query_at}
+use Rattle.feed_history.specs.Live.{Ascend, LastIsGreatest, LastLineDecidesLive, LiveIdsAscend, accepted_ids, asked_by, greatest, id_accepted, max_with, meets_too_long, query_at}
 use Rattle.feed_history.specs.LookBack.{last_told}
 use Rattle.feed_history.specs.Marks.{MarkedRow}
 use Rattle.feed_history.specs.Program.{Program, reading}
@@ -154,7 +154,7 @@ asked_step program now met (Ok (lines.Subscribe asked query)) None id is ordered
 asked_step program now met (Ok (lines.Cancel asked)) None id is ordered = cancelled_query now asked.0 id ordered
 asked_step program now met (Ok (lines.Drain asked)) None id is ordered = drained_query program now asked.0 id ordered
 
-pub live_by_the_last : (program : Program) → IsLiveByTheLast program
+pub live_by_the_last : (program : Program) → LastLineDecidesLive program
 live_by_the_last program [] id = refl
 live_by_the_last program (row ∷ past) id =
     let now = after program past in

@@ -21,7 +21,7 @@ use Rattle.feed_history.specs.declared.refusal.Refusal.{Refusal}
 use Rattle.feed_history.specs.History.{State, refusal_after, after_line, step, after}
 use Rattle.feed_history.specs.Ids.{unless_refused}
 use Rattle.feed_history.specs.Lawful.{ReadsLawfully}
-use Rattle.feed_history.specs.LookBack.{told_by, last_told, IsToldByTheLast, RefusedChangesNothing}
+use Rattle.feed_history.specs.LookBack.{told_by, last_told, LastEventDecidesHeld, RefusedChangesNothing}
 use Rattle.feed_history.specs.Marks.{MarkedRow}
 use Rattle.feed_history.specs.Program.{Program, reading}
 
@@ -58,7 +58,7 @@ row_lawful program reads row = by_row row.0
     by_row None = tt
     by_row (Some bytes) = by_value bytes (program.reads bytes) refl
 
-pub told_by_the_last : (program : Program) → ReadsLawfully program → IsToldByTheLast program
+pub told_by_the_last : (program : Program) → ReadsLawfully program → LastEventDecidesHeld program
 told_by_the_last program reads [] key = get-empty key_cmp key
 told_by_the_last program reads (row ∷ past) key =
     let now = after program past in

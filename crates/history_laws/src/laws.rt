@@ -3,13 +3,13 @@ ghost use Rattle.route_match.specs.Matching.{Pat};
 ghost use Rattle.view_types.specs.Defaults.{usual_config};
 ghost use Rattle.view_types.specs.declared.config.Config.{Config};
 ghost use Rattle.feed_history.specs.Lawful.{HeldAreLawful, HeldAtKeys, QueriesAreLawful, ReadsLawfully};
-ghost use Rattle.feed_history.specs.Live.{IsLiveByTheLast, LastIsGreatest, LiveIdsAscend};
-ghost use Rattle.feed_history.specs.LookBack.{IsToldByTheLast, RefusedChangesNothing};
+ghost use Rattle.feed_history.specs.Live.{LastIsGreatest, LastLineDecidesLive, LiveIdsAscend};
+ghost use Rattle.feed_history.specs.LookBack.{LastEventDecidesHeld, RefusedChangesNothing};
 ghost use Rattle.feed_history.specs.Program.{Program, replay_of};
 ghost use Rattle.feed_history.specs.Sendable.{IsLawfulConfig, MessagesAreSendable, MessagesReadBack};
 ghost use Rattle.feed_history.specs.Deliveries.{DrainWritesWhatIsSent, EndFoldsToView, EndWritesWhatIsSent, FoldsToLastShown, FoldsToView, FoldsToWhatWasShown, SameObjectsSameView};
 ghost use Rattle.feed_history.specs.Simulating.{MarksChangeNothing, SimulationsChangeNothing, UnrisenMarksNone, VerdictsArePolicys};
-ghost use Rattle.feed_history.specs.LastDrain.{IsToldAtLastDrain};
+ghost use Rattle.feed_history.specs.LastDrain.{LastDrainDecidesShown};
 
 use batch_laws::laws::messages_fold;
 use watch_events::laws::lines_are_lawful;
@@ -23,8 +23,8 @@ pub fn replays_read_lawfully()
 }
 
 /// States that the last accepted line about a key decides what is held under it.
-pub fn held_is_told_by_the_last()
-    ensures { (program : Program) → ReadsLawfully program → IsToldByTheLast program }
+pub fn last_event_decides_held()
+    ensures { (program : Program) → ReadsLawfully program → LastEventDecidesHeld program }
 {}
 
 /// States that a refused line changes neither the objects held nor the live subscriptions nor the effect of any later line.
@@ -33,8 +33,8 @@ pub fn refused_changes_nothing()
 {}
 
 /// States that the last accepted line about an id decides which query is live under it.
-pub fn live_is_told_by_the_last()
-    ensures { (program : Program) → IsLiveByTheLast program }
+pub fn last_line_decides_live()
+    ensures { (program : Program) → LastLineDecidesLive program }
 {}
 
 /// States that live ids ascend.
@@ -48,8 +48,8 @@ pub fn the_last_id_is_the_greatest()
 {}
 
 /// States that the objects held when a subscription was last drained are those held at the row of its last accepted drain.
-pub fn told_at_the_last_drain()
-    ensures { (program : Program) → IsToldAtLastDrain program }
+pub fn last_drain_decides_shown()
+    ensures { (program : Program) → LastDrainDecidesShown program }
 {}
 
 /// States that each object that is held is as its reader returns it.

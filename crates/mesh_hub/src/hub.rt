@@ -35,7 +35,7 @@ use shared_endpoints::shared::SharedEndpoints;
 use std::alloc::Global;
 use subscriptions::boxed_view::BoxedView;
 use subscriptions::live::Subscription;
-use subscriptions::queries::asks_for_endpoints;
+use subscriptions::queries::is_for_endpoints;
 use subscriptions::subscribers::Subscribers;
 use view_diff::views::batch;
 use view_rules::laws::views_are_orderly;
@@ -358,7 +358,7 @@ impl Hub {
         let Some(sub) = self.subscribers.get(id) else {
             return Err(HubFault::NoSuchId { id: id.0 });
         };
-        if asks_for_endpoints(&sub.query) {
+        if is_for_endpoints(&sub.query) {
             return self.subscribers.drain(id);
         }
         match self.next_batch(id, sub) {

@@ -23,7 +23,7 @@ pub fn endpoint_key(query: &Query) -> Result<Option<EndpointKey>, Memory>
 }
 
 /// Whether a query is for endpoints.
-pub fn asks_for_endpoints(query: &Query) -> bool
+pub fn is_for_endpoints(query: &Query) -> bool
     ensures { result ≡ is_some (endpoint_key query.now) }
 {
     match query {

@@ -32,8 +32,8 @@ invariant_of-self c =
       stands = λ again. c.drain.ensures.stands self.config self.limits self.store.objects (self.stands again);
     }
 
-pub returns-then-asks_for_endpoints-clause-sends : goal.returns-then-asks_for_endpoints-clause-sends
-returns-then-asks_for_endpoints-clause-sends c = λ sub found.
+pub returns-then-is_for_endpoints-clause-sends : goal.returns-then-is_for_endpoints-clause-sends
+returns-then-is_for_endpoints-clause-sends c = λ sub found.
     let self = c.args.self.now in
     let stands = self.stands c.requires.going in
     let here : sub_at c.args.id.0 (subs_of (ghosts.shown_to self.subscribers.endpoints) self.subscribers.live.subs) ≡ Some sub = ap (sub_at c.args.id.0) (sym (going_live self.spent self.subscribers c.requires.going)) ∙ found in
@@ -46,7 +46,7 @@ returns-then-asks_for_endpoints-clause-sends c = λ sub found.
     }
 
 pub next_batch-requires-clause-other : goal.next_batch-requires-clause-other
-next_batch-requires-clause-other c = ap (λ (s : LiveSubscription). endpoint_key s.query) (sym c.sub.view_is) ∙ none_of (endpoint_key c.sub.inside.query) (sym c.if-asks_for_endpoints.ensures)
+next_batch-requires-clause-other c = ap (λ (s : LiveSubscription). endpoint_key s.query) (sym c.sub.view_is) ∙ none_of (endpoint_key c.sub.inside.query) (sym c.if-is_for_endpoints.ensures)
 
 pub invariant_of-self-in-Ok : goal.invariant_of-self-in-Ok
 invariant_of-self-in-Ok c =
@@ -67,7 +67,7 @@ returns-in-Ok-clause-sends c = λ sub found.
     let self = c.args.self.now in
     let shown = ghosts.shown_to self.subscribers.endpoints in
     let here : sub_at c.args.id.0 (subs_of shown self.subscribers.live.subs) ≡ Some sub = ap (sub_at c.args.id.0) (sym (going_live self.spent self.subscribers c.requires.going)) ∙ found in
-    let same : c.in-Some.sub.now ≡ sub = plain_found shown c.args.id.0 self.subscribers.live.subs c.in-Some.sub.now (sym c.in-Some.ensures) (ap (λ (s : LiveSubscription). endpoint_key s.query) (sym c.sub.view_is) ∙ none_of (endpoint_key c.sub.inside.query) (sym c.if-asks_for_endpoints.ensures)) sub here in
+    let same : c.in-Some.sub.now ≡ sub = plain_found shown c.args.id.0 self.subscribers.live.subs c.in-Some.sub.now (sym c.in-Some.ensures) (ap (λ (s : LiveSubscription). endpoint_key s.query) (sym c.sub.view_is) ∙ none_of (endpoint_key c.sub.inside.query) (sym c.if-is_for_endpoints.ensures)) sub here in
     let view : c.in-Ok.view ≡ view_of self.config self.store.objects sub.query = c.in-Ok.ensures.view ∙ ap (λ (s : LiveSubscription). view_of self.config self.store.objects s.query) same in
     let subs : live_in self.spent c.show.new.self ≡ in_place id_of c.args.id.0 (shown_in_place (view_of self.config self.store.objects sub.query)) (live_in self.spent self.subscribers) =
     going_live self.spent c.show.new.self c.requires.going ∙ c.show.ensures.shown
@@ -83,7 +83,7 @@ returns-in-Err-clause-sends c = λ sub found.
     let self = c.args.self.now in
     let shown = ghosts.shown_to self.subscribers.endpoints in
     let here : sub_at c.args.id.0 (subs_of shown self.subscribers.live.subs) ≡ Some sub = ap (sub_at c.args.id.0) (sym (going_live self.spent self.subscribers c.requires.going)) ∙ found in
-    let same : c.in-Some.sub.now ≡ sub = plain_found shown c.args.id.0 self.subscribers.live.subs c.in-Some.sub.now (sym c.in-Some.ensures) (ap (λ (s : LiveSubscription). endpoint_key s.query) (sym c.sub.view_is) ∙ none_of (endpoint_key c.sub.inside.query) (sym c.if-asks_for_endpoints.ensures)) sub here in
+    let same : c.in-Some.sub.now ≡ sub = plain_found shown c.args.id.0 self.subscribers.live.subs c.in-Some.sub.now (sym c.in-Some.ensures) (ap (λ (s : LiveSubscription). endpoint_key s.query) (sym c.sub.view_is) ∙ none_of (endpoint_key c.sub.inside.query) (sym c.if-is_for_endpoints.ensures)) sub here in
     record {
       answer = subst (λ (s : LiveSubscription). IsOrMemory (frames_within self.limits.message (messages_for (state_of self) s)) (Err c.in-Err.fault)) same c.in-Err.ensures;
       state = refl;
