@@ -5,8 +5,8 @@
 #![tactic(auto)]
 
 #[cfg(test)]
-mod asks;
-#[cfg(test)]
 mod matches;
 #[cfg(test)]
 mod patterns;
+#[cfg(test)]
+mod requests;

@@ -1,4 +1,4 @@
-mod AskRound
 mod QueryRound
+mod RequestRound
 mod TargetTexts
 mod TextBytes

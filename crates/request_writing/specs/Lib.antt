@@ -1,4 +1,4 @@
-pub mod Asks
 pub mod Meanings
 pub mod Queries
+pub mod Requests
 pub mod Sendable

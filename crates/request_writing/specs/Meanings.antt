@@ -12,16 +12,16 @@ use Rattle.view_types.specs.declared.query.Target.TheVariants.{Address}
 use Rattle.proxy_proto.specs.declared.fault.ProtoFault.{ProtoFault}
 use Rattle.proxy_proto.specs.declared.fault.ProtoFault.TheVariants.{Range}
 use Rattle.proxy_proto.specs.RequestReading.{asked_of, endpoints_query, port_of, profile_query, traffic_query}
-use Rattle.request_writing.specs.declared.ask.Ask.{Ask}
-use Rattle.request_writing.specs.declared.ask.Ask.TheVariants.{Get, GetProfile, WatchPort, Watch, WatchPort2}
-use Rattle.request_writing.specs.declared.ask.PortSpec.{PortSpec}
-use Rattle.request_writing.specs.declared.ask.TrafficSpec.TheVariants.{Addr, Authority}
+use Rattle.request_writing.specs.declared.request.ClientRequest.{ClientRequest}
+use Rattle.request_writing.specs.declared.request.ClientRequest.TheVariants.{Get, GetProfile, WatchPort, Watch, WatchPort2}
+use Rattle.request_writing.specs.declared.request.PortSpec.{PortSpec}
+use Rattle.request_writing.specs.declared.request.TrafficSpec.TheVariants.{Addr, Authority}
 
 -- The port 0 is a fault of the message, which is found before a fault of the workload.
 abbrev pub port_meaning : (PodPort → Query) → PortSpec → Result Query ProtoFault
 port_meaning ask spec = if spec.port == 0 then Err (Range 2) else asked_of ask (port_of (workload_of spec.workload) spec.port)
 
-abbrev pub meaning : Config → Ask → Result Query ProtoFault
+abbrev pub meaning : Config → ClientRequest → Result Query ProtoFault
 meaning config (Get destination) = endpoints_query (target_of config destination.path) (context_of destination.token)
 meaning config (GetProfile destination) = profile_query (target_of config destination.path) (context_of destination.token)
 meaning config (WatchPort spec) = port_meaning query_whole spec

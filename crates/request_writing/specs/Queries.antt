@@ -14,10 +14,10 @@ use Rattle.view_types.specs.declared.query.Query.{Query}
 use Rattle.view_types.specs.declared.query.Query.TheVariants as query
 use Rattle.view_types.specs.declared.query.Target.{Target}
 use Rattle.view_types.specs.declared.query.Target.TheVariants.{Service, Address}
-use Rattle.request_writing.specs.declared.ask.Ask.{Ask}
-use Rattle.request_writing.specs.declared.ask.Ask.TheVariants.{Get, GetProfile, WatchPort, Watch, WatchPort2}
-use Rattle.request_writing.specs.declared.ask.TrafficSpec.{TrafficSpec}
-use Rattle.request_writing.specs.declared.ask.TrafficSpec.TheVariants.{Addr, Authority}
+use Rattle.request_writing.specs.declared.request.ClientRequest.{ClientRequest}
+use Rattle.request_writing.specs.declared.request.ClientRequest.TheVariants.{Get, GetProfile, WatchPort, Watch, WatchPort2}
+use Rattle.request_writing.specs.declared.request.TrafficSpec.{TrafficSpec}
+use Rattle.request_writing.specs.declared.request.TrafficSpec.TheVariants.{Addr, Authority}
 
 -- ---- strings
 
@@ -37,12 +37,12 @@ traffic_spec config (Address ip port) = Addr ip port
 traffic_spec config (Service ns name port) = Authority (target_text config (Service ns name port))
 
 -- The request for a query, with this context token of the client.
-abbrev pub ask_for : Config → List ℕ → Query → Ask
-ask_for config token (query.Get ns name port ctx) = Get (record { path = target_text config (Service ns name port); token = token })
-ask_for config token (query.Profile target ctx) = GetProfile (record { path = target_text config target; token = token })
-ask_for config token (query.Port ns pod port) = WatchPort (record { workload = workload_text ns pod; port = port })
-ask_for config token (query.Traffic target) = Watch (traffic_spec config target)
-ask_for config token (query.PortRows ns pod port) = WatchPort2 (record { workload = workload_text ns pod; port = port })
+abbrev pub request_for : Config → List ℕ → Query → ClientRequest
+request_for config token (query.Get ns name port ctx) = Get (record { path = target_text config (Service ns name port); token = token })
+request_for config token (query.Profile target ctx) = GetProfile (record { path = target_text config target; token = token })
+request_for config token (query.Port ns pod port) = WatchPort (record { workload = workload_text ns pod; port = port })
+request_for config token (query.Traffic target) = Watch (traffic_spec config target)
+request_for config token (query.PortRows ns pod port) = WatchPort2 (record { workload = workload_text ns pod; port = port })
 
 -- ---- queries that have a request
 
@@ -65,9 +65,9 @@ pub record IsTokenOf (token : List ℕ) (ctx : Context) : Type 0 where
   pub utf8 : IsUtf8 token
   pub says : context_of token ≡ ctx
 
-abbrev pub IsAskable : List ℕ → Query → Type 0
-IsAskable token (query.Get ns name port ctx) = IsTextTarget (Service ns name port) × IsTokenOf token ctx
-IsAskable token (query.Profile target ctx) = IsTextTarget target × IsTokenOf token ctx
-IsAskable token (query.Port ns pod port) = IsTrue (is_name ns) × IsTrue (is_name pod) × IsTextPort port
-IsAskable token (query.Traffic target) = IsTrafficTarget target
-IsAskable token (query.PortRows ns pod port) = IsTrue (is_name ns) × IsTrue (is_name pod) × IsTextPort port
+abbrev pub IsRequestable : List ℕ → Query → Type 0
+IsRequestable token (query.Get ns name port ctx) = IsTextTarget (Service ns name port) × IsTokenOf token ctx
+IsRequestable token (query.Profile target ctx) = IsTextTarget target × IsTokenOf token ctx
+IsRequestable token (query.Port ns pod port) = IsTrue (is_name ns) × IsTrue (is_name pod) × IsTextPort port
+IsRequestable token (query.Traffic target) = IsTrafficTarget target
+IsRequestable token (query.PortRows ns pod port) = IsTrue (is_name ns) × IsTrue (is_name pod) × IsTextPort port

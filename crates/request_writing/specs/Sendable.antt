@@ -2,13 +2,13 @@
 use Rattle.std.specs.Prelude.{◌<◌, ◌^◌, IsUtf8, length}
 use Rattle.k8s_meta.specs.Lawful.{IsPort}
 use Rattle.net_cidr.specs.Texts.{FitsIp}
-use Rattle.request_writing.specs.declared.ask.Ask.{Ask}
-use Rattle.request_writing.specs.declared.ask.Ask.TheVariants.{Get, GetProfile, WatchPort, Watch, WatchPort2}
-use Rattle.request_writing.specs.declared.ask.GetDestination.{GetDestination}
-use Rattle.request_writing.specs.declared.ask.PortSpec.{PortSpec}
-use Rattle.request_writing.specs.declared.ask.TrafficSpec.{TrafficSpec}
-use Rattle.request_writing.specs.declared.ask.TrafficSpec.TheVariants.{Addr, Authority}
-use Rattle.request_writing.specs.Asks.{canonical_ask}
+use Rattle.request_writing.specs.declared.request.ClientRequest.{ClientRequest}
+use Rattle.request_writing.specs.declared.request.ClientRequest.TheVariants.{Get, GetProfile, WatchPort, Watch, WatchPort2}
+use Rattle.request_writing.specs.declared.request.GetDestination.{GetDestination}
+use Rattle.request_writing.specs.declared.request.PortSpec.{PortSpec}
+use Rattle.request_writing.specs.declared.request.TrafficSpec.{TrafficSpec}
+use Rattle.request_writing.specs.declared.request.TrafficSpec.TheVariants.{Addr, Authority}
+use Rattle.request_writing.specs.Requests.{canonical_request}
 
 pub record IsSendableDestination (destination : GetDestination) : Type 0 where
   pub path : IsUtf8 destination.path
@@ -22,13 +22,13 @@ abbrev pub IsSendableTraffic : TrafficSpec → Type 0
 IsSendableTraffic (Addr ip port) = FitsIp ip × IsPort port
 IsSendableTraffic (Authority authority) = IsUtf8 authority
 
-abbrev pub AreSendableContents : Ask → Type 0
+abbrev pub AreSendableContents : ClientRequest → Type 0
 AreSendableContents (Get destination) = IsSendableDestination destination
 AreSendableContents (GetProfile destination) = IsSendableDestination destination
 AreSendableContents (WatchPort spec) = IsSendablePort spec
 AreSendableContents (Watch spec) = IsSendableTraffic spec
 AreSendableContents (WatchPort2 spec) = IsSendablePort spec
 
-pub record IsSendableAsk (ask : Ask) : Type 0 where
-  pub contents : AreSendableContents ask
-  pub short : length (canonical_ask ask) < 2 ^ 64
+pub record IsSendableRequest (request : ClientRequest) : Type 0 where
+  pub contents : AreSendableContents request
+  pub short : length (canonical_request request) < 2 ^ 64

@@ -30,7 +30,7 @@ pub enum TrafficSpec {
 
 /// A request of a client, by the method that answers it.
 #[derive(Drop)]
-pub enum Ask {
+pub enum ClientRequest {
     Get(GetDestination),
     GetProfile(GetDestination),
     WatchPort(PortSpec),

@@ -1,15 +1,15 @@
-//! Asks beside the bytes that `protoc --encode` writes.
+//! Requests, with the bytes that `protoc --encode` writes.
 use mesh_base::text::Text;
 use net_cidr::ip::read_ip;
-use request_writing::ask::{Ask, GetDestination, PortSpec, TrafficSpec};
-use request_writing::writing::write_ask;
+use request_writing::request::{ClientRequest, GetDestination, PortSpec, TrafficSpec};
+use request_writing::writing::write_request;
 use std::alloc::Global;
 use std::test::Fail;
 
-/// An ask, the bytes that `protoc --encode` writes of it, and what the row is about. An ask is a method and the two fields
-/// of its message with `|` between them: a path and a token, a workload and a port, an address and a port; or the one field
-/// `authority`.
-const ASKS: &str =
+/// A request, the bytes that `protoc --encode` writes of it, and the subject of the row. A request is
+/// a method and the two fields of its message with `|` between them: a path and a token, a workload
+/// and a port, an address and a port; or the one field `authority`.
+const REQUESTS: &str =
     r#"Get web.app.svc.cluster.local:8080| => 121e7765622e6170702e7376632e636c75737465722e6c6f63616c3a38303830 : a name
 Get web.app.svc.cluster.local|{"ns":"cli","nodeName":"n0"} => 12197765622e6170702e7376632e636c75737465722e6c6f63616c1a1c7b226e73223a22636c69222c226e6f64654e616d65223a226e30227d : a token
 Get | => empty : nothing
@@ -85,23 +85,23 @@ fn traffic_spec(alloc: Global, given: &str) -> Result<TrafficSpec, Fail> {
     })
 }
 
-fn ask_of(alloc: Global, method: &str, given: &str) -> Result<Ask, Fail> {
+fn request_of(alloc: Global, method: &str, given: &str) -> Result<ClientRequest, Fail> {
     match method {
-        "Get" => Ok(Ask::Get(destination(alloc, given)?)),
-        "GetProfile" => Ok(Ask::GetProfile(destination(alloc, given)?)),
-        "WatchPort" => Ok(Ask::WatchPort(port_spec(alloc, given)?)),
-        "Watch" => Ok(Ask::Watch(traffic_spec(alloc, given)?)),
-        "WatchPort2" => Ok(Ask::WatchPort2(port_spec(alloc, given)?)),
+        "Get" => Ok(ClientRequest::Get(destination(alloc, given)?)),
+        "GetProfile" => Ok(ClientRequest::GetProfile(destination(alloc, given)?)),
+        "WatchPort" => Ok(ClientRequest::WatchPort(port_spec(alloc, given)?)),
+        "Watch" => Ok(ClientRequest::Watch(traffic_spec(alloc, given)?)),
+        "WatchPort2" => Ok(ClientRequest::WatchPort2(port_spec(alloc, given)?)),
         _ => Err(Fail::new("no method has this name")),
     }
 }
 
-/// The ask and the bytes of a row.
+/// The request and the bytes of a row.
 fn parts(row: &str) -> Result<(&str, &str, &str), Fail> {
-    let Some((ask, rest)) = row.split_once(" => ") else {
+    let Some((request, rest)) = row.split_once(" => ") else {
         return Err(Fail::new("a row has no bytes"));
     };
-    let Some((method, given)) = ask.split_once(' ') else {
+    let Some((method, given)) = request.split_once(' ') else {
         return Err(Fail::new("a row has no fields"));
     };
     let Some((hex, _)) = rest.split_once(" : ") else {
@@ -112,8 +112,8 @@ fn parts(row: &str) -> Result<(&str, &str, &str), Fail> {
 
 fn is_written(alloc: Global, row: &str) -> Result<bool, Fail> {
     let (method, given, hex) = parts(row)?;
-    let ask = ask_of(alloc, method, given)?;
-    let bytes = write_ask(alloc, &ask)?;
+    let request = request_of(alloc, method, given)?;
+    let bytes = write_request(alloc, &request)?;
     if hex == "empty" {
         return Ok(bytes.is_empty());
     }
@@ -121,9 +121,9 @@ fn is_written(alloc: Global, row: &str) -> Result<bool, Fail> {
 }
 
 #[test]
-fn asks_are_written_as_by_protoc(rt: HostRuntime) -> Result<(), Fail> {
+fn requests_are_written_as_by_protoc(rt: HostRuntime) -> Result<(), Fail> {
     let alloc = rt.alloc();
-    for row in ASKS.lines() {
+    for row in REQUESTS.lines() {
         assert!(rt; is_written(alloc, row)?, "at {row}");
     }
     Ok(())

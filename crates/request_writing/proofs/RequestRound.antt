@@ -1,4 +1,4 @@
--- What is written of an ask is read back as what it means.
+-- What is written of a request is read back as what it means.
 use Rattle.std.proofs.Common.{◌≡◌, ℕ, zero, suc, ◌+◌, ◌^◌, ◌<◌, ◌≤◌, ◌==◌, Bool, true, false, if◌then◌else◌, List, [], ◌∷◌, length, Option, Some, None, Result, Ok, Err, refl, ap, ◌∙◌, arith, lit<, lit≤}
 use Rattle.std.specs.List.{AllByRecursion}
 use Rattle.std.specs.Str.{IsUtf8}
@@ -36,14 +36,14 @@ use Rattle.message_laws.proofs.Coming.{first_inside, first_short}
 use Rattle.message_laws.proofs.EndpointRound.{address_comes}
 use Rattle.message_laws.proofs.Found.{IsSound, found_text, kept, not_number, not_text, only_number, only_text, recorded, scanned, skip, sound_append, sound_chunk, sound_number, sound_text}
 use Rattle.message_laws.proofs.Passing.{Inner, chosen, pass_number, pass_text, pass_then}
-use Rattle.request_writing.specs.declared.ask.Ask.{Ask}
-use Rattle.request_writing.specs.declared.ask.Ask.TheVariants.{Get, GetProfile, WatchPort, Watch, WatchPort2}
-use Rattle.request_writing.specs.declared.ask.GetDestination.{GetDestination}
-use Rattle.request_writing.specs.declared.ask.PortSpec.{PortSpec}
-use Rattle.request_writing.specs.declared.ask.TrafficSpec.TheVariants.{Addr, Authority}
-use Rattle.request_writing.specs.Asks.{canonical_ask, destination_records, method_of_ask, port_records, traffic_records}
+use Rattle.request_writing.specs.declared.request.ClientRequest.{ClientRequest}
+use Rattle.request_writing.specs.declared.request.ClientRequest.TheVariants.{Get, GetProfile, WatchPort, Watch, WatchPort2}
+use Rattle.request_writing.specs.declared.request.GetDestination.{GetDestination}
+use Rattle.request_writing.specs.declared.request.PortSpec.{PortSpec}
+use Rattle.request_writing.specs.declared.request.TrafficSpec.TheVariants.{Addr, Authority}
+use Rattle.request_writing.specs.Requests.{canonical_request, destination_records, method_of_request, port_records, traffic_records}
 use Rattle.request_writing.specs.Meanings.{meaning, port_meaning}
-use Rattle.request_writing.specs.Sendable.{IsSendableAsk, IsSendableDestination, IsSendablePort}
+use Rattle.request_writing.specs.Sendable.{IsSendableRequest, IsSendableDestination, IsSendablePort}
 
 -- ---- records that are read to their end
 
@@ -181,12 +181,12 @@ authority_back config authority utf8 short =
     to_end schemas.TrafficSpec (λ rs. query_in config method.Watch rs) (chunk 3 authority ∷ []) (traffic_query (target_of config authority)) (sound_chunk 3 authority (lit< tt) (lit< tt), tt) short
     (λ d le. text_chosen (fault_at d) (fields_of schemas.TrafficSpec) 3 authority refl refl utf8) refl
 
--- ---- all asks
+-- ---- all requests
 
-pub ask_back : (config : Config) (ask : Ask) → IsSendableAsk ask → request_of config (method_of_ask ask) (canonical_ask ask) ≡ meaning config ask
-ask_back config (Get destination) fits = get_back destination config fits.contents fits.short
-ask_back config (GetProfile destination) fits = profile_back destination config fits.contents fits.short
-ask_back config (WatchPort spec) fits = whole_back spec fits.contents config fits.short
-ask_back config (Watch (Addr ip port)) fits = addr_back config ip port fits.contents.0 fits.contents.1 fits.short
-ask_back config (Watch (Authority authority)) fits = authority_back config authority fits.contents fits.short
-ask_back config (WatchPort2 spec) fits = rows_back spec fits.contents config fits.short
+pub request_back : (config : Config) (request : ClientRequest) → IsSendableRequest request → request_of config (method_of_request request) (canonical_request request) ≡ meaning config request
+request_back config (Get destination) fits = get_back destination config fits.contents fits.short
+request_back config (GetProfile destination) fits = profile_back destination config fits.contents fits.short
+request_back config (WatchPort spec) fits = whole_back spec fits.contents config fits.short
+request_back config (Watch (Addr ip port)) fits = addr_back config ip port fits.contents.0 fits.contents.1 fits.short
+request_back config (Watch (Authority authority)) fits = authority_back config authority fits.contents fits.short
+request_back config (WatchPort2 spec) fits = rows_back spec fits.contents config fits.short
