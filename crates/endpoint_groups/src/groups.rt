@@ -138,7 +138,8 @@ impl<F: Drop> EndpointGroups<F> {
 
     /// Keeps the encoding of the messages of the group until the rows change. A group without members keeps none.
     pub fn keep(&mut self, number: u64, encoding: F)
-        ensures kept { SetsAt number (with_encoding encoding) self.old.groups.items self.new.groups.items }
+        ensures kept { SetsAt number (with_encoding encoding) self.old.groups.items
+            self.new.groups.items }
         ensures encoded { (encode : Option TheView → Option F) (now : TheView)
             → encode (shown_at self.old.groups.items number now) ≡ Some encoding
             → AreEncoded encode now self.old.groups.items

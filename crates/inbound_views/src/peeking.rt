@@ -32,7 +32,8 @@ impl RowSource for PeekedRows<'_> {
     ghost use Rattle.mark_rules.specs.Rows.{authz_row, server_routes};
 
     ghost stand = { λ s config held.
-        ⟦<InboundViews as KeepsRows>⟧.stand s.views.now config held × (held ≡ s.store.now.objects) };
+        ⟦<InboundViews as KeepsRows>⟧.stand s.views.now config held
+        × (held ≡ s.store.now.objects) };
 
     ghost routes_at = { λ s held key. server_routes held key };
 

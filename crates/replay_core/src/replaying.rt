@@ -43,7 +43,8 @@ impl<H: Machine, P: Patterns, L> LineMachine for Replaying<'_, '_, '_, '_, '_, '
         × (now.patterns.ghost_name ≡ start.patterns.ghost_name)
         × IsOfRun start.config.now start.limits now.config.now now.limits
         × GoOver P.Patterns start.patterns.now now.patterns.now
-        × Stands start.config.now start.limits (known_over P.Patterns start.patterns.now now.patterns.now)
+        × Stands start.config.now start.limits
+        (known_over P.Patterns start.patterns.now now.patterns.now)
         (H.state start.hub.now) (H.state now.hub.now) (H.replies start.hub.now)
         (H.replies now.hub.now) now.live.now now.sent past text refused };
 
@@ -51,14 +52,16 @@ impl<H: Machine, P: Patterns, L> LineMachine for Replaying<'_, '_, '_, '_, '_, '
         × (now.patterns.ghost_name ≡ start.patterns.ghost_name)
         × IsOfRun start.config.now start.limits now.config.now now.limits
         × GoOver P.Patterns start.patterns.now now.patterns.now
-        × Ending start.config.now start.limits (known_over P.Patterns start.patterns.now now.patterns.now)
+        × Ending start.config.now start.limits
+        (known_over P.Patterns start.patterns.now now.patterns.now)
         (H.state start.hub.now) (H.state now.hub.now) (H.replies start.hub.now)
         (H.replies now.hub.now) now.live.now now.sent past text refused };
 
     ghost ended = { λ start now past text refused. (now.hub.ghost_name ≡ start.hub.ghost_name)
         × (now.patterns.ghost_name ≡ start.patterns.ghost_name)
         × GoOver P.Patterns start.patterns.now now.patterns.now
-        × Ended start.config.now start.limits (known_over P.Patterns start.patterns.now now.patterns.now)
+        × Ended start.config.now start.limits
+        (known_over P.Patterns start.patterns.now now.patterns.now)
         (H.state start.hub.now) (H.state now.hub.now) (H.replies start.hub.now)
         (H.replies now.hub.now) past text refused };
 
@@ -67,7 +70,8 @@ impl<H: Machine, P: Patterns, L> LineMachine for Replaying<'_, '_, '_, '_, '_, '
       stood.1,
       stood.2,
       stood.3,
-      ending_none start.config.now start.limits (known_over P.Patterns start.patterns.now now.patterns.now)
+      ending_none start.config.now start.limits
+          (known_over P.Patterns start.patterns.now now.patterns.now)
           (H.state start.hub.now) (H.state now.hub.now) (H.replies start.hub.now)
           (H.replies now.hub.now) now.live.now now.sent past text refused stood.4,
     ) };

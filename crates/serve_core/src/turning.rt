@@ -227,7 +227,8 @@ impl Turning {
     /// Closes each link, in the order of their numbers.
     pub(crate) fn close_all<N: Links>(&mut self, links: &mut N)
         ensures calls { Calls N.Links (Each MayClose) links.old links.new }
-        ensures closes { (tells : TheOption Pat) (refuses : TheOption (TheList ℕ → Bool)) (count : ℕ)
+        ensures closes { (tells : TheOption Pat) (refuses : TheOption (TheList ℕ → Bool))
+            (count : ℕ)
             → TakesPass stop_step (known_of tells refuses count count)
             (N.trace links.old) self.old (Ok tt) (N.trace links.new) self.new }
         ensures none { (n : ℕ) → n < 2 ^ 32 → link_at n (entries_of self.new.kept) ≡ None }
@@ -298,7 +299,8 @@ impl Turning {
         number: u32,
     ) -> Result<(), Memory>
         ensures calls { Calls N.Links (Visit Pass.Reads number) links.old links.new }
-        ensures steps { TakesStep Pass.Reads number (known_over P.Patterns patterns.old patterns.new)
+        ensures steps { TakesStep Pass.Reads number
+            (known_over P.Patterns patterns.old patterns.new)
             (N.trace links.old) self.old result (N.trace links.new) self.new }
         ensures drains { OnOk result (self.new.to_drain ≡ self.old.to_drain) }
         ensures goes_on { GoOver P.Patterns patterns.old patterns.new }
@@ -399,7 +401,8 @@ impl Turning {
     // Subscribes a link, unless the limit on subscriptions is reached. Returns whether it did.
     fn subscribe(&mut self, number: u32, query: Query) -> Result<bool, Memory>
         ensures drains { OnOk result (self.new.to_drain ≡ self.old.to_drain) }
-        ensures subscribes { IfOk result (λ goes. SubscribesBy number query self.old goes self.new) }
+        ensures subscribes { IfOk result (λ goes.
+            SubscribesBy number query self.old goes self.new) }
     {
         match self.hub.subscribe(query)? {
             Some(id) => {

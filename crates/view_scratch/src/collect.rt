@@ -39,7 +39,8 @@ pub(crate) fn rows_of_places<L>(
         rows ≡ flat_map (slice_rows (row_for from.now.config.now from.now.store.now.objects)
         port_name.now) (slices_held from.now.store.now.objects ns.now name.now)) }
     ensures steps { steps.new ≤ steps.old + cost from.now.store.now.objects
-        (SlicesOf ns.now name.now ∷ flat_map pods_of (slices_held from.now.store.now.objects ns.now name.now)) }
+        (SlicesOf ns.now name.now
+        ∷ flat_map pods_of (slices_held from.now.store.now.objects ns.now name.now)) }
 {
     rows_by_marks();
     let keys = slices_of(from.store, ns, name)?;

@@ -38,7 +38,8 @@ pub(crate) struct Mesh {
 impl Endpoint {
     /// Creates the endpoint of a Pod, or of an address and port alone.
     pub(crate) fn of(alloc: Global, config: &Config, pod: Option<&Pod>) -> Result<Endpoint, Memory>
-        ensures { IfOk result (λ endpoint. endpoint ≡ endpoint_of config.now (option_copied pod.entry)) }
+        ensures { IfOk result (λ endpoint.
+            endpoint ≡ endpoint_of config.now (option_copied pod.entry)) }
     {
         match pod {
             Some(pod) => Endpoint::of_pod(alloc, config, pod),

@@ -60,7 +60,8 @@ fn rows_held<L>(
         rows ≡ rows_from (row_for from.now.config.now from.now.store.now.objects)
         (slices_held from.now.store.now.objects ns.now name.now) (option_copied port_name.entry)) }
     ensures steps { steps.new ≤ steps.old + cost from.now.store.now.objects
-        (SlicesOf ns.now name.now ∷ flat_map pods_of (slices_held from.now.store.now.objects ns.now name.now)) }
+        (SlicesOf ns.now name.now
+        ∷ flat_map pods_of (slices_held from.now.store.now.objects ns.now name.now)) }
 {
     match port_name {
         Some(port_name) => first_rows(rows_of_places(from, ns, name, port_name, steps)?),

@@ -42,7 +42,8 @@ pub(crate) fn is_opaque_for(
 
 /// Whether the port is opaque for the Pod of an address, if there is one.
 pub(crate) fn is_opaque_at(alloc: Global, pod: Option<&Pod>, port: u16) -> Result<bool, Memory>
-    ensures { IfOk result (λ opaque. opaque ≡ is_within (pod_ranges (option_copied pod.entry)) port) }
+    ensures { IfOk result (λ opaque.
+        opaque ≡ is_within (pod_ranges (option_copied pod.entry)) port) }
 {
     match pod {
         Some(pod) => is_opaque(alloc, &pod.meta, port),

@@ -193,7 +193,8 @@ pub fn pod_profile(
     ip: Ip,
     port: u16,
 ) -> Result<ProfileView, Memory>
-    ensures { IfOk result (λ view. view ≡ pod_profile config.now (option_copied pod.entry) ip port) }
+    ensures { IfOk result (λ view.
+        view ≡ pod_profile config.now (option_copied pod.entry) ip port) }
 {
     let mut view = ProfileView {
         fqn: Text::from_str(alloc, "")?,
