@@ -13,8 +13,8 @@ use Rattle.view_types.specs.declared.mark.Mark.{Mark}
 use Rattle.endpoint_rows.proofs.Showing.{untold}
 use Rattle.endpoint_rows.specs.Before.{TellsBefore}
 use Rattle.row_table.specs.TableRows.{RowAfter, StandsAt, kept_in}
+use Rattle.row_table.specs.declared.key_numbers.UsedKey.{UsedKey}
 use Rattle.row_table.specs.declared.table_rows.KeptRow.{KeptRow}
-use Rattle.row_table.specs.declared.table_rows.UsedKey.{UsedKey}
 use Rattle.row_table.proofs.Puts.{none_is_not_some}
 use Rattle.endpoint_index.specs.Standing.{Stands, Tells}
 use Rattle.endpoint_index.specs.Still.{view_in}

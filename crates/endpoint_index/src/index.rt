@@ -1,6 +1,5 @@
 // The index of endpoints.
 ghost use Rattle.std.specs.Prelude.{◌≡◌, ◌≤◌, ◌+◌, ℕ, true, false, Some, IsErr, IfOk, OnOk};
-ghost use Rattle.std.specs.BTreeMap as tree;
 ghost use Rattle.std.specs.List.{sum_by};
 ghost use Rattle.std.specs.Option.{option_copied};
 ghost use Rattle.view_diff.specs.Earlier.{IsByAddress};
@@ -12,6 +11,7 @@ ghost use Rattle.mark_rules.specs.Rows.{endpoint_row};
 ghost use Rattle.mark_rules.specs.declared.keys.EndpointKey.{EndpointKey as TheKey};
 ghost use Rattle.endpoint_rows.specs.Before.{TellsBefore};
 ghost use Rattle.row_table.specs.IndexRows.{AreMet, DifferAmong, has_key};
+ghost use Rattle.row_table.specs.KeyNumbers.{used_at};
 ghost use Rattle.row_table.specs.RowLaws.{current_row, numbered_rows};
 ghost use Rattle.row_table.specs.TableRows.{row_at};
 ghost use Rattle.endpoint_index.specs.EndpointKeys.{endpoint_keys_exact};
@@ -232,7 +232,7 @@ impl RowIndex for EndpointIndex {
       row_of = endpoint_row s.rows.rule.config;
       reads = endpoint_reads;
     }) view_in marks_in (Stands s.rows.rule.config) (stands_show s.rows.rule.config) held key
-        (tree.get ⟦<EndpointKey as Ord>⟧.cmp s.rows.table.used key)
+        (used_at ⟦<EndpointKey as Ord>⟧.cmp s.rows.table.used key)
         (row_at ⟦<EndpointKey as Ord>⟧.cmp s.rows.table.used s.rows.table.rows key) (stands key) };
 
     ghost numbered = { λ s held stands. numbered_rows ⟦<EndpointKey as Ord>⟧.cmp

@@ -38,7 +38,6 @@ pub(crate) struct Trial<I> {
 
 impl<I: RowIndex> Trial<I>
 where
-    I::Key: Drop,
     I::Row: Drop,
 {
     pub(crate) fn new(alloc: Global, objects: &'static str, config: Config, index: I) -> Trial<I> {

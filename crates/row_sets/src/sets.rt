@@ -16,7 +16,6 @@ ghost use Rattle.row_sets.specs.Standing.{EntersWithin, Standing, any_met, keys_
 use crate::used_keys::UsedKeys;
 use mark_graph::by_mark::rows_at;
 use mark_graph::sorted_set::SortedSet;
-use mesh_base::copied::Copied;
 use mesh_base::list::List;
 use mesh_base::memory::Memory;
 use mesh_base::steps::Steps;
@@ -30,20 +29,14 @@ use std::collections::BTreeMap;
 /// The rows of an index that ids are open with, each stored once for all ids that have its key.
 /// After Memory the rows are not known, but the keys of the ids are unchanged.
 #[derive(Drop)]
-pub struct RowSets<I: RowIndex + Drop>
-where
-    I::Key: Copied,
-{
+pub struct RowSets<I: RowIndex + Drop> {
     used: UsedKeys<I>,
     /// The keys of each id.
     by_id: BTreeMap<u64, List<I::Key>>,
     alloc: Global,
 }
 
-impl<I: RowIndex + Drop> RowSets<I>
-where
-    I::Key: Copied,
-{
+impl<I: RowIndex + Drop> RowSets<I> {
     /// Creates sets without open ids. The index must have no users.
     pub fn new(alloc: Global, index: I) -> RowSets<I>
         requires { (key : I.Key) → I.users index key ≡ 0 }

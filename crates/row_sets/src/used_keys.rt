@@ -22,20 +22,14 @@ use std::collections::BTreeMap;
 
 /// The keys of an index that have ids, each with its ids. Each is one user of the index.
 #[derive(Drop)]
-pub struct UsedKeys<I: RowIndex + Drop>
-where
-    I::Key: Copied,
-{
+pub struct UsedKeys<I: RowIndex + Drop> {
     pub(crate) index: I,
     /// The ids of each key.
     pub(crate) by_key: BTreeMap<I::Key, SortedSet<u64>>,
     alloc: Global,
 }
 
-impl<I: RowIndex + Drop> UsedKeys<I>
-where
-    I::Key: Copied,
-{
+impl<I: RowIndex + Drop> UsedKeys<I> {
     /// Creates a set without keys that have ids.
     pub(crate) fn new(alloc: Global, index: I) -> UsedKeys<I>
         ensures index { result.index ≡ index }

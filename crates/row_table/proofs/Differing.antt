@@ -6,7 +6,8 @@ use Rattle.std.specs.Ordering.{eq_by_cmp}
 use Rattle.std.specs.declared.cmp.Ordering.{Ordering}
 use Rattle.std.proofs.lemmas.Bool.{false≢true, or_parts}
 use Rattle.row_table.specs.IndexRows.{DifferAmong, has_key}
-use Rattle.row_table.specs.TableRows.{PutsAt, shown_in}
+use Rattle.row_table.specs.KeyNumbers.{PutsAt}
+use Rattle.row_table.specs.TableRows.{shown_in}
 use Rattle.row_table.specs.declared.table_rows.KeptRow.{KeptRow}
 use Rattle.row_table.proofs.Keys.{has_more}
 use Rattle.row_table.proofs.Puts.{put_same}

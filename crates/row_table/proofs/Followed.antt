@@ -20,9 +20,11 @@ use Rattle.mark_graph.specs.RowMarks.{has_row, watches}
 use Rattle.mark_rules.specs.Changes.{Leads}
 use Rattle.mark_rules.specs.Marks.{has_mark, mark_cmp, meets}
 use Rattle.row_table.specs.IndexRows.{AreMet, Filter, KeptShows, KeptStays, has_key}
-use Rattle.row_table.specs.TableRows.{AllStand, AreTied, Follow, KeptFollows, PutsAt, RowAfter, StandsAt, is_among, key_in, marks_of, number_at, row_at, row_of}
+use Rattle.row_table.specs.KeyNumbers.{PutsAt, number_at, used_at}
+use Rattle.row_table.specs.TableRows.{AllStand, AreTied, Follow, KeptFollows, RowAfter, StandsAt, is_among, key_in, marks_of, row_at, row_of}
+use Rattle.row_table.specs.declared.key_numbers.KeyNumbers.{KeyNumbers}
+use Rattle.row_table.specs.declared.key_numbers.UsedKey.{UsedKey}
 use Rattle.row_table.specs.declared.table_rows.KeptRow.{KeptRow}
-use Rattle.row_table.specs.declared.table_rows.UsedKey.{UsedKey}
 use Rattle.row_table.proofs.Keys.{distinct_more, has_more, is_itself, tells}
 use Rattle.row_table.proofs.MarkLists.{meets_back, meets_same, same_any}
 use Rattle.row_table.proofs.Puts.{none_is_not_some, put_here, put_other, some_is}
@@ -71,15 +73,15 @@ module _ {Key Kept : Type 0} (cmp : Key → Key → Ordering) (total : IsTotalOr
       one_stands false k (Some u) (Some o) new met same stands = subst (λ (row : Option (KeptRow Key Kept)). StandsAt keeps after k (Some u) row) (sym same)
           (stands.0, stands.1, stays k o.kept changed held after leads (sym (meets_same (marks_in o.kept) (filter.reads held k) changed (shows held k o.kept stands.2).are_read) ∙ sym met) stands.2)
 
-      pub all_stand : (keys : List Key) (used used_after : BTreeMap Key UsedKey) (old new : BTreeMap ℕ (KeptRow Key Kept)) → used_after ≡ used → AreMet cmp changed (λ k. marks_of marks_in (row_at cmp used old k)) keys
+      pub all_stand : (keys : List Key) (used used_after : KeyNumbers Key) (old new : BTreeMap ℕ (KeptRow Key Kept)) → used_after ≡ used → AreMet cmp changed (λ k. marks_of marks_in (row_at cmp used old k)) keys
           → Follow keeps tells_of changed after (has_key cmp keys) (row_at cmp used old) (row_at cmp used_after new) → AllStand keeps cmp held used old → AllStand keeps cmp after used_after new
       all_stand keys used used_after old new same met follow stand k =
-          subst (λ (u : Option UsedKey). StandsAt keeps after k u (row_at cmp used_after new k)) (sym (ap (λ (m : BTreeMap Key UsedKey). tree.get cmp m k) same))
-          (one_stands (has_key cmp keys k) k (tree.get cmp used k) (row_at cmp used old k) (row_at cmp used_after new k) (met.each k) (follow k) (stand k))
+          subst (λ (u : Option UsedKey). StandsAt keeps after k u (row_at cmp used_after new k)) (sym (ap (λ (m : KeyNumbers Key). used_at cmp m k) same))
+          (one_stands (has_key cmp keys k) k (used_at cmp used k) (row_at cmp used old k) (row_at cmp used_after new k) (met.each k) (follow k) (stand k))
 
   -- ---- the keys of the numbers that are due
 
-  module _ (marks_in : Kept → List Mark) (used : BTreeMap Key UsedKey) (rows : BTreeMap ℕ (KeptRow Key Kept)) (watched : BTreeMap ℕ (BTreeSet Mark)) (next : ℕ) (tied : AreTied cmp marks_in used rows watched next) where
+  module _ (marks_in : Kept → List Mark) (used : KeyNumbers Key) (rows : BTreeMap ℕ (KeptRow Key Kept)) (watched : BTreeMap ℕ (BTreeSet Mark)) (next : ℕ) (tied : AreTied cmp marks_in used rows watched next) where
     -- the keys are those of rows with these numbers
     abbrev pub Among : List ℕ → List Key → Type 0
     Among numbers found = (k : Key) → has_key cmp found k ≡ is_among numbers (number_at cmp used k)

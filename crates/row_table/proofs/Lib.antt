@@ -1,6 +1,7 @@
 mod ByCmp
 mod Differing
 pub mod Followed
+mod KeyNumbers
 pub mod Keys
 pub mod MarkLists
 pub mod Puts

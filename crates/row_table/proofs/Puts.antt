@@ -6,7 +6,7 @@ use Rattle.std.specs.Cmp.{IsTotalOrder}
 use Rattle.std.specs.FinMap.{IsAntisymmetric}
 use Rattle.std.specs.Ordering.{eq_by_cmp}
 use Rattle.std.specs.declared.cmp.Ordering.{Ordering}
-use Rattle.row_table.specs.TableRows.{PutsAt}
+use Rattle.row_table.specs.KeyNumbers.{PutsAt}
 use Rattle.row_table.proofs.Keys.{flipped, is_itself, tells}
 
 -- ---- options

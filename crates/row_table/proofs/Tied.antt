@@ -14,11 +14,13 @@ use Rattle.mark_graph.specs.Moves.{has_after}
 use Rattle.mark_graph.specs.RowMarks.{Rewatches, watches}
 use Rattle.mark_rules.specs.Marks.{has_mark, mark_cmp}
 use Rattle.row_table.specs.MarksAfter.{MarksFollow}
-use Rattle.row_table.specs.TableRows.{AreTied, PutsAt, Rewatched, key_in, marks_of, number_at, number_in, row_at, row_of}
+use Rattle.row_table.specs.KeyNumbers.{PutsAt, number_at, number_in, used_at}
+use Rattle.row_table.specs.TableRows.{AreTied, Rewatched, key_in, marks_of, row_at, row_of}
 use Rattle.row_table.specs.declared.row_rule.MarksAfter.{MarksAfter}
 use Rattle.row_table.specs.declared.row_rule.MarksAfter.TheVariants.{Same, Moved, Other}
+use Rattle.row_table.specs.declared.key_numbers.KeyNumbers.{KeyNumbers}
+use Rattle.row_table.specs.declared.key_numbers.UsedKey.{UsedKey}
 use Rattle.row_table.specs.declared.table_rows.KeptRow.{KeptRow}
-use Rattle.row_table.specs.declared.table_rows.UsedKey.{UsedKey}
 use Rattle.row_table.proofs.Keys.{tells}
 use Rattle.row_table.proofs.Puts.{none_is_not_some, put_here, put_other, put_same, puts, some_is}
 
@@ -36,7 +38,7 @@ module _ {X : Type 0} (n : ℕ) (x : X) (old new : ℕ → X) (put : PutsAt nat_
 module _ {Key Kept : Type 0} (cmp : Key → Key → Ordering) (total : IsTotalOrder cmp) (exact : IsAntisymmetric cmp) (marks_in : Kept → List Mark) where
   -- ---- nothing
 
-  pub tied_empty : (used : BTreeMap Key UsedKey) (rows : BTreeMap ℕ (KeptRow Key Kept)) (watched : BTreeMap ℕ (BTreeSet Mark)) → ((k : Key) → tree.get cmp used k ≡ None) → ((n : ℕ) → tree.get nat_cmp rows n ≡ None)
+  pub tied_empty : (used : KeyNumbers Key) (rows : BTreeMap ℕ (KeptRow Key Kept)) (watched : BTreeMap ℕ (BTreeSet Mark)) → ((k : Key) → used_at cmp used k ≡ None) → ((n : ℕ) → tree.get nat_cmp rows n ≡ None)
       → ((n : ℕ) (mark : Mark) → watches mark_cmp watched n mark ≡ false) → AreTied cmp marks_in used rows watched 0
   tied_empty used rows watched no_keys no_rows idle = record {
     rows_of = λ key n e. none_is_not_some (number_at cmp used key) n (ap number_in (no_keys key)) e;
@@ -47,7 +49,7 @@ module _ {Key Kept : Type 0} (cmp : Key → Key → Ordering) (total : IsTotalOr
 
   -- ---- other counts of users
 
-  pub tied_counted : (old new : BTreeMap Key UsedKey) (rows : BTreeMap ℕ (KeptRow Key Kept)) (watched : BTreeMap ℕ (BTreeSet Mark)) (next : ℕ) → AreTied cmp marks_in old rows watched next
+  pub tied_counted : (old new : KeyNumbers Key) (rows : BTreeMap ℕ (KeptRow Key Kept)) (watched : BTreeMap ℕ (BTreeSet Mark)) (next : ℕ) → AreTied cmp marks_in old rows watched next
       → ((k : Key) → number_at cmp new k ≡ number_at cmp old k) → AreTied cmp marks_in new rows watched next
   tied_counted old new rows watched next tied same = record {
     rows_of = λ key n e. tied.rows_of key n (sym (same key) ∙ e);
@@ -72,7 +74,7 @@ module _ {Key Kept : Type 0} (cmp : Key → Key → Ordering) (total : IsTotalOr
 
   -- ---- what is kept of one row, brought up to a change
 
-  module _ (used : BTreeMap Key UsedKey) (old new : BTreeMap ℕ (KeptRow Key Kept)) (watched after : BTreeMap ℕ (BTreeSet Mark)) (next n : ℕ) (row row_after : KeptRow Key Kept) (tied : AreTied cmp marks_in used old watched next)
+  module _ (used : KeyNumbers Key) (old new : BTreeMap ℕ (KeptRow Key Kept)) (watched after : BTreeMap ℕ (BTreeSet Mark)) (next n : ℕ) (row row_after : KeptRow Key Kept) (tied : AreTied cmp marks_in used old watched next)
       (there : tree.get nat_cmp old n ≡ Some row) (same_key : row_after.key ≡ row.key) (put : PutsAt nat_cmp n (Some row_after) (tree.get nat_cmp old) (tree.get nat_cmp new)) where
     pub keys_stay : (i : ℕ) → key_in (tree.get nat_cmp new i) ≡ key_in (tree.get nat_cmp old i)
     keys_stay = as_before n (Some row_after) (tree.get nat_cmp old) (tree.get nat_cmp new) put key_in (ap Some same_key ∙ ap key_in (sym there))
@@ -120,14 +122,14 @@ module _ {Key Kept : Type 0} (cmp : Key → Key → Ordering) (total : IsTotalOr
 
   -- ---- one row more, or one less
 
-  module _ (used used_after : BTreeMap Key UsedKey) (old new : BTreeMap ℕ (KeptRow Key Kept)) (watched after : BTreeMap ℕ (BTreeSet Mark)) (next : ℕ) (key : Key) (tied : AreTied cmp marks_in used old watched next) where
-    module _ (u : UsedKey) (r : KeptRow Key Kept) (its_number : u.number ≡ next) (its_key : r.key ≡ key) (none : tree.get cmp used key ≡ None)
-        (put : PutsAt cmp key (Some u) (tree.get cmp used) (tree.get cmp used_after)) (put_row : PutsAt nat_cmp next (Some r) (tree.get nat_cmp old) (tree.get nat_cmp new)) where
+  module _ (used used_after : KeyNumbers Key) (old new : BTreeMap ℕ (KeptRow Key Kept)) (watched after : BTreeMap ℕ (BTreeSet Mark)) (next : ℕ) (key : Key) (tied : AreTied cmp marks_in used old watched next) where
+    module _ (u : UsedKey) (r : KeptRow Key Kept) (its_number : u.number ≡ next) (its_key : r.key ≡ key) (none : used_at cmp used key ≡ None)
+        (put : PutsAt cmp key (Some u) (used_at cmp used) (used_at cmp used_after)) (put_row : PutsAt nat_cmp next (Some r) (tree.get nat_cmp old) (tree.get nat_cmp new)) where
       number_here : number_at cmp used_after key ≡ Some next
-      number_here = ap number_in (put_here cmp total exact key (Some u) (tree.get cmp used) (tree.get cmp used_after) put) ∙ ap Some its_number
+      number_here = ap number_in (put_here cmp total exact key (Some u) (used_at cmp used) (used_at cmp used_after) put) ∙ ap Some its_number
 
       number_other : (k : Key) → (k ≡ key → ⊥) → number_at cmp used_after k ≡ number_at cmp used k
-      number_other k ne = ap number_in (put_other cmp total exact key (Some u) (tree.get cmp used) (tree.get cmp used_after) put k ne)
+      number_other k ne = ap number_in (put_other cmp total exact key (Some u) (used_at cmp used) (used_at cmp used_after) put k ne)
 
       row_here : tree.get nat_cmp new next ≡ Some r
       row_here = at_number next (Some r) (tree.get nat_cmp old) (tree.get nat_cmp new) put_row
@@ -182,12 +184,12 @@ module _ {Key Kept : Type 0} (cmp : Key → Key → Ordering) (total : IsTotalOr
               by None e = refl
               by (Some i) e = row_other i (not_next k i e)
 
-    module _ (n : ℕ) (number : number_at cmp used key ≡ Some n) (put : PutsAt cmp key None (tree.get cmp used) (tree.get cmp used_after)) (put_row : PutsAt nat_cmp n None (tree.get nat_cmp old) (tree.get nat_cmp new)) where
+    module _ (n : ℕ) (number : number_at cmp used key ≡ Some n) (put : PutsAt cmp key None (used_at cmp used) (used_at cmp used_after)) (put_row : PutsAt nat_cmp n None (tree.get nat_cmp old) (tree.get nat_cmp new)) where
       gone_key : number_at cmp used_after key ≡ None
-      gone_key = ap number_in (put_here cmp total exact key None (tree.get cmp used) (tree.get cmp used_after) put)
+      gone_key = ap number_in (put_here cmp total exact key None (used_at cmp used) (used_at cmp used_after) put)
 
       left_key : (k : Key) → (k ≡ key → ⊥) → number_at cmp used_after k ≡ number_at cmp used k
-      left_key k ne = ap number_in (put_other cmp total exact key None (tree.get cmp used) (tree.get cmp used_after) put k ne)
+      left_key k ne = ap number_in (put_other cmp total exact key None (used_at cmp used) (used_at cmp used_after) put k ne)
 
       gone_row : tree.get nat_cmp new n ≡ None
       gone_row = at_number n None (tree.get nat_cmp old) (tree.get nat_cmp new) put_row

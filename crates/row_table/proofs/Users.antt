@@ -14,9 +14,11 @@ use Rattle.view_types.specs.Objects.{ObjectMap}
 use Rattle.view_types.specs.declared.mark.Mark.{Mark}
 use Rattle.row_table.specs.IndexRows.{Filter, KeepNumbers, KeptShows, OneLess, OneMore}
 use Rattle.row_table.specs.RowLaws.{own_row}
-use Rattle.row_table.specs.TableRows.{AllStand, AreTied, PutsAt, StandsAt, key_in, kept_in, number_at, number_in, one_less, one_more, row_at, row_of, users_in}
+use Rattle.row_table.specs.KeyNumbers.{PutsAt, number_at, number_in, one_less, one_more, used_at, users_in}
+use Rattle.row_table.specs.TableRows.{AllStand, AreTied, StandsAt, key_in, kept_in, row_at, row_of}
+use Rattle.row_table.specs.declared.key_numbers.KeyNumbers.{KeyNumbers}
+use Rattle.row_table.specs.declared.key_numbers.UsedKey.{UsedKey}
 use Rattle.row_table.specs.declared.table_rows.KeptRow.{KeptRow}
-use Rattle.row_table.specs.declared.table_rows.UsedKey.{UsedKey}
 use Rattle.row_table.proofs.Keys.{tells}
 use Rattle.row_table.proofs.Puts.{none_is_not_some, put_here, put_other, puts, some_is}
 
@@ -40,28 +42,28 @@ users_one_less (Some u) = by (ltb 1 u.users) refl
     by true e = refl
     by false e = let le = ltb-false 1 u.users e in omega (arith, le)
 
-module _ {Key : Type 0} (cmp : Key → Key → Ordering) (total : IsTotalOrder cmp) (exact : IsAntisymmetric cmp) (key : Key) (at : Option UsedKey) (old new : BTreeMap Key UsedKey) (put : PutsAt cmp key at (tree.get cmp old) (tree.get cmp new)) where
-  users_now : (f : ℕ → ℕ) → users_in at ≡ f (users_in (tree.get cmp old key)) → (g : Bool → ℕ → ℕ) → ((n : ℕ) → g true n ≡ f n) → ((n : ℕ) → g false n ≡ n) → (k : Key) → users_in (tree.get cmp new k) ≡ g (eq_by_cmp cmp k key) (users_in (tree.get cmp old k))
-  users_now f is g at_key elsewhere k = elim (tells cmp total exact k key) as (λ _. users_in (tree.get cmp new k) ≡ g (eq_by_cmp cmp k key) (users_in (tree.get cmp old k))) [
-    | inl same ↦ ap (λ k. users_in (tree.get cmp new k)) same.1 ∙ ap users_in (put_here cmp total exact key at (tree.get cmp old) (tree.get cmp new) put) ∙ is
-        ∙ sym (at_key (users_in (tree.get cmp old key))) ∙ (λ i. g (sym same.0 i) (users_in (tree.get cmp old (sym same.1 i))))
-    | inr apart ↦ ap users_in (put_other cmp total exact key at (tree.get cmp old) (tree.get cmp new) put k apart.1) ∙ sym (elsewhere (users_in (tree.get cmp old k))) ∙ ap (λ b. g b (users_in (tree.get cmp old k))) (sym apart.0)
+module _ {Key : Type 0} (cmp : Key → Key → Ordering) (total : IsTotalOrder cmp) (exact : IsAntisymmetric cmp) (key : Key) (at : Option UsedKey) (old new : KeyNumbers Key) (put : PutsAt cmp key at (used_at cmp old) (used_at cmp new)) where
+  users_now : (f : ℕ → ℕ) → users_in at ≡ f (users_in (used_at cmp old key)) → (g : Bool → ℕ → ℕ) → ((n : ℕ) → g true n ≡ f n) → ((n : ℕ) → g false n ≡ n) → (k : Key) → users_in (used_at cmp new k) ≡ g (eq_by_cmp cmp k key) (users_in (used_at cmp old k))
+  users_now f is g at_key elsewhere k = elim (tells cmp total exact k key) as (λ _. users_in (used_at cmp new k) ≡ g (eq_by_cmp cmp k key) (users_in (used_at cmp old k))) [
+    | inl same ↦ ap (λ k. users_in (used_at cmp new k)) same.1 ∙ ap users_in (put_here cmp total exact key at (used_at cmp old) (used_at cmp new) put) ∙ is
+        ∙ sym (at_key (users_in (used_at cmp old key))) ∙ (λ i. g (sym same.0 i) (users_in (used_at cmp old (sym same.1 i))))
+    | inr apart ↦ ap users_in (put_other cmp total exact key at (used_at cmp old) (used_at cmp new) put k apart.1) ∙ sym (elsewhere (users_in (used_at cmp old k))) ∙ ap (λ b. g b (users_in (used_at cmp old k))) (sym apart.0)
   ]
 
-  pub users_more : users_in at ≡ users_in (tree.get cmp old key) + 1 → OneMore cmp key (λ k. users_in (tree.get cmp old k)) (λ k. users_in (tree.get cmp new k))
+  pub users_more : users_in at ≡ users_in (used_at cmp old key) + 1 → OneMore cmp key (λ k. users_in (used_at cmp old k)) (λ k. users_in (used_at cmp new k))
   users_more is = users_now (λ n. n + 1) is (λ b n. n + cond b 1 0) (λ n. refl) (λ n. omega arith)
 
-  pub users_less : users_in at ≡ users_in (tree.get cmp old key) - 1 → OneLess cmp key (λ k. users_in (tree.get cmp old k)) (λ k. users_in (tree.get cmp new k))
+  pub users_less : users_in at ≡ users_in (used_at cmp old key) - 1 → OneLess cmp key (λ k. users_in (used_at cmp old k)) (λ k. users_in (used_at cmp new k))
   users_less is = users_now (λ n. n - 1) is (λ b n. n - cond b 1 0) (λ n. refl) (λ n. omega arith)
 
   pub numbers_kept : ((n : ℕ) → number_at cmp old key ≡ Some n → number_in at ≡ Some n) → KeepNumbers (number_at cmp old) (number_at cmp new)
   numbers_kept same k n e = elim (tells cmp total exact k key) [
-    | inl is ↦ ap (number_at cmp new) is.1 ∙ ap number_in (put_here cmp total exact key at (tree.get cmp old) (tree.get cmp new) put) ∙ same n (ap (number_at cmp old) (sym is.1) ∙ e)
-    | inr apart ↦ ap number_in (put_other cmp total exact key at (tree.get cmp old) (tree.get cmp new) put k apart.1) ∙ e
+    | inl is ↦ ap (number_at cmp new) is.1 ∙ ap number_in (put_here cmp total exact key at (used_at cmp old) (used_at cmp new) put) ∙ same n (ap (number_at cmp old) (sym is.1) ∙ e)
+    | inr apart ↦ ap number_in (put_other cmp total exact key at (used_at cmp old) (used_at cmp new) put k apart.1) ∙ e
   ]
 
   pub number_elsewhere : (k : Key) → eq_by_cmp cmp k key ≡ false → number_at cmp new k ≡ number_at cmp old k
-  number_elsewhere k e = ap number_in (put k ∙ ap (λ b. cond b at (tree.get cmp old k)) e)
+  number_elsewhere k e = ap number_in (put k ∙ ap (λ b. cond b at (used_at cmp old k)) e)
 
 -- ---- rows that stand
 
@@ -91,50 +93,50 @@ module _ {Key Kept : Type 0} (keeps : ObjectMap → Key → Kept → Type 0) (he
   stands_shown filter row_in marks_in shows k (Some u) None stands kept e = absurd stands
   stands_shown filter row_in marks_in shows k (Some u) (Some r) stands kept e = ap row_in (sym (some_is r.kept kept e)) ∙ (shows held k r.kept stands.2).is_filter
 
-  module _ (cmp : Key → Key → Ordering) (total : IsTotalOrder cmp) (exact : IsAntisymmetric cmp) (key : Key) (used used_after : BTreeMap Key UsedKey) where
+  module _ (cmp : Key → Key → Ordering) (total : IsTotalOrder cmp) (exact : IsAntisymmetric cmp) (key : Key) (used used_after : KeyNumbers Key) where
     -- rows stand where that of the key does
-    pub stand_put : (old new : BTreeMap ℕ (KeptRow Key Kept)) (at : Option UsedKey) (row : Option (KeptRow Key Kept)) → PutsAt cmp key at (tree.get cmp used) (tree.get cmp used_after) → PutsAt cmp key row (row_at cmp used old) (row_at cmp used_after new)
-        → (StandsAt keeps held key (tree.get cmp used key) (row_at cmp used old key) → StandsAt keeps held key at row) → AllStand keeps cmp held used old → AllStand keeps cmp held used_after new
-    stand_put old new at row put put_row there all k = elim (tells cmp total exact k key) as (λ _. StandsAt keeps held k (tree.get cmp used_after k) (row_at cmp used_after new k)) [
-      | inl same ↦ subst (λ (k : Key). StandsAt keeps held k (tree.get cmp used_after k) (row_at cmp used_after new k)) (sym same.1)
-          (stands_by key (tree.get cmp used_after key) at (row_at cmp used_after new key) row (put_here cmp total exact key at (tree.get cmp used) (tree.get cmp used_after) put)
+    pub stand_put : (old new : BTreeMap ℕ (KeptRow Key Kept)) (at : Option UsedKey) (row : Option (KeptRow Key Kept)) → PutsAt cmp key at (used_at cmp used) (used_at cmp used_after) → PutsAt cmp key row (row_at cmp used old) (row_at cmp used_after new)
+        → (StandsAt keeps held key (used_at cmp used key) (row_at cmp used old key) → StandsAt keeps held key at row) → AllStand keeps cmp held used old → AllStand keeps cmp held used_after new
+    stand_put old new at row put put_row there all k = elim (tells cmp total exact k key) as (λ _. StandsAt keeps held k (used_at cmp used_after k) (row_at cmp used_after new k)) [
+      | inl same ↦ subst (λ (k : Key). StandsAt keeps held k (used_at cmp used_after k) (row_at cmp used_after new k)) (sym same.1)
+          (stands_by key (used_at cmp used_after key) at (row_at cmp used_after new key) row (put_here cmp total exact key at (used_at cmp used) (used_at cmp used_after) put)
           (put_here cmp total exact key row (row_at cmp used old) (row_at cmp used_after new) put_row) (there (all key)))
-      | inr apart ↦ stands_by k (tree.get cmp used_after k) (tree.get cmp used k) (row_at cmp used_after new k) (row_at cmp used old k) (put_other cmp total exact key at (tree.get cmp used) (tree.get cmp used_after) put k apart.1)
+      | inr apart ↦ stands_by k (used_at cmp used_after k) (used_at cmp used k) (row_at cmp used_after new k) (row_at cmp used old k) (put_other cmp total exact key at (used_at cmp used) (used_at cmp used_after) put k apart.1)
           (put_other cmp total exact key row (row_at cmp used old) (row_at cmp used_after new) put_row k apart.1) (all k)
     ]
 
     -- users are counted, and the numbers stay
-    stand_counted : (rows : BTreeMap ℕ (KeptRow Key Kept)) (at : Option UsedKey) → PutsAt cmp key at (tree.get cmp used) (tree.get cmp used_after) → number_in at ≡ number_at cmp used key
-        → ((row : Option (KeptRow Key Kept)) → StandsAt keeps held key (tree.get cmp used key) row → StandsAt keeps held key at row) → AllStand keeps cmp held used rows → AllStand keeps cmp held used_after rows
+    stand_counted : (rows : BTreeMap ℕ (KeptRow Key Kept)) (at : Option UsedKey) → PutsAt cmp key at (used_at cmp used) (used_at cmp used_after) → number_in at ≡ number_at cmp used key
+        → ((row : Option (KeptRow Key Kept)) → StandsAt keeps held key (used_at cmp used key) row → StandsAt keeps held key at row) → AllStand keeps cmp held used rows → AllStand keeps cmp held used_after rows
     stand_counted rows at put same there =
         stand_put rows rows at (row_at cmp used rows key) put
-        (puts cmp total exact key (row_at cmp used rows key) (row_at cmp used rows) (row_at cmp used_after rows) (ap (row_of rows) (ap number_in (put_here cmp total exact key at (tree.get cmp used) (tree.get cmp used_after) put) ∙ same))
-        (λ k ne. ap (λ (o : Option UsedKey). row_of rows (number_in o)) (put_other cmp total exact key at (tree.get cmp used) (tree.get cmp used_after) put k ne)))
+        (puts cmp total exact key (row_at cmp used rows key) (row_at cmp used rows) (row_at cmp used_after rows) (ap (row_of rows) (ap number_in (put_here cmp total exact key at (used_at cmp used) (used_at cmp used_after) put) ∙ same))
+        (λ k ne. ap (λ (o : Option UsedKey). row_of rows (number_in o)) (put_other cmp total exact key at (used_at cmp used) (used_at cmp used_after) put k ne)))
         (there (row_at cmp used rows key))
 
-    pub stand_more : (rows : BTreeMap ℕ (KeptRow Key Kept)) → PutsAt cmp key (option_map one_more (tree.get cmp used key)) (tree.get cmp used) (tree.get cmp used_after) → AllStand keeps cmp held used rows → AllStand keeps cmp held used_after rows
-    stand_more rows put = stand_counted rows (option_map one_more (tree.get cmp used key)) put (number_more (tree.get cmp used key)) (stands_more key (tree.get cmp used key))
+    pub stand_more : (rows : BTreeMap ℕ (KeptRow Key Kept)) → PutsAt cmp key (option_map one_more (used_at cmp used key)) (used_at cmp used) (used_at cmp used_after) → AllStand keeps cmp held used rows → AllStand keeps cmp held used_after rows
+    stand_more rows put = stand_counted rows (option_map one_more (used_at cmp used key)) put (number_more (used_at cmp used key)) (stands_more key (used_at cmp used key))
 
-    pub stand_less : (rows : BTreeMap ℕ (KeptRow Key Kept)) → PutsAt cmp key (one_less (tree.get cmp used key)) (tree.get cmp used) (tree.get cmp used_after) → number_in (one_less (tree.get cmp used key)) ≡ number_at cmp used key
+    pub stand_less : (rows : BTreeMap ℕ (KeptRow Key Kept)) → PutsAt cmp key (one_less (used_at cmp used key)) (used_at cmp used) (used_at cmp used_after) → number_in (one_less (used_at cmp used key)) ≡ number_at cmp used key
         → AllStand keeps cmp held used rows → AllStand keeps cmp held used_after rows
-    stand_less rows put same = stand_counted rows (one_less (tree.get cmp used key)) put same (λ row. stands_less key (tree.get cmp used key) row same)
+    stand_less rows put same = stand_counted rows (one_less (used_at cmp used key)) put same (λ row. stands_less key (used_at cmp used key) row same)
 
-    pub stand_same : (rows : BTreeMap ℕ (KeptRow Key Kept)) → PutsAt cmp key (tree.get cmp used key) (tree.get cmp used) (tree.get cmp used_after) → AllStand keeps cmp held used rows → AllStand keeps cmp held used_after rows
-    stand_same rows put = stand_counted rows (tree.get cmp used key) put refl (λ row stands. stands)
+    pub stand_same : (rows : BTreeMap ℕ (KeptRow Key Kept)) → PutsAt cmp key (used_at cmp used key) (used_at cmp used) (used_at cmp used_after) → AllStand keeps cmp held used rows → AllStand keeps cmp held used_after rows
+    stand_same rows put = stand_counted rows (used_at cmp used key) put refl (λ row stands. stands)
 
     -- a key goes, with the row of its number
-    pub stand_gone : (old new : BTreeMap ℕ (KeptRow Key Kept)) (n : ℕ) → number_at cmp used key ≡ Some n → PutsAt cmp key None (tree.get cmp used) (tree.get cmp used_after) → PutsAt nat_cmp n None (tree.get nat_cmp old) (tree.get nat_cmp new)
+    pub stand_gone : (old new : BTreeMap ℕ (KeptRow Key Kept)) (n : ℕ) → number_at cmp used key ≡ Some n → PutsAt cmp key None (used_at cmp used) (used_at cmp used_after) → PutsAt nat_cmp n None (tree.get nat_cmp old) (tree.get nat_cmp new)
         → AllStand keeps cmp held used old → AllStand keeps cmp held used_after new
     stand_gone old new n number put put_row all =
         stand_put old new None None put
-        (puts cmp total exact key None (row_at cmp used old) (row_at cmp used_after new) (ap (λ (o : Option UsedKey). row_of new (number_in o)) (put_here cmp total exact key None (tree.get cmp used) (tree.get cmp used_after) put)) other)
+        (puts cmp total exact key None (row_at cmp used old) (row_at cmp used_after new) (ap (λ (o : Option UsedKey). row_of new (number_in o)) (put_here cmp total exact key None (used_at cmp used) (used_at cmp used_after) put)) other)
         (λ stands. refl) all
       where
         own : (k : Key) (i : ℕ) → number_at cmp used k ≡ Some i → key_in (tree.get nat_cmp old i) ≡ Some k
-        own k = own_row keeps held k (tree.get cmp used k) old (all k)
+        own k = own_row keeps held k (used_at cmp used k) old (all k)
 
         other : (k : Key) → (k ≡ key → ⊥) → row_at cmp used_after new k ≡ row_at cmp used old k
-        other k ne = ap (λ (o : Option UsedKey). row_of new (number_in o)) (put_other cmp total exact key None (tree.get cmp used) (tree.get cmp used_after) put k ne) ∙ by (number_at cmp used k) refl
+        other k ne = ap (λ (o : Option UsedKey). row_of new (number_in o)) (put_other cmp total exact key None (used_at cmp used) (used_at cmp used_after) put k ne) ∙ by (number_at cmp used k) refl
           where
             by : (o : Option ℕ) → number_at cmp used k ≡ o → row_of new o ≡ row_of old o
             by None e = refl
@@ -143,9 +145,9 @@ module _ {Key Kept : Type 0} (keeps : ObjectMap → Key → Kept → Type 0) (he
                 (λ is. ne (some_is k key (sym (own k i e) ∙ ap (λ i. key_in (tree.get nat_cmp old i)) is ∙ own key n number)))
 
 -- a key for which nothing is kept has no users
-pub no_users : {Key Kept : Type 0} (cmp : Key → Key → Ordering) (marks_in : Kept → List Mark) (used : BTreeMap Key UsedKey) (rows : BTreeMap ℕ (KeptRow Key Kept)) (watched : BTreeMap ℕ (BTreeSet Mark)) (next : ℕ) → AreTied cmp marks_in used rows watched next
-    → (key : Key) → kept_in (row_at cmp used rows key) ≡ None → users_in (tree.get cmp used key) ≡ 0
-no_users {Key} {Kept} cmp marks_in used rows watched next tied key none = by (tree.get cmp used key) (tied.rows_of key) none
+pub no_users : {Key Kept : Type 0} (cmp : Key → Key → Ordering) (marks_in : Kept → List Mark) (used : KeyNumbers Key) (rows : BTreeMap ℕ (KeptRow Key Kept)) (watched : BTreeMap ℕ (BTreeSet Mark)) (next : ℕ) → AreTied cmp marks_in used rows watched next
+    → (key : Key) → kept_in (row_at cmp used rows key) ≡ None → users_in (used_at cmp used key) ≡ 0
+no_users {Key} {Kept} cmp marks_in used rows watched next tied key none = by (used_at cmp used key) (tied.rows_of key) none
   where
     row : (row : Option (KeptRow Key Kept)) → key_in row ≡ Some key → kept_in row ≡ None → ⊥
     row None is none = none_is_not_some None key refl is

@@ -1,4 +1,5 @@
 pub mod IndexRows
+pub mod KeyNumbers
 pub mod MarksAfter
 pub mod PeekedRow
 pub mod RowLaws

@@ -13,9 +13,11 @@ use Rattle.view_types.specs.declared.mark.Mark.{Mark}
 use Rattle.mark_rules.specs.Laws.{Stays}
 use Rattle.mark_rules.specs.Marks.{has_mark}
 use Rattle.row_table.specs.IndexRows.{AreNumbered, Filter, IsCurrent, IsRow, KeptShows, KeptStays}
-use Rattle.row_table.specs.TableRows.{AllStand, StandsAt, key_in, marks_of, number_at, number_in, row_at, row_of, shown_in, users_in}
+use Rattle.row_table.specs.KeyNumbers.{number_at, number_in, used_at, users_in}
+use Rattle.row_table.specs.TableRows.{AllStand, StandsAt, key_in, marks_of, row_at, row_of, shown_in}
+use Rattle.row_table.specs.declared.key_numbers.KeyNumbers.{KeyNumbers}
+use Rattle.row_table.specs.declared.key_numbers.UsedKey.{UsedKey}
 use Rattle.row_table.specs.declared.table_rows.KeptRow.{KeptRow}
-use Rattle.row_table.specs.declared.table_rows.UsedKey.{UsedKey}
 
 module _ {Key Kept : Type 0} (keeps : ObjectMap → Key → Kept → Type 0) (held : ObjectMap) (key : Key) where
   -- a key has a number where it has users
@@ -34,11 +36,11 @@ module _ {Key Kept : Type 0} (keeps : ObjectMap → Key → Kept → Type 0) (he
       by (Some r) stands = ap Some stands.1
 
 -- rows that stand have numbers
-pub numbered_rows : {Key Kept : Type 0} (cmp : Key → Key → Ordering) (keeps : ObjectMap → Key → Kept → Type 0) (held : ObjectMap) (used : BTreeMap Key UsedKey) (rows : BTreeMap ℕ (KeptRow Key Kept)) → AllStand keeps cmp held used rows
-    → AreNumbered (λ key. users_in (tree.get cmp used key)) (number_at cmp used)
+pub numbered_rows : {Key Kept : Type 0} (cmp : Key → Key → Ordering) (keeps : ObjectMap → Key → Kept → Type 0) (held : ObjectMap) (used : KeyNumbers Key) (rows : BTreeMap ℕ (KeptRow Key Kept)) → AllStand keeps cmp held used rows
+    → AreNumbered (λ key. users_in (used_at cmp used key)) (number_at cmp used)
 numbered_rows cmp keeps held used rows stands = record {
-  used = λ key. numbered keeps held key (tree.get cmp used key) (row_at cmp used rows key) (stands key);
-  apart = λ key other n e f. same_Some key other (sym (own_row keeps held key (tree.get cmp used key) rows (stands key) n e) ∙ own_row keeps held other (tree.get cmp used other) rows (stands other) n f);
+  used = λ key. numbered keeps held key (used_at cmp used key) (row_at cmp used rows key) (stands key);
+  apart = λ key other n e f. same_Some key other (sym (own_row keeps held key (used_at cmp used key) rows (stands key) n e) ∙ own_row keeps held other (used_at cmp used other) rows (stands other) n f);
 }
 
 module _ {Key Row Kept : Type 0} (filter : Filter Key Row) (row_in : Kept → Row) (marks_in : Kept → List Mark) where

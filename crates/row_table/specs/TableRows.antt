@@ -1,9 +1,9 @@
--- What a table keeps: the number and the users of each key, the row of each number, and the marks that the graph watches there.
-use Rattle.std.specs.Prelude.{◌≡◌, ◌<◌, ◌≤◌, ◌+◌, ◌-◌, if◌then◌else◌, nat_lt, ℕ, Bool, true, false, List, [], Option, Some, None, option_map}
+-- What a table keeps: the number of each key, the row of each number, and the marks that the graph watches there.
+use Rattle.std.specs.Prelude.{◌≡◌, ◌<◌, ◌≤◌, ℕ, Bool, true, false, List, [], Option, Some, None, option_map}
 use Rattle.std.specs.BTreeMap as tree
 use Rattle.std.specs.BTreeMap.{BTreeMap}
 use Rattle.std.specs.BTreeSet.{BTreeSet}
-use Rattle.std.specs.Ordering.{eq_by_cmp, nat_cmp}
+use Rattle.std.specs.Ordering.{nat_cmp}
 use Rattle.std.specs.declared.cmp.Ordering.{Ordering}
 use Rattle.view_types.specs.Objects.{ObjectMap}
 use Rattle.view_types.specs.declared.mark.Mark.{Mark}
@@ -11,10 +11,12 @@ use Rattle.mark_graph.specs.Moves.{has_after}
 use Rattle.mark_graph.specs.RowMarks.{Rewatches, has_row, watches}
 use Rattle.mark_rules.specs.Changes.{Leads}
 use Rattle.mark_rules.specs.Marks.{has_mark, mark_cmp}
+use Rattle.row_table.specs.KeyNumbers.{number_at, used_at}
+use Rattle.row_table.specs.declared.key_numbers.KeyNumbers.{KeyNumbers}
+use Rattle.row_table.specs.declared.key_numbers.UsedKey.{UsedKey}
 use Rattle.row_table.specs.declared.row_rule.MarksAfter.{MarksAfter}
 use Rattle.row_table.specs.declared.row_rule.MarksAfter.TheVariants.{Same, Moved, Other}
 use Rattle.row_table.specs.declared.table_rows.KeptRow.{KeptRow}
-use Rattle.row_table.specs.declared.table_rows.UsedKey.{UsedKey}
 
 -- the number of a row, if there is one, is among these
 abbrev pub is_among : List ℕ → Option ℕ → Bool
@@ -26,28 +28,6 @@ abbrev pub Rewatched : MarksAfter → List Mark → ℕ → BTreeMap ℕ (BTreeS
 Rewatched Same marks n old new = new ≡ old
 Rewatched (Moved moves) marks n old new = Rewatches mark_cmp (has_after mark_cmp moves (watches mark_cmp old n)) n old new
 Rewatched Other marks n old new = Rewatches mark_cmp (has_mark marks) n old new
-
--- no key has no users
-abbrev pub users_in : Option UsedKey → ℕ
-users_in None = 0
-users_in (Some u) = u.users
-
-abbrev pub number_in : Option UsedKey → Option ℕ
-number_in used = option_map (λ u. u.number) used
-
--- with one user more
-abbrev pub one_more : UsedKey → UsedKey
-one_more u = record u { users = u.users + 1 }
-
--- with one user less, and gone with the last
-abbrev pub one_less : Option UsedKey → Option UsedKey
-one_less None = None
-one_less (Some u) = if nat_lt 1 u.users then Some (record u { users = u.users - 1 }) else None
-
--- one user is counted less, unless it is the last of the key, which has this number
-abbrev pub TakesOne : UsedKey → Option ℕ → UsedKey → Type 0
-TakesOne old None new = (one_less (Some old) ≡ Some new) × (new.number ≡ old.number)
-TakesOne old (Some n) new = (new ≡ old) × (n ≡ old.number) × (one_less (Some old) ≡ None)
 
 module _ {Key Kept : Type 0} where
   abbrev pub key_in : Option (KeptRow Key Kept) → Option Key
@@ -71,32 +51,17 @@ module _ {Key Kept : Type 0} where
   row_of rows (Some n) = tree.get nat_cmp rows n
 
 module _ {Key : Type 0} (cmp : Key → Key → Ordering) where
-  -- the number of a key that has users
-  abbrev pub number_at : BTreeMap Key UsedKey → Key → Option ℕ
-  number_at used key = number_in (tree.get cmp used key)
-
   -- the row of the key's number
-  abbrev pub row_at : {Kept : Type 0} → BTreeMap Key UsedKey → BTreeMap ℕ (KeptRow Key Kept) → Key → Option (KeptRow Key Kept)
-  row_at used rows key = row_of rows (number_at used key)
+  abbrev pub row_at : {Kept : Type 0} → KeyNumbers Key → BTreeMap ℕ (KeptRow Key Kept) → Key → Option (KeptRow Key Kept)
+  row_at used rows key = row_of rows (number_at cmp used key)
 
   -- Each key with users has a number of its own, below the next one, each row stands at the number of its key, and there the graph
   -- watches the marks of the row.
-  pub record AreTied {Kept : Type 0} (marks_in : Kept → List Mark) (used : BTreeMap Key UsedKey) (rows : BTreeMap ℕ (KeptRow Key Kept)) (watched : BTreeMap ℕ (BTreeSet Mark)) (next : ℕ) : Type 0 where
-    pub rows_of : (key : Key) (n : ℕ) → number_at used key ≡ Some n → key_in (tree.get nat_cmp rows n) ≡ Some key
-    pub numbers : (n : ℕ) (key : Key) → key_in (tree.get nat_cmp rows n) ≡ Some key → number_at used key ≡ Some n
+  pub record AreTied {Kept : Type 0} (marks_in : Kept → List Mark) (used : KeyNumbers Key) (rows : BTreeMap ℕ (KeptRow Key Kept)) (watched : BTreeMap ℕ (BTreeSet Mark)) (next : ℕ) : Type 0 where
+    pub rows_of : (key : Key) (n : ℕ) → number_at cmp used key ≡ Some n → key_in (tree.get nat_cmp rows n) ≡ Some key
+    pub numbers : (n : ℕ) (key : Key) → key_in (tree.get nat_cmp rows n) ≡ Some key → number_at cmp used key ≡ Some n
     pub watch : (n : ℕ) (mark : Mark) → watches mark_cmp watched n mark ≡ has_mark (marks_of marks_in (tree.get nat_cmp rows n)) mark
     pub below : (n : ℕ) → next ≤ n → tree.get nat_cmp rows n ≡ None
-
-  -- ---- what its calls do
-
-  -- this stands at the key, and at each other key what stood there
-  abbrev pub PutsAt : {X : Type 0} → Key → X → (Key → X) → (Key → X) → Type 0
-  PutsAt key x old new = (k : Key) → new k ≡ (if eq_by_cmp cmp k key then x else old k)
-
-  -- one user of the key is counted less, unless it is the last of the key with this number
-  abbrev pub TakesUser : Key → BTreeMap Key UsedKey → Option ℕ → BTreeMap Key UsedKey → Type 0
-  TakesUser key old None new = PutsAt key (one_less (tree.get cmp old key)) (tree.get cmp old) (tree.get cmp new) × (number_in (one_less (tree.get cmp old key)) ≡ number_at old key)
-  TakesUser key old (Some n) new = PutsAt key (tree.get cmp old key) (tree.get cmp old) (tree.get cmp new) × (number_at old key ≡ Some n) × (one_less (tree.get cmp old key) ≡ None)
 
 module _ {Key Kept : Type 0} (keeps : ObjectMap → Key → Kept → Type 0) where
   -- a key with users has a row of its own, which stands for the objects held
@@ -105,8 +70,8 @@ module _ {Key Kept : Type 0} (keeps : ObjectMap → Key → Kept → Type 0) whe
   StandsAt held key (Some u) None = ⊥
   StandsAt held key (Some u) (Some r) = (0 < u.users) × (r.key ≡ key) × keeps held key r.kept
 
-  abbrev pub AllStand : (Key → Key → Ordering) → ObjectMap → BTreeMap Key UsedKey → BTreeMap ℕ (KeptRow Key Kept) → Type 0
-  AllStand cmp held used rows = (key : Key) → StandsAt held key (tree.get cmp used key) (row_at cmp used rows key)
+  abbrev pub AllStand : (Key → Key → Ordering) → ObjectMap → KeyNumbers Key → BTreeMap ℕ (KeptRow Key Kept) → Type 0
+  AllStand cmp held used rows = (key : Key) → StandsAt held key (used_at cmp used key) (row_at cmp used rows key)
 
   module _ (tells : Kept → Kept → Type 0) (changed : List Mark) (after : ObjectMap) where
     -- what was kept for the key is brought up to the change

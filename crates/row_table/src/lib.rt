@@ -6,6 +6,7 @@
 //! cites `specs/IndexRows`. `specs/TableRows` says how the parts of a table are tied.
 #![tactic(auto)]
 
+pub mod key_numbers;
 pub mod peeked;
 pub mod plain_row;
 pub mod row_index;

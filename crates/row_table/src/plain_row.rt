@@ -13,6 +13,7 @@ use mesh_base::memory::Memory;
 use mesh_base::steps::Steps;
 use object_store::store::Store;
 use std::alloc::Global;
+use std::hash::Hash;
 use view_types::mark::Mark;
 
 /// A row and the marks that it reads.
@@ -24,7 +25,7 @@ pub struct PlainRow<R> {
 
 /// How a row is found.
 pub trait RowFinder: Drop {
-    type Key: Ord + Copied;
+    type Key: Ord + Hash + Copied;
 
     type Row: Drop;
 

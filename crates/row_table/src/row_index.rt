@@ -13,17 +13,19 @@ ghost use Rattle.row_table.specs.IndexRows.{AreMet, AreNumbered, DifferAmong, Fi
 ghost use Rattle.row_table.specs.PeekedRow.{peeked_row};
 
 use crate::peeked::Peeked;
+use mesh_base::copied::Copied;
 use mesh_base::list::List;
 use mesh_base::memory::Memory;
 use mesh_base::steps::Steps;
 use object_store::change::Change;
 use object_store::store::Store;
+use std::hash::Hash;
 use view_types::mark::Mark;
 
 /// Rows by keys, each equal to its filter over the objects held while its key has users. After Memory an index is spent: no row
 /// can be entered or brought up to a change any more.
 pub trait RowIndex {
-    type Key: Ord;
+    type Key: Ord + Hash + Copied;
 
     type Row;
 

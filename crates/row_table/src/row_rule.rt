@@ -17,6 +17,7 @@ use mesh_base::steps::Steps;
 use object_store::change::Change;
 use object_store::store::Store;
 use std::alloc::Global;
+use std::hash::Hash;
 use view_types::mark::Mark;
 
 /// A store, and what the last call changed of it.
@@ -48,7 +49,7 @@ pub struct Followed {
 
 /// How the rows of one sort are found and kept.
 pub trait RowRule: Drop {
-    type Key: Ord + Copied;
+    type Key: Ord + Hash + Copied;
 
     type Row;
 

@@ -1,13 +1,13 @@
 // One table for all indexes.
 ghost use Rattle.std.specs.Prelude.{◌≡◌, ◌≤◌, ◌+◌, ℕ, false, true, None, Some, IsErr, IfOk, OnOk};
-ghost use Rattle.std.specs.BTreeMap as tree;
 ghost use Rattle.std.specs.List.{sum_by};
 ghost use Rattle.std.specs.Option.{option_copied};
 ghost use Rattle.mark_graph.specs.RowMarks.{has_row};
 ghost use Rattle.mark_rules.specs.Reads.{cost};
 ghost use Rattle.view_types.specs.Objects.{ObjectMap};
 ghost use Rattle.row_table.specs.IndexRows.{AreMet, DifferAmong, has_key};
-ghost use Rattle.row_table.specs.TableRows.{AllStand, AreTied, Follow, kept_in, marks_of, number_at, row_at, shown_in, users_in};
+ghost use Rattle.row_table.specs.KeyNumbers.{number_at, used_at, users_in};
+ghost use Rattle.row_table.specs.TableRows.{AllStand, AreTied, Follow, kept_in, marks_of, row_at, shown_in};
 ghost use Rattle.row_table.specs.RowLaws.{current_row, numbered_rows};
 
 use crate::peeked::Peeked;
@@ -37,7 +37,7 @@ impl<F: RowRule> RowTable<F> {
     /// A table without users. It stands for all objects.
     pub fn new(alloc: Global, rule: F) -> RowTable<F>
         ensures rule { result.rule ≡ rule }
-        ensures none { (key : F.Key) → tree.get F.Key.Ord.cmp result.table.used key ≡ None }
+        ensures none { (key : F.Key) → used_at F.Key.Ord.cmp result.table.used key ≡ None }
         ensures stands { (held : ObjectMap) → AllStand (F.keeps rule) F.Key.Ord.cmp held
             result.table.used result.table.rows }
         ensures going { result.spent ≡ false }
@@ -121,7 +121,7 @@ impl<F: RowRule> RowIndex for RowTable<F> {
 
     ghost filter = { λ s. F.filter s.rule };
 
-    ghost users = { λ s key. users_in (tree.get F.Key.Ord.cmp s.table.used key) };
+    ghost users = { λ s key. users_in (used_at F.Key.Ord.cmp s.table.used key) };
 
     ghost row_at = { λ s key. shown_in F.row_in
         (row_at F.Key.Ord.cmp s.table.used s.table.rows key) };
@@ -211,7 +211,7 @@ impl<F: RowRule> RowIndex for RowTable<F> {
     }
 
     ghost current = { λ s held stands key. current_row (F.filter s.rule) F.row_in F.marks_in
-        (F.keeps s.rule) (F.shows s.rule) held key (tree.get F.Key.Ord.cmp s.table.used key)
+        (F.keeps s.rule) (F.shows s.rule) held key (used_at F.Key.Ord.cmp s.table.used key)
         (row_at F.Key.Ord.cmp s.table.used s.table.rows key) (stands key) };
 
     ghost numbered = { λ s held stands. numbered_rows F.Key.Ord.cmp (F.keeps s.rule) held

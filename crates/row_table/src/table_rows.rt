@@ -8,8 +8,10 @@ ghost use Rattle.view_types.specs.Objects.{ObjectMap};
 ghost use Rattle.mark_graph.specs.RowMarks.{has_row};
 ghost use Rattle.mark_rules.specs.Reads.{cost};
 ghost use Rattle.row_table.specs.IndexRows.{AreMet, DifferAmong, KeepNumbers, OneMore, has_key};
-ghost use Rattle.row_table.specs.TableRows.{AllStand, AreTied, Follow, PutsAt, Rewatched, TakesOne, TakesUser, key_in, marks_of, number_at, one_less, one_more, row_at, shown_in, users_in};
+ghost use Rattle.row_table.specs.KeyNumbers.{PutsAt, number_at, one_less, one_more, used_at, users_in};
+ghost use Rattle.row_table.specs.TableRows.{AllStand, AreTied, Follow, Rewatched, key_in, marks_of, row_at, shown_in};
 
+use crate::key_numbers::KeyNumbers;
 use crate::row_rule::{Followed, MarksAfter, RowRule, StoreChange};
 use crate::watching::{due, move_marks, new_graph, unwatch, watch};
 use mark_graph::graph::Graph;
@@ -22,14 +24,6 @@ use std::alloc::Global;
 use std::collections::BTreeMap;
 use view_types::mark::Mark;
 
-/// A key that has users.
-#[derive(Drop)]
-pub struct UsedKey {
-    /// The graph knows the row of the key by this.
-    pub number: u64,
-    pub users: u64,
-}
-
 /// A row that is kept while its key has users.
 #[derive(Drop)]
 pub struct KeptRow<K, T> {
@@ -41,7 +35,7 @@ pub struct KeptRow<K, T> {
 /// their numbers, without a search for a key.
 #[derive(Drop)]
 pub struct TableRows<F: RowRule> {
-    pub used: BTreeMap<F::Key, UsedKey>,
+    pub used: KeyNumbers<F::Key>,
     pub rows: BTreeMap<u64, KeptRow<F::Key, F::Kept>>,
     pub graph: Graph<Mark>,
     /// The keys whose rows may be others than before the last change.
@@ -69,12 +63,12 @@ pub struct Pass<F: RowRule> {
 
 impl<F: RowRule> TableRows<F> {
     pub fn new(alloc: Global) -> TableRows<F>
-        ensures none { (key : F.Key) → tree.get F.Key.Ord.cmp result.used key ≡ None }
+        ensures none { (key : F.Key) → used_at F.Key.Ord.cmp result.used key ≡ None }
         ensures tied { AreTied F.Key.Ord.cmp F.marks_in result.used result.rows result.graph.rows
             result.next }
     {
         TableRows {
-            used: BTreeMap::new(alloc),
+            used: KeyNumbers::new(alloc),
             rows: BTreeMap::new(alloc),
             graph: new_graph(alloc),
             differing: List::new(alloc),
@@ -96,8 +90,8 @@ impl<F: RowRule> TableRows<F> {
         requires tied { AreTied F.Key.Ord.cmp F.marks_in self.old.used self.old.rows
             self.old.graph.rows self.old.next }
         ensures users { OnOk result (OneMore F.Key.Ord.cmp key
-            (λ k. users_in (tree.get F.Key.Ord.cmp self.old.used k))
-            (λ k. users_in (tree.get F.Key.Ord.cmp self.new.used k))) }
+            (λ k. users_in (used_at F.Key.Ord.cmp self.old.used k))
+            (λ k. users_in (used_at F.Key.Ord.cmp self.new.used k))) }
         ensures stands { OnOk result (AllStand (F.keeps rule.now) F.Key.Ord.cmp store.now.objects
             self.old.used self.old.rows → AllStand (F.keeps rule.now) F.Key.Ord.cmp
             store.now.objects self.new.used self.new.rows) }
@@ -106,7 +100,7 @@ impl<F: RowRule> TableRows<F> {
         ensures tied { OnOk result (AreTied F.Key.Ord.cmp F.marks_in self.new.used self.new.rows
             self.new.graph.rows self.new.next) }
         ensures steps { steps.new ≤ steps.old
-            + (if nat_lt 0 (users_in (tree.get F.Key.Ord.cmp self.old.used key)) then 0
+            + (if nat_lt 0 (users_in (used_at F.Key.Ord.cmp self.old.used key)) then 0
             else cost store.now.objects ((F.filter rule.now).reads store.now.objects key)) }
     {
         if self.add_user(&key)? {
@@ -116,29 +110,29 @@ impl<F: RowRule> TableRows<F> {
         self.add_row(key, kept)
     }
 
-    // Counts one user more of the key, if it has users. Answers whether it has.
+    // Counts one user more of the key, if it has users. Returns whether it has.
     fn add_user(&mut self, key: &F::Key) -> Result<bool, Memory>
         ensures there { IfOk result (λ there.
-            there ≡ is_some (tree.get F.Key.Ord.cmp self.old.used key.now)) }
+            there ≡ is_some (used_at F.Key.Ord.cmp self.old.used key.now)) }
         ensures put { OnOk result (PutsAt F.Key.Ord.cmp key.now
-            (option_map one_more (tree.get F.Key.Ord.cmp self.old.used key.now))
-            (tree.get F.Key.Ord.cmp self.old.used) (tree.get F.Key.Ord.cmp self.new.used)) }
+            (option_map one_more (used_at F.Key.Ord.cmp self.old.used key.now))
+            (used_at F.Key.Ord.cmp self.old.used) (used_at F.Key.Ord.cmp self.new.used)) }
         ensures same { self.new.rows ≡ self.old.rows }
         ensures tied { AreTied F.Key.Ord.cmp F.marks_in self.old.used self.old.rows
             self.old.graph.rows self.old.next → OnOk result (AreTied F.Key.Ord.cmp F.marks_in
             self.new.used self.new.rows self.new.graph.rows self.new.next) }
     {
-        add_user_at(&mut self.used, key)
+        self.used.add_user(key)
     }
 
     // Keeps a row for a key that has none.
     fn add_row(&mut self, key: F::Key, kept: F::Kept) -> Result<(), Memory>
-        requires none { tree.get F.Key.Ord.cmp self.old.used key ≡ None }
+        requires none { used_at F.Key.Ord.cmp self.old.used key ≡ None }
         requires tied { AreTied F.Key.Ord.cmp F.marks_in self.old.used self.old.rows
             self.old.graph.rows self.old.next }
         ensures put { OnOk result (PutsAt F.Key.Ord.cmp key
             (Some (record { number = self.old.next; users = 1 }))
-            (tree.get F.Key.Ord.cmp self.old.used) (tree.get F.Key.Ord.cmp self.new.used)) }
+            (used_at F.Key.Ord.cmp self.old.used) (used_at F.Key.Ord.cmp self.new.used)) }
         ensures row { OnOk result (PutsAt F.Key.Ord.cmp key
             (Some (record { key = key; kept = kept }))
             (row_at F.Key.Ord.cmp self.old.used self.old.rows)
@@ -152,15 +146,14 @@ impl<F: RowRule> TableRows<F> {
         watch(&mut self.graph, number, marks)?;
         let own = key.copy(self.alloc)?;
         self.rows.insert(number, KeptRow { key: own, kept })?;
-        self.used.insert(key, UsedKey { number, users: 1 })?;
-        Ok(())
+        self.used.insert(key, number)
     }
 
     /// Counts one user less of the key, if it has users. Its row goes with the last.
     pub fn drop_user(&mut self, key: &F::Key)
         ensures put { PutsAt F.Key.Ord.cmp key.now
-            (one_less (tree.get F.Key.Ord.cmp self.old.used key.now))
-            (tree.get F.Key.Ord.cmp self.old.used) (tree.get F.Key.Ord.cmp self.new.used) }
+            (one_less (used_at F.Key.Ord.cmp self.old.used key.now))
+            (used_at F.Key.Ord.cmp self.old.used) (used_at F.Key.Ord.cmp self.new.used) }
         ensures stands { (rule : F) (held : ObjectMap) → AllStand (F.keeps rule) F.Key.Ord.cmp held
             self.old.used self.old.rows → AllStand (F.keeps rule) F.Key.Ord.cmp held self.new.used
             self.new.rows }
@@ -168,7 +161,7 @@ impl<F: RowRule> TableRows<F> {
             self.old.graph.rows self.old.next → AreTied F.Key.Ord.cmp F.marks_in self.new.used
             self.new.rows self.new.graph.rows self.new.next }
     {
-        if let Some(number) = take_user(&mut self.used, key) {
+        if let Some(number) = self.used.take_user(key) {
             self.remove_row(key, number);
         }
     }
@@ -176,8 +169,8 @@ impl<F: RowRule> TableRows<F> {
     // Lets a key go, and its row, which has this number.
     fn remove_row(&mut self, key: &F::Key, number: u64)
         requires { number_at F.Key.Ord.cmp self.old.used key.now ≡ Some number }
-        ensures put { PutsAt F.Key.Ord.cmp key.now None (tree.get F.Key.Ord.cmp self.old.used)
-            (tree.get F.Key.Ord.cmp self.new.used) }
+        ensures put { PutsAt F.Key.Ord.cmp key.now None (used_at F.Key.Ord.cmp self.old.used)
+            (used_at F.Key.Ord.cmp self.new.used) }
         ensures rows { PutsAt nat_cmp number None (tree.get nat_cmp self.old.rows)
             (tree.get nat_cmp self.new.rows) }
         ensures tied { AreTied F.Key.Ord.cmp F.marks_in self.old.used self.old.rows
@@ -328,39 +321,4 @@ fn number_after(number: u64) -> Result<u64, Memory>
     ensures { IfOk result (λ next. next ≡ number + 1) }
 {
     number.checked_add(1).ok_or(Memory)
-}
-
-fn add_user_at<K: Ord>(used: &mut BTreeMap<K, UsedKey>, key: &K) -> Result<bool, Memory>
-    ensures there { IfOk result (λ there. there ≡ is_some (tree.get K.cmp used.old key.now)) }
-    ensures put { OnOk result (PutsAt K.cmp key.now
-        (option_map one_more (tree.get K.cmp used.old key.now)) (tree.get K.cmp used.old)
-        (tree.get K.cmp used.new)) }
-{
-    match used.get_mut(key) {
-        Some(at) => {
-            at.users = at.users.checked_add(1).ok_or(Memory)?;
-            Ok(true)
-        }
-        None => Ok(false),
-    }
-}
-
-// Counts one user less of the key, unless it is the last. For that it answers the number of the key, which stays.
-fn take_user<K: Ord>(used: &mut BTreeMap<K, UsedKey>, key: &K) -> Option<u64>
-    ensures { TakesUser K.cmp key.now used.old result used.new }
-{
-    match used.get_mut(key) {
-        Some(at) => take_from(at),
-        None => None,
-    }
-}
-
-fn take_from(at: &mut UsedKey) -> Option<u64>
-    ensures { TakesOne at.old result at.new }
-{
-    if at.users > 1 {
-        at.users -= 1;
-        return None;
-    }
-    Some(at.number)
 }

@@ -28,10 +28,7 @@ use std::collections::BTreeMap;
 /// The rows of an index that ids are open with, each stored once for all ids of its key. After
 /// Memory the rows are not known, but the keys of the ids are unchanged.
 #[derive(Drop)]
-pub struct RowViews<I: RowIndex + Drop>
-where
-    I::Key: Copied,
-{
+pub struct RowViews<I: RowIndex + Drop> {
     /// Each key that has ids is one user of its row.
     index: I,
     /// The ids of each row, by its number.
@@ -41,10 +38,7 @@ where
     alloc: Global,
 }
 
-impl<I: RowIndex + Drop> RowViews<I>
-where
-    I::Key: Copied,
-{
+impl<I: RowIndex + Drop> RowViews<I> {
     /// Creates views without open ids. The index must have no users.
     pub fn new(alloc: Global, index: I) -> RowViews<I>
         requires { (key : I.Key) → I.users index key ≡ 0 }

@@ -1,11 +1,11 @@
 use Rattle.std.proofs.Common.{sym, ap, subst, ◌∙◌}
-use Rattle.std.specs.BTreeMap as tree
 use Rattle.mark_rules.specs.Reads.{endpoint_reads}
 use Rattle.mark_rules.specs.Rows.{endpoint_row}
 use Rattle.mark_rules.specs.contracts.keys.EndpointKeyOrd as key_order
 use Rattle.row_table.proofs.Followed.{all_stand}
 use Rattle.row_table.specs.IndexRows.{has_key}
-use Rattle.row_table.specs.TableRows.{AllStand, number_at, users_in}
+use Rattle.row_table.specs.KeyNumbers.{number_at, used_at, users_in}
+use Rattle.row_table.specs.TableRows.{AllStand}
 use Rattle.endpoint_index.specs.EndpointKeys.{endpoint_keys_exact}
 use Rattle.endpoint_index.specs.Standing.{Stands, Tells, marks_in}
 use Rattle.endpoint_index.specs.Still.{stands_show, stands_still, view_in}
@@ -13,7 +13,7 @@ use Rattle.endpoint_index.proofs.Told.{endpoint_keys_total, told_if}
 use Rattle.endpoint_index.proofs.index.EndpointIndex.follow_change.Goals as goal
 
 pub returns-clause-users : goal.returns-clause-users
-returns-clause-users g c = λ key. ap (λ used. users_in (tree.get key_order.TheImpl.cmp-value.it used key)) c.follow_change.ensures.used
+returns-clause-users g c = λ key. ap (λ used. users_in (used_at key_order.TheImpl.cmp-value.it used key)) c.follow_change.ensures.used
 
 pub returns-clause-numbers : goal.returns-clause-numbers
 returns-clause-numbers g c = λ key. ap (λ used. number_at key_order.TheImpl.cmp-value.it used key) c.follow_change.ensures.used

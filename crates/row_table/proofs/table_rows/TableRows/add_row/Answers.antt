@@ -5,16 +5,14 @@ use Rattle.std.proofs.lemmas.Cmp.{nat_cmp_total}
 use Rattle.view_types.specs.declared.mark.Mark.{Mark}
 use Rattle.mark_graph.specs.RowMarks.{Rewatches}
 use Rattle.mark_rules.specs.Marks.{has_mark, mark_cmp}
-use Rattle.row_table.specs.TableRows.{AreTied, PutsAt, row_at}
+use Rattle.row_table.specs.KeyNumbers.{PutsAt}
+use Rattle.row_table.specs.TableRows.{AreTied, row_at}
+use Rattle.row_table.specs.declared.key_numbers.UsedKey.{UsedKey}
 use Rattle.row_table.specs.declared.table_rows.KeptRow.{KeptRow}
-use Rattle.row_table.specs.declared.table_rows.UsedKey.{UsedKey}
 use Rattle.row_table.proofs.Puts.{updated}
 use Rattle.row_table.proofs.Tied.{row_more, tied_more}
+use Rattle.row_table.proofs.Users.{ok_then}
 use Rattle.row_table.proofs.table_rows.TableRows.add_row.Goals as goal
-
-pub returns-clause-put : goal.returns-clause-put
-returns-clause-put g c =
-    updated g.F.Key.Ord.cmp g.met.F.Key.Ord.total g.met.F.RowRule.exact c.args.key (Some (record { number = c.args.self.now.next; users = 1 })) c.args.self.now.used c.insert-2.new.self c.in_ok-insert-2.ensures.updates
 
 pub returns-clause-row : goal.returns-clause-row
 returns-clause-row g c =
@@ -25,10 +23,10 @@ returns-clause-row g c =
     let key = c.args.key in
     let at : UsedKey = record { number = self.next; users = 1 } in
     let row : KeptRow g.row.F-Key.Denot g.row.F-Kept.Denot = record { key = c.in_ok-own.own; kept = c.args.kept } in
+    ok_then c.insert-2.result c.insert-2.ensures (λ put.
     subst (λ (own : g.row.F-Key.Denot). PutsAt cmp key (Some (record { key = own; kept = c.args.kept })) (row_at cmp self.used self.rows) (row_at cmp c.insert-2.new.self c.insert.new.self)) c.in_ok-own.ensures
-    (row_more cmp total exact g.F.RowRule.marks_in self.used c.insert-2.new.self self.rows c.insert.new.self self.graph.rows c.watch.new.graph.rows self.next key c.requires.tied at row refl c.in_ok-own.ensures c.requires.none
-    (updated cmp total exact key (Some at) self.used c.insert-2.new.self c.in_ok-insert-2.ensures.updates)
-    (updated nat_cmp nat_cmp_total nat_cmp-IsAntisymmetric self.next (Some row) self.rows c.insert.new.self c.in_ok-insert.ensures.updates))
+    (row_more cmp total exact g.F.RowRule.marks_in self.used c.insert-2.new.self self.rows c.insert.new.self self.graph.rows c.watch.new.graph.rows self.next key c.requires.tied at row refl c.in_ok-own.ensures c.requires.none put
+    (updated nat_cmp nat_cmp_total nat_cmp-IsAntisymmetric self.next (Some row) self.rows c.insert.new.self c.in_ok-insert.ensures.updates)))
 
 pub returns-clause-tied : goal.returns-clause-tied
 returns-clause-tied g c =
@@ -42,8 +40,8 @@ returns-clause-tied g c =
     let row : KeptRow g.row.F-Key.Denot g.row.F-Kept.Denot = record { key = c.in_ok-own.own; kept = c.args.kept } in
     let watched : Rewatches mark_cmp (has_mark (marks_in c.args.kept)) self.next self.graph.rows c.watch.new.graph.rows =
     subst (λ (marks : List Mark). Rewatches mark_cmp (has_mark marks) self.next self.graph.rows c.watch.new.graph.rows) c.in_ok-marks.ensures c.in_ok-watch.ensures.watched in
+    ok_then c.insert-2.result c.insert-2.ensures (λ put.
     subst (λ (next : ℕ). AreTied cmp marks_in c.insert-2.new.self c.insert.new.self c.watch.new.graph.rows next) (sym c.in_ok-self.ensures)
-    (tied_more cmp total exact marks_in self.used c.insert-2.new.self self.rows c.insert.new.self self.graph.rows c.watch.new.graph.rows self.next key c.requires.tied at row refl c.in_ok-own.ensures c.requires.none
-    (updated cmp total exact key (Some at) self.used c.insert-2.new.self c.in_ok-insert-2.ensures.updates)
+    (tied_more cmp total exact marks_in self.used c.insert-2.new.self self.rows c.insert.new.self self.graph.rows c.watch.new.graph.rows self.next key c.requires.tied at row refl c.in_ok-own.ensures c.requires.none put
     (updated nat_cmp nat_cmp_total nat_cmp-IsAntisymmetric self.next (Some row) self.rows c.insert.new.self c.in_ok-insert.ensures.updates)
-    watched)
+    watched))

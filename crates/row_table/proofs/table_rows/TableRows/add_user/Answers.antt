@@ -1,6 +1,5 @@
 use Rattle.std.specs.Prelude.{option_map}
-use Rattle.std.specs.BTreeMap as tree
-use Rattle.row_table.specs.TableRows.{number_in, one_more}
+use Rattle.row_table.specs.KeyNumbers.{number_in, one_more, used_at}
 use Rattle.row_table.proofs.Puts.{put_same}
 use Rattle.row_table.proofs.Tied.{tied_counted}
 use Rattle.row_table.proofs.Users.{number_more, ok_then}
@@ -13,8 +12,8 @@ returns-clause-tied g c = λ tied.
     let exact = g.met.F.RowRule.exact in
     let self = c.args.self.now in
     let key = c.args.key.now in
-    let new = c.add_user_at.new.used in
-    let used = tree.get cmp self.used key in
-    ok_then c.add_user_at.result c.add_user_at.ensures.put (λ put.
+    let new = c.add_user.new.self in
+    let used = used_at cmp self.used key in
+    ok_then c.add_user.result c.add_user.ensures.put (λ put.
     tied_counted cmp total exact g.F.RowRule.marks_in self.used new self.rows self.graph.rows self.next tied
-    (put_same cmp total exact key (option_map one_more used) (tree.get cmp self.used) (tree.get cmp new) put number_in (number_more used)))
+    (put_same cmp total exact key (option_map one_more used) (used_at cmp self.used) (used_at cmp new) put number_in (number_more used)))

@@ -12,7 +12,8 @@ use Rattle.view_types.specs.declared.mark.Mark.{Mark}
 use Rattle.mark_graph.specs.RowMarks.{has_row}
 use Rattle.mark_rules.specs.Reads.{cost}
 use Rattle.row_table.specs.IndexRows.{AreMet, has_key}
-use Rattle.row_table.specs.TableRows.{AreTied, Follow, is_among, key_in, marks_of, number_at, row_at, shown_in}
+use Rattle.row_table.specs.KeyNumbers.{number_at}
+use Rattle.row_table.specs.TableRows.{AreTied, Follow, is_among, key_in, marks_of, row_at, shown_in}
 use Rattle.row_table.proofs.Differing.{differ_none}
 use Rattle.row_table.proofs.Followed.{added_apart, all_met, among_start, among_step, follow_more, fresh_at, once_more}
 use Rattle.row_table.proofs.Keys.{distinct_none}

@@ -4,7 +4,8 @@ use Rattle.std.specs.List.{IsDistinct, sum_by}
 use Rattle.std.specs.Ordering.{eq_by_cmp, nat_cmp}
 use Rattle.mark_rules.specs.Reads.{cost}
 use Rattle.row_table.specs.IndexRows.{DifferAmong, has_key}
-use Rattle.row_table.specs.TableRows.{AreTied, Follow, is_among, key_in, number_at, row_at, shown_in}
+use Rattle.row_table.specs.KeyNumbers.{number_at}
+use Rattle.row_table.specs.TableRows.{AreTied, Follow, is_among, key_in, row_at, shown_in}
 use Rattle.row_table.proofs.table_rows.TableRows.follow.Given as goal
 
 -- the rows of the numbers so far have followed the change, their keys are listed, and those that may differ

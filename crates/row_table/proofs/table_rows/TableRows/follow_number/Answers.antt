@@ -5,7 +5,8 @@ use Rattle.std.specs.Option.{option_to_list}
 use Rattle.std.specs.Ordering.{eq_by_cmp, nat_cmp}
 use Rattle.std.proofs.lemmas.Cmp.{nat_cmp_total}
 use Rattle.row_table.specs.IndexRows.{DifferAmong, has_key}
-use Rattle.row_table.specs.TableRows.{Follow, PutsAt, key_in, row_at, shown_in}
+use Rattle.row_table.specs.KeyNumbers.{PutsAt}
+use Rattle.row_table.specs.TableRows.{Follow, key_in, row_at, shown_in}
 use Rattle.row_table.specs.declared.table_rows.KeptRow.{KeptRow}
 use Rattle.row_table.proofs.Differing.{differ_more, shown_put}
 use Rattle.row_table.proofs.Followed.{follow_put}

@@ -6,9 +6,6 @@ use Rattle.row_table.proofs.Puts.{updated}
 use Rattle.row_table.proofs.Tied.{tied_less}
 use Rattle.row_table.proofs.table_rows.TableRows.remove_row.Goals as goal
 
-pub returns-clause-put : goal.returns-clause-put
-returns-clause-put g c = updated g.F.Key.Ord.cmp g.met.F.Key.Ord.total g.met.F.RowRule.exact c.args.key.now None c.args.self.now.used c.remove.new.self c.remove.ensures.updates
-
 pub returns-clause-rows : goal.returns-clause-rows
 returns-clause-rows g c = updated nat_cmp nat_cmp_total nat_cmp-IsAntisymmetric c.args.number None c.args.self.now.rows c.remove-2.new.self c.remove-2.ensures.updates
 
@@ -21,6 +18,6 @@ returns-clause-tied g c = λ tied.
     let key = c.args.key.now in
     let number = c.args.number in
     tied_less cmp total exact g.F.RowRule.marks_in self.used c.remove.new.self self.rows c.remove-2.new.self self.graph.rows c.unwatch.new.graph.rows self.next key tied number c.requires
-    (updated cmp total exact key None self.used c.remove.new.self c.remove.ensures.updates)
+    c.remove.ensures
     (updated nat_cmp nat_cmp_total nat_cmp-IsAntisymmetric number None self.rows c.remove-2.new.self c.remove-2.ensures.updates)
     c.unwatch.ensures.watched

@@ -1,0 +1,16 @@
+use Rattle.std.proofs.Common.{Some, IsSome, refl, subst, ◌∙◌}
+use Rattle.row_table.proofs.KeyNumbers.{found, put_by, takes_user}
+use Rattle.row_table.proofs.key_numbers.KeyNumbers.take_user.Goals as goal
+
+pub returns-in-Some : goal.returns-in-Some
+returns-in-Some g c =
+    let eq = g.K.PartialEq.eq in
+    let cmp = g.K.Ord.cmp in
+    let same = g.met.K.Ord.matches_eq in
+    let key = c.args.key.now in
+    let self = c.args.self.now in
+    let after = c.take_from.new.at in
+    let new = c.get_mut.follows.lender after in
+    let updates = (c.get_mut.follows.holds after).3 (subst IsSome c.in-Some.ensures.value refl) in
+    takes_user cmp key c.in-Some.at.now self (record { by_hash = new }) (c.in-Some.ensures.value ∙ found eq cmp same self.by_hash key) after c.take_from.result
+    (put_by eq cmp same g.met.K.Ord.total key (Some after) self.by_hash new updates) c.take_from.ensures
