@@ -20,6 +20,7 @@ use command_run::top::{Outcome, top};
 use command_run::words::words_of;
 use line_run::Status;
 use link_report::LinkScreen;
+use mesh_base::key::Kind;
 use mesh_base::limits::Limits;
 use mesh_base::memory::Memory;
 use mesh_base::text::Text;
@@ -79,10 +80,29 @@ fn link_screen(rt: &HostRuntime, start: StartTime) -> Option<LinkScreen<&HostRun
 // Counts the objects in a hub by their kinds.
 fn held_in(hub: &Hub) -> HeldObjects {
     let mut held = HeldObjects::NONE;
-    for object in hub.store().all() {
-        held.add(object.kind());
+    for kind in [
+        Kind::Pod,
+        Kind::Service,
+        Kind::EndpointSlice,
+        Kind::ServiceProfile,
+        Kind::Server,
+        Kind::ServerAuthorization,
+        Kind::AuthorizationPolicy,
+        Kind::MeshTLSAuthentication,
+        Kind::NetworkAuthentication,
+        Kind::LinkerdRoute,
+        Kind::GatewayRoute,
+    ] {
+        add_kind(&mut held, hub, kind);
     }
     held
+}
+
+// Counts the objects of a kind in a hub.
+fn add_kind(held: &mut HeldObjects, hub: &Hub, kind: Kind) {
+    for _ in hub.store().of_kind(kind) {
+        held.add(kind);
+    }
 }
 
 // Writes to standard error how the program ended.

@@ -5,10 +5,10 @@ pub mod ByCmp
 pub mod Counts
 pub mod Kept
 pub mod KeptAt
+pub mod KindLists
 pub mod Leading
 pub mod OneMore
 pub mod PartsOfPlaces
 pub mod PutAll
 pub mod Room
 pub mod SameKeys
-pub mod Spliced

@@ -1,11 +1,12 @@
 -- What a relist holds, key by key, in whatever order the items stand.
-use Rattle.std.proofs.Common.{◌≡◌, Bool, true, false, cond, not, ◌||◌, List, [], ◌∷◌, map, Option, Some, None, is_some, Ordering, refl, sym, ap, eq-eqb, ◌∙◌}
+use Rattle.std.proofs.Common.{◌≡◌, ℕ, Bool, true, false, cond, not, ◌||◌, List, [], ◌∷◌, map, Option, Some, None, is_some, Ordering, refl, sym, ap, eq-eqb, eqb, ◌∙◌, arith}
 use Rattle.std.specs.List.{AllByRecursion, IsDistinct, list_any}
 use Rattle.std.specs.List.Sorted.{IsPermutation}
 use Rattle.std.specs.Option.{option_or}
 use Rattle.std.specs.Ordering.{eq_by_cmp, is_eq}
 use Rattle.std.specs.declared.cmp.Ordering.TheVariants.{Less, Equal, Greater}
 use Rattle.std.specs.FinMap.{get, get-insert, get-retain_keys, retain_keys, same_map}
+use Rattle.std.proofs.lemmas.Bool.Decides.{nat_tests}
 use Rattle.std.proofs.lemmas.List.Elements.{recursion_from_All, All-from_recursion}
 use Rattle.std.proofs.lemmas.List.Sorted.{All-permutation, list_any-IsPermutation}
 use Rattle.std.proofs.lemmas.Map.Keys.{IsDistinct-head, IsDistinct-tail}
@@ -25,8 +26,15 @@ equal Greater e = cc
 abbrev tie : ObjKey → Object → Bool
 tie k o = eq_by_cmp key_cmp k (key_of o)
 
+pub keys_tied : (k j : ObjKey) → eq_by_cmp key_cmp k j ≡ true → k ≡ j
+keys_tied k j tied = keys_exact k j (equal _ tied)
+
 same_key : (k : ObjKey) (o : Object) → tie k o ≡ true → k ≡ key_of o
-same_key k o tied = keys_exact k (key_of o) (equal _ tied)
+same_key k o tied = keys_tied k (key_of o) tied
+
+pub weaker : (P Q : Object → Type 0) → ((o : Object) → P o → Q o) → (os : List Object) → AllByRecursion P os → AllByRecursion Q os
+weaker P Q step [] all = tt
+weaker P Q step (o ∷ os) all = (step o all.0, weaker P Q step os all.1)
 
 turned : (tied : Bool) (o : Object) (i g : Option Object) → cond tied (Some o) (option_or i g) ≡ option_or (cond tied (Some o) i) g
 turned true o i g = refl
@@ -93,30 +101,40 @@ pub put_all-moved : (m : ObjectMap) (xs ys : List Object) → IsPermutation xs y
 put_all-moved m xs ys moved apart = same_map keys_total keys_exact _ _ (λ k.
     get-put_all ys m k ∙ ap (λ i. option_or i (get m k)) (item_at-moved k xs ys moved apart) ∙ sym (get-put_all xs m k))
 
--- no item of a kind has a key of another kind
-other_at : (kind : Kind) (k : ObjKey) → is_of kind k ≡ false → (x : Object) → kind_of x ≡ kind → (rest : Option Object) → rest ≡ None
-    → (tied : Bool) → tie k x ≡ tied → cond tied (Some x) rest ≡ None
-other_at kind k other x of rest none true tied =
-    let is : kind_place k.kind ≡ kind_place kind = ap (λ (j : ObjKey). kind_place j.kind) (same_key k x tied) ∙ ap kind_place of in
-    let own : is_of kind k ≡ true = eq-eqb (kind_place k.kind) (kind_place kind) is in cc
-other_at kind k other x of rest none false tied = none
+-- no item has the key where each is of another kind
+other_at : (k : ObjKey) (x : Object) → is_of k.kind (key_of x) ≡ false → (rest : Option Object) → rest ≡ None → (tied : Bool) → tie k x ≡ tied → cond tied (Some x) rest ≡ None
+other_at k x other rest none true tied =
+    let is : kind_place (kind_of x) ≡ kind_place k.kind = ap (λ (j : ObjKey). kind_place j.kind) (sym (same_key k x tied)) in
+    let own : is_of k.kind (key_of x) ≡ true = eq-eqb (kind_place (kind_of x)) (kind_place k.kind) is in cc
+other_at k x other rest none false tied = none
 
-pub item_at-other : (kind : Kind) (k : ObjKey) → is_of kind k ≡ false → (os : List Object) → AllByRecursion (λ o. kind_of o ≡ kind) os → item_at k os ≡ None
-item_at-other kind k other [] all = refl
-item_at-other kind k other (o ∷ os) all = other_at kind k other o all.0 (item_at k os) (item_at-other kind k other os all.1) (tie k o) refl
+pub item_at-absent : (k : ObjKey) (os : List Object) → AllByRecursion (λ o. is_of k.kind (key_of o) ≡ false) os → item_at k os ≡ None
+item_at-absent k [] all = refl
+item_at-absent k (o ∷ os) all = other_at k o all.0 (item_at k os) (item_at-absent k os all.1) (tie k o) refl
+
+unlike : (a b c : ℕ) → a ≡ b → eqb c b ≡ false → eqb a c ≡ false
+unlike a b c is other = grind (arith, nat_tests)
+
+item_at-other : (kind : Kind) (k : ObjKey) → is_of kind k ≡ false → (os : List Object) → AllByRecursion (λ o. kind_of o ≡ kind) os → item_at k os ≡ None
+item_at-other kind k other os all = item_at-absent k os
+    (weaker (λ o. kind_of o ≡ kind) _ (λ o of. unlike (kind_place (kind_of o)) (kind_place kind) (kind_place k.kind) (ap kind_place of) other) os all)
 
 by_kind : (own : Bool) (i g : Option Object) → (own ≡ false → i ≡ None) → option_or i (cond (not own) g None) ≡ cond own i g
 by_kind true None g other = refl
 by_kind true (Some x) g other = refl
 by_kind false i g other = rw (other refl) refl
 
-pub get-others : (m : ObjectMap) (kind : Kind) (k : ObjKey) → get (retain_keys m (λ k. not (is_of kind k))) k ≡ cond (not (is_of kind k)) (get m k) None
+get-others : (m : ObjectMap) (kind : Kind) (k : ObjKey) → get (retain_keys m (λ k. not (is_of kind k))) k ≡ cond (not (is_of kind k)) (get m k) None
 get-others m kind k = get-retain_keys m (λ k. not (is_of kind k)) k (λ j tied. ap (λ k. not (is_of kind k)) (sym (keys_exact k j tied)))
 
-pub relisted_by_key : RelistedByKey
-relisted_by_key m kind items of k =
+pub get-relisted : (m : ObjectMap) (kind : Kind) (items : List Object) → AllByRecursion (λ o. kind_of o ≡ kind) items → (k : ObjKey)
+    → get (relisted m kind items) k ≡ cond (is_of kind k) (item_at k items) (get m k)
+get-relisted m kind items of k =
     get-put_all items _ k ∙ ap (option_or (item_at k items)) (get-others m kind k)
-    ∙ by_kind (is_of kind k) (item_at k items) (get m k) (λ other. item_at-other kind k other items (recursion_from_All (λ o. kind_of o ≡ kind) items of.each))
+    ∙ by_kind (is_of kind k) (item_at k items) (get m k) (λ other. item_at-other kind k other items of)
+
+pub relisted_by_key : RelistedByKey
+relisted_by_key m kind items of k = get-relisted m kind items (recursion_from_All (λ o. kind_of o ≡ kind) items of.each) k
 
 pub relisted-moved : (m : ObjectMap) (kind : Kind) (xs ys : List Object) → IsPermutation xs ys → IsDistinct (eq_by_cmp key_cmp) (map key_of xs) → relisted m kind ys ≡ relisted m kind xs
 relisted-moved m kind xs ys moved apart = put_all-moved (retain_keys m (λ k. not (is_of kind k))) xs ys moved apart

@@ -1,6 +1,6 @@
 pub mod Changes
 pub mod Held
 pub mod KeyLists
-pub mod Kinds
+pub mod KindLists
 pub mod Relisted
 pub mod ServerKeys

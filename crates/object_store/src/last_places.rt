@@ -5,7 +5,7 @@ ghost use Rattle.mesh_base.specs.KeyOrder.{kind_place};
 use mesh_base::key::Kind;
 use std::cell::Cell;
 
-/// Where an object of each kind was last found among all. Who looks for objects of a kind one after another in the order of their keys
+/// Where an object of each kind was last found among those of the kind. Who looks for objects of a kind one after another in the order of their keys
 /// finds each there or behind it, without a search. It is a hint: no clause knows what it holds.
 #[derive(Drop)]
 pub struct LastPlaces {
@@ -38,7 +38,7 @@ impl LastPlaces {
 }
 
 /// The kind's place among the kinds.
-fn place_of(kind: Kind) -> usize
+pub fn place_of(kind: Kind) -> usize
     ensures place { result ≡ kind_place kind }
     ensures bound { result < 11 }
 {

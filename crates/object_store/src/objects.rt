@@ -1,4 +1,4 @@
-ghost use Rattle.std.specs.Prelude.{◌≡◌, ◌≤◌, ◌++◌, true, false, IfSome, IfOk, IfErr, OnOk, OnErr};
+ghost use Rattle.std.specs.Prelude.{◌≡◌, ◌≤◌, true, false, IfSome, IfOk, IfErr, OnOk, OnErr};
 ghost use Rattle.std.specs.List.{All};
 ghost use Rattle.std.specs.Option.{option_copied};
 ghost use Rattle.std.specs.FinMap as map;
@@ -11,8 +11,7 @@ ghost use Rattle.object_store.specs.Changes.{IsFull, lacks_room};
 ghost use Rattle.object_store.specs.Held.{key_with};
 
 use crate::change::StoreFault;
-use crate::kinds::{count_others, part};
-use crate::last_places::LastPlaces;
+use crate::last_places::{LastPlaces, place_of};
 use mesh_base::key::{Kind, ObjKey};
 use mesh_base::list::List;
 use mesh_base::memory::Memory;
@@ -23,27 +22,33 @@ use std::marker::Model;
 use std::mem;
 use view_types::object::Object;
 
-/// Objects, each at its own key, in a list in the order of their keys. Contracts see them as a finite map.
+/// Objects, each at its own key. Those of a kind stand in a list of their own in the order of their keys, so that a new object moves
+/// objects of its own kind alone. Contracts see them as a finite map.
 #[derive(Drop)]
 pub struct Objects {
-    items: Vec<Object>,
+    /// How many are held.
+    held: usize,
+    /// Those of each kind, at the kind's place among the kinds.
+    of_kinds: [Vec<Object>; 11],
     last: LastPlaces,
 }
 
 impl Model for Objects {
+    ghost use Rattle.std.specs.Prelude.{◌≡◌, flat_map, length, vec_items};
     ghost use Rattle.std.specs.FinMap as map;
-    ghost use Rattle.mesh_base.specs.KeyOrder.{key_cmp, coded_key};
-    ghost use Rattle.mesh_base.specs.Keyed.{IsKeyed, keyed_map};
-    ghost use Rattle.view_types.specs.Objects.{key_of, ObjectMap};
+    ghost use Rattle.mesh_base.specs.KeyOrder.{coded_key};
+    ghost use Rattle.view_types.specs.Objects.{ObjectMap};
     ghost use Rattle.view_types.specs.contracts.object.Object as object;
+    ghost use Rattle.object_store.specs.KindLists.{AreFrom, map_of};
 
     ghost Value = { ObjectMap };
 
     ghost coded = { map.code coded_key object.the_row.coded };
 
-    ghost view = { λ s. keyed_map key_cmp key_of (λ o. o) s.items.items };
+    ghost view = { λ s. map_of vec_items s.of_kinds };
 
-    ghost invariant = { λ s. IsKeyed key_cmp key_of (λ o. o) s.items.items };
+    ghost invariant = { λ s. AreFrom vec_items 0 s.of_kinds
+        × (s.held ≡ length (flat_map vec_items s.of_kinds)) };
 }
 
 impl Objects {
@@ -51,7 +56,20 @@ impl Objects {
         ensures { result ≡ map.empty }
     {
         Objects {
-            items: Vec::new(alloc),
+            held: 0,
+            of_kinds: [
+                Vec::new(alloc),
+                Vec::new(alloc),
+                Vec::new(alloc),
+                Vec::new(alloc),
+                Vec::new(alloc),
+                Vec::new(alloc),
+                Vec::new(alloc),
+                Vec::new(alloc),
+                Vec::new(alloc),
+                Vec::new(alloc),
+                Vec::new(alloc),
+            ],
             last: LastPlaces::new(),
         }
     }
@@ -59,22 +77,22 @@ impl Objects {
     pub fn len(&self) -> usize
         ensures { result ≡ map.len self.now }
     {
-        self.items.len()
+        self.held
     }
 
-    /// The objects in the order of their keys.
-    pub fn all(&self) -> &[Object]
-        ensures value { result.now ≡ map.values self.now }
+    /// The objects of the kind in the order of their keys.
+    pub fn of_kind(&self, kind: Kind) -> &[Object]
+        ensures value { result.now ≡ of_kind kind self.now }
         ensures at_keys { AtKeys self.now }
     {
-        self.items.as_slice()
+        self.of_kinds[place_of(kind)].as_slice()
     }
 
     /// Each object stands at its own key. It looks at none of them.
     pub fn stand_at_keys(&self)
         ensures { AtKeys self.now }
     {
-        let _objects = self.all();
+        let _pods = self.of_kind(Kind::Pod);
     }
 
     pub fn get(&self, key: &ObjKey) -> Option<&Object>
@@ -90,11 +108,12 @@ impl Objects {
         ensures value { option_copied result ≡ map.get self.now (key_with kind ns.now name.now) }
         ensures at_key { IfSome result (λ o. key_of o.now ≡ key_with kind ns.now name.now) }
     {
+        let objects = self.of_kinds[place_of(kind)].as_slice();
         let last = self.last.of(kind);
-        match place_from(self.items.as_slice(), last.get(), kind, ns, name) {
+        match place_from(objects, last.get(), kind, ns, name) {
             Ok(at) => {
                 last.set(at);
-                Some(&self.items[at])
+                Some(&objects[at])
             }
             Err(_) => None,
         }
@@ -105,8 +124,12 @@ impl Objects {
         ensures before { result ≡ map.get self.old key.now }
         ensures removed { self.new ≡ map.remove self.old key.now }
     {
-        match place(self.items.as_slice(), key.kind, &key.ns, &key.name) {
-            Ok(at) => Some(self.items.remove(at)),
+        let objects = &mut self.of_kinds[place_of(key.kind)];
+        match place(objects.as_slice(), key.kind, &key.ns, &key.name) {
+            Ok(at) => {
+                self.held -= 1;
+                Some(objects.remove(at))
+            }
             Err(_) => None,
         }
     }
@@ -126,13 +149,15 @@ impl Objects {
         ensures full { IfErr result (IsFull self.old self.new (lacks_room self.old limit key.now)) }
         ensures err { OnErr result (self.new ≡ self.old) }
     {
-        match place(self.items.as_slice(), key.kind, &key.ns, &key.name) {
-            Ok(at) => Ok(Some(mem::replace(&mut self.items[at], object))),
+        let objects = &mut self.of_kinds[place_of(key.kind)];
+        match place(objects.as_slice(), key.kind, &key.ns, &key.name) {
+            Ok(at) => Ok(Some(mem::replace(&mut objects[at], object))),
             Err(at) => {
-                if self.items.len() == limit as usize {
+                if self.held == limit as usize {
                     return Err(StoreFault::Full { held: limit });
                 }
-                self.items.insert(at, object)?;
+                objects.insert(at, object)?;
+                self.held += 1;
                 Ok(None)
             }
         }
@@ -146,7 +171,7 @@ impl Objects {
         requires within { map.len self.now ≤ limit }
         ensures { result ≡ exceeds self.now limit kind items.now }
     {
-        items.len() > limit as usize - count_others(self.items.as_slice(), kind)
+        items.len() > limit as usize - (self.held - self.of_kind(kind).len())
     }
 
     /// Puts the items, which stand in the order of their keys, in the place of all objects of their kind, and gives
@@ -164,23 +189,18 @@ impl Objects {
         ensures now { OnOk result (of_kind kind self.new ≡ items.items) }
         ensures err { OnErr result (self.new ≡ map.empty) }
     {
-        let objects = mem::replace(&mut self.items, Vec::new(alloc));
-        let parts = part(objects, kind)?;
-        self.items = join(parts.below, items, parts.above)?;
-        Ok(List::from_vec(parts.own))
+        match (self.held - self.of_kind(kind).len()).checked_add(items.len()) {
+            Some(held) => {
+                self.held = held;
+                let objects = &mut self.of_kinds[place_of(kind)];
+                Ok(List::from_vec(mem::replace(objects, items)))
+            }
+            None => {
+                *self = Objects::new(alloc);
+                Err(Memory)
+            }
+        }
     }
-}
-
-fn join(
-    mut below: Vec<Object>,
-    mut own: Vec<Object>,
-    mut above: Vec<Object>,
-) -> Result<Vec<Object>, Memory>
-    ensures { IfOk result (λ joined. joined.items ≡ below.items ++ (own.items ++ above.items)) }
-{
-    below.append(&mut own)?;
-    below.append(&mut above)?;
-    Ok(below)
 }
 
 /// Where the key of this kind, namespace and name stands, or where it would go. It is looked for at a place first, and behind that.

@@ -22,7 +22,7 @@ use mesh_base::memory::Memory;
 use std::alloc::Global;
 use view_types::object::Object;
 
-/// Puts the items in the place of all objects of their kind. They are sorted once; the rest moves whole.
+/// Puts the items in the place of all objects of their kind. They are sorted once; the objects of other kinds stay where they are.
 pub fn relist(
     alloc: Global,
     objects: &mut Objects,

@@ -4,7 +4,7 @@ ghost use Rattle.std.specs.FinMap as map;
 ghost use Rattle.mark_rules.specs.Reads.{count_at};
 ghost use Rattle.view_types.specs.declared.mark.Mark.TheVariants.{IpPod, IpService, Obj, PolicyOn, RouteOn, ServerAuthzIn, ServersIn, SlicesOf};
 ghost use Rattle.view_types.specs.Objects.{AtKeys, key_of, IsListOf};
-ghost use Rattle.object_store.specs.Relisted.{Relists, exceeds};
+ghost use Rattle.object_store.specs.Relisted.{Relists, exceeds, of_kind};
 ghost use Rattle.object_store.specs.KeyLists.{FindsFirst, FindsKeys, StayUnlessSpent, is_of_key};
 ghost use Rattle.object_store.specs.Held.{key_with};
 ghost use Rattle.object_store.specs.ServerKeys.{AreKept, FindsServers};
@@ -94,12 +94,12 @@ impl Store {
         self.spent
     }
 
-    /// The objects in the order of their keys.
-    pub fn all(&self) -> &[Object]
-        ensures value { result.now ≡ map.values self.now.objects }
+    /// The objects of the kind in the order of their keys.
+    pub fn of_kind(&self, kind: Kind) -> &[Object]
+        ensures value { result.now ≡ of_kind kind self.now.objects }
         ensures at_keys { AtKeys self.now.objects }
     {
-        self.objects.all()
+        self.objects.of_kind(kind)
     }
 
     /// Each object stands at its own key. It looks at none of them: a caller that rests on it calls this, at no cost.

@@ -86,9 +86,12 @@ fn is_full(alloc: Global, store: &mut Store, name: &str) -> Result<bool, Fail> {
     Ok(full == Some(StoreFault::Full { held: 2 }))
 }
 
-/// How many objects are listed, and how many are counted.
+/// How many objects of the kind are listed, and how many objects are counted.
 fn sizes(store: &Store) -> (usize, usize) {
-    (store.all().len(), store.len())
+    (
+        store.of_kind(Kind::NetworkAuthentication).len(),
+        store.len(),
+    )
 }
 
 fn has(store: &Store, key: &ObjKey) -> bool {

@@ -3,18 +3,22 @@ use Rattle.std.proofs.Common.{◌≡◌, ◌<◌, ◌≤◌, ℕ, List, length, 
 use Rattle.std.specs.FinMap.{get, values}
 use Rattle.std.specs.Option.{is_some}
 use Rattle.mesh_base.proofs.KeyOrder.{keys_total}
+use Rattle.mesh_base.specs.declared.key.Kind.{Kind}
 use Rattle.mesh_base.specs.declared.key.ObjKey.{ObjKey}
+use Rattle.object_store.specs.Relisted.{is_of, of_kind}
 use Rattle.view_types.specs.Objects.{AtKeys, ObjectMap, key_of}
 use Rattle.view_types.specs.declared.mark.Mark.TheVariants.{Obj}
 use Rattle.view_types.specs.declared.object.Object.{Object}
-use Rattle.view_rules.proofs.Among.{Among, among_from}
+use Rattle.view_rules.proofs.Among.{Among, among_from, from_kept}
 use Rattle.view_rules.proofs.Entries.{held_somewhere}
 use Rattle.mark_rules.proofs.Counts.{key_counts, one_if}
 use Rattle.mark_rules.specs.Reads.{count_at}
 
-pub found_at : (held : ObjectMap) → AtKeys held → (all : List Object) → all ≡ values held → (place : ℕ) (key : ObjKey) (o : Object) → place < length all → o ≡ slice_index_or all place o → key_of o ≡ key → get held key ≡ Some o
-found_at held own all is place key o within at same =
-    let somewhere = held_somewhere keys_total held o (subst (λ (os : List Object). Among o os) is (among_from all o (place, omega (arith, within), sym at))) in
+pub found_at : (held : ObjectMap) → AtKeys held → (kind : Kind) (listed : List Object) → listed ≡ of_kind kind held → (place : ℕ) (key : ObjKey) (o : Object) → place < length listed → o ≡ slice_index_or listed place o → key_of o ≡ key
+    → get held key ≡ Some o
+found_at held own kind listed is place key o within at same =
+    let among = from_kept (λ o. is_of kind (key_of o)) (values held) o (subst (λ (os : List Object). Among o os) is (among_from listed o (place, omega (arith, within), sym at))) in
+    let somewhere = held_somewhere keys_total held o among.0 in
     ap (get held) (sym same ∙ own somewhere.0 o somewhere.1) ∙ somewhere.1
 
 -- and it counts among the objects with the mark of the key

@@ -32,7 +32,7 @@ use view_types::policy::{Policy, Protocol};
 pub type ServerPart = (Protocol, Policy, Option<Text>, List<Text>);
 
 /// The server part of a port, if its Pod is held, with the Servers that match the port, the marks
-/// that are read, and the position of the Pod among the objects held when it was last looked up.
+/// that are read, and the position of the Pod among the Pods held when it was last looked up.
 #[derive(Drop)]
 pub struct KeptServer {
     pub(crate) row: Option<ServerPart>,

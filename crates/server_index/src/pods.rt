@@ -17,7 +17,7 @@ use view_scratch::pod::pod_named;
 use view_types::object::Object;
 use view_types::pod::Pod;
 
-/// The Pod of the key, looked for at this place among the objects held first. The place is set again where the Pod isn't there.
+/// The Pod of the key, looked for at this place among the Pods held first. The place is set again where the Pod isn't there.
 pub(crate) fn pod_near<'a, L>(
     store: &'a Store,
     key: &ServerKey,
@@ -60,24 +60,24 @@ fn pod_sought<'a, L>(
     }
 }
 
-/// Where the Pod of the key stands among the objects held, or would stand. A caller tries the place, so that nothing rests on it.
+/// Where the Pod of the key stands among the Pods held, or would stand. A caller tries the place, so that nothing rests on it.
 fn place_of(store: &Store, key: &ServerKey) -> usize {
     match store
-        .all()
+        .of_kind(Kind::Pod)
         .binary_search_by(|object| compare_key(object, key))
     {
         Ok(place) | Err(place) => place,
     }
 }
 
-/// The object at this place among those held, if it is at the key of the Pod.
+/// The object at this place among the Pods held, if it is at the key of the Pod.
 fn object_at<'a>(store: &'a Store, key: &ServerKey, place: usize) -> Option<&'a Object>
     ensures value { IfSome result (λ o.
         get store.now.objects (pod_key key.now.ns key.now.pod) ≡ Some o.now) }
     ensures counts { IfSome result (λ o.
         1 ≤ count_at store.now.objects (Obj (pod_key key.now.ns key.now.pod))) }
 {
-    let object = store.all().get(place)?;
+    let object = store.of_kind(Kind::Pod).get(place)?;
     match compare_key(object, key) {
         Ordering::Equal => Some(object),
         _ => None,

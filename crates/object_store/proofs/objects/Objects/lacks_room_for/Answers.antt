@@ -1,18 +1,21 @@
-use Rattle.std.proofs.Common.{◌≡◌}
+use Rattle.std.proofs.Common.{◌≡◌, vec_items, arith}
 use Rattle.std.proofs.lemmas.List.Elements.{recursion_from_All}
 use Rattle.view_types.specs.Objects.{kind_of}
-use Rattle.object_store.proofs.Arranged.{others_within}
-use Rattle.object_store.proofs.Spliced.{exceeds_is}
+use Rattle.object_store.proofs.KindLists.{exceeds_is, len_held, own_count}
 use Rattle.object_store.proofs.objects.Objects.lacks_room_for.Goals as goal
 
 pub overflow_sub-result : goal.overflow_sub-result
 overflow_sub-result c =
-    let others = rw c.as_slice.ensures.value at c.count_others.ensures in
-    others_within c.args.kind c.self.inside.items.items c.self.invariant c.args.limit c.count_others.result others (rw (← c.self.view_is) at c.requires.within)
+    let own = rw (← c.self.view_is) at c.of_kind.ensures.value in
+    rw (own, c.self.invariant.1) (own_count vec_items c.self.inside.of_kinds c.self.invariant.0 c.args.kind)
+
+pub overflow_sub-result-2 : goal.overflow_sub-result-2
+overflow_sub-result-2 c =
+    let within = rw (← c.self.view_is, len_held vec_items c.self.inside.of_kinds c.self.invariant.0, ← c.self.invariant.1) at c.requires.within in
+    omega (arith, within)
 
 pub returns : goal.returns
 returns c =
-    let others = rw c.as_slice.ensures.value at c.count_others.ensures in
-    rw (← c.self.view_is) (exceeds_is c.args.kind c.self.inside.items.items c.args.items.now c.self.invariant c.requires.sorted
-    (recursion_from_All (λ o. kind_of o ≡ c.args.kind) c.args.items.now c.requires.each) c.args.limit c.count_others.result others
-    (others_within c.args.kind c.self.inside.items.items c.self.invariant c.args.limit c.count_others.result others (rw (← c.self.view_is) at c.requires.within)))
+    let own = rw (← c.self.view_is) at c.of_kind.ensures.value in
+    rw (← c.self.view_is, own, c.self.invariant.1) (exceeds_is vec_items c.self.inside.of_kinds c.self.invariant.0 c.args.kind c.args.items.now c.requires.sorted
+    (recursion_from_All (λ o. kind_of o ≡ c.args.kind) c.args.items.now c.requires.each) c.args.limit (rw (← c.self.view_is) at c.requires.within))

@@ -1,40 +1,40 @@
-use Rattle.std.proofs.Common.{◌≡◌, Result, Ok, Err, OnErr, sym, ap, ◌∙◌}
-use Rattle.std.specs.List.{filter}
+use Rattle.std.proofs.Common.{◌≡◌, length, vec_items, sym, ap, ◌∙◌, arith}
+use Rattle.std.specs.List.{AllByRecursion}
 use Rattle.std.proofs.lemmas.List.Elements.{recursion_from_All}
-use Rattle.mesh_base.specs.KeyOrder.{key_cmp}
-use Rattle.mesh_base.proofs.Keyed.{keyed_none, items_are_values}
-use Rattle.view_types.specs.Objects.{key_of, kind_of}
-use Rattle.object_store.specs.Relisted.{is_of, of_kind}
-use Rattle.object_store.proofs.Spliced.{spliced_sorted, spliced_is, of_kind-relisted}
+use Rattle.mesh_base.specs.KeyOrder.{kind_place}
+use Rattle.view_types.specs.Objects.{kind_of}
+use Rattle.object_store.specs.KindLists.{AreOfPlace}
+use Rattle.object_store.proofs.KindLists.{of_kind_set, own_count, own_kind, own_within, relisted_is, set_count, set_ok}
+use Rattle.object_store.proofs.PutAll.{weaker}
 use Rattle.object_store.proofs.objects.Objects.replace.Goals as goal
+use Rattle.object_store.proofs.objects.Objects.replace.Goals.{After-from_vec}
 
-on_err : {X E : Type 0} {P : Type 0} (r : Result X E) → P → OnErr r P
-on_err (Ok x) p = tt
-on_err (Err e) p = p
+-- the items are of the kind, and stand in the order of their keys
+all_of : (c : After-from_vec) → AllByRecursion (λ o. kind_of o ≡ c.args.kind) (vec_items c.replace.new.dest)
+all_of c = rw c.replace.ensures.after (recursion_from_All (λ o. kind_of o ≡ c.args.kind) c.args.items.items c.requires.each)
 
-pub returns-in_err-parts-clause-err : goal.returns-in_err-parts-clause-err
-returns-in_err-parts-clause-err c = on_err c.from_residual.result (rw (c.replace-objects.ensures.after, c.new.ensures.items) (keyed_none key_cmp key_of (λ o. o)))
+good : (c : After-from_vec) → AreOfPlace c.place_of.result (vec_items c.replace.new.dest)
+good c = (rw c.replace.ensures.after c.requires.sorted, weaker (λ o. kind_of o ≡ c.args.kind) _ (λ o of. ap kind_place of ∙ sym c.place_of.ensures.place) (vec_items c.replace.new.dest) (all_of c))
 
-pub returns-in_err-self-inside-clause-err : goal.returns-in_err-self-inside-clause-err
-returns-in_err-self-inside-clause-err c = on_err c.from_residual-in_err-self-inside.result (rw (c.replace-objects.ensures.after, c.new.ensures.items) (keyed_none key_cmp key_of (λ o. o)))
+pub overflow_sub-self-inside : goal.overflow_sub-self-inside
+overflow_sub-self-inside c =
+    let own = rw (← c.self.view_is) at c.of_kind.ensures.value in
+    rw (own, c.self.invariant.1) (own_count vec_items c.self.inside.of_kinds c.self.invariant.0 c.args.kind)
 
-pub invariant_of-self-2 : goal.invariant_of-self-2
-invariant_of-self-2 c =
-    rw (c.in_ok-self-inside.ensures, c.in_ok-parts.ensures.below, c.in_ok-parts.ensures.above, c.replace-objects.ensures.value)
-    (spliced_sorted c.args.kind c.self.inside.items.items c.args.items.items c.self.invariant c.requires.sorted (recursion_from_All (λ o. kind_of o ≡ c.args.kind) c.args.items.items c.requires.each))
+pub invariant_of-self : goal.invariant_of-self
+invariant_of-self c =
+    let sums = set_count vec_items c.self.inside.of_kinds c.self.invariant.0 c.args.kind c.place_of.result c.index-self-place_of.result c.place_of.ensures.place c.place_of.ensures.bound c.replace.new.dest (good c) in
+    let new = ap (λ v. length (vec_items v)) c.replace.ensures.after in
+    let own = rw (← c.self.view_is, own_kind vec_items c.self.inside.of_kinds c.self.invariant.0 c.args.kind c.place_of.result c.index-self-place_of.result c.place_of.ensures.place c.place_of.ensures.bound) at c.of_kind.ensures.value in
+    let count = ap length own in
+    let le = own_within vec_items c.self.inside.of_kinds c.self.invariant.0 c.args.kind c.place_of.result c.index-self-place_of.result c.place_of.ensures.place c.place_of.ensures.bound in
+    (set_ok vec_items c.self.inside.of_kinds c.self.invariant.0 c.args.kind c.place_of.result c.index-self-place_of.result c.place_of.ensures.place c.place_of.ensures.bound c.replace.new.dest (good c), omega (arith, sums, new, count, le, c.self.invariant.1, c.in-Some.ensures, c.len.ensures, c.args.items.ok.0))
 
-pub returns-clause-ok : goal.returns-clause-ok
-returns-clause-ok c =
-    rw (c.in_ok-self-inside.ensures, c.in_ok-parts.ensures.below, c.in_ok-parts.ensures.above, c.replace-objects.ensures.value, ← c.self.view_is)
-    (spliced_is c.args.kind c.self.inside.items.items c.args.items.items c.self.invariant c.requires.sorted (recursion_from_All (λ o. kind_of o ≡ c.args.kind) c.args.items.items c.requires.each))
+pub returns-in-Some-clause-ok : goal.returns-in-Some-clause-ok
+returns-in-Some-clause-ok c = rw (← c.self.view_is, ← c.replace.ensures.after) (relisted_is vec_items c.self.inside.of_kinds c.self.invariant.0 c.args.kind c.place_of.result c.index-self-place_of.result c.place_of.ensures.place c.place_of.ensures.bound c.replace.new.dest (good c) (all_of c))
 
-pub returns-clause-before : goal.returns-clause-before
-returns-clause-before c =
-    rw (c.from_vec.ensures, c.in_ok-parts.ensures.own, c.replace-objects.ensures.value, ← c.self.view_is)
-    (ap (filter (λ o. is_of c.args.kind (key_of o))) (sym (items_are_values key_cmp key_of c.self.inside.items.items c.self.invariant)))
+pub returns-in-Some-clause-before : goal.returns-in-Some-clause-before
+returns-in-Some-clause-before c = rw (c.from_vec.ensures, c.replace.ensures.value, ← c.self.view_is) (sym (own_kind vec_items c.self.inside.of_kinds c.self.invariant.0 c.args.kind c.place_of.result c.index-self-place_of.result c.place_of.ensures.place c.place_of.ensures.bound))
 
-pub returns-clause-now : goal.returns-clause-now
-returns-clause-now c =
-    rw (c.in_ok-self-inside.ensures, c.in_ok-parts.ensures.below, c.in_ok-parts.ensures.above, c.replace-objects.ensures.value)
-    (ap (of_kind c.args.kind) (spliced_is c.args.kind c.self.inside.items.items c.args.items.items c.self.invariant c.requires.sorted (recursion_from_All (λ o. kind_of o ≡ c.args.kind) c.args.items.items c.requires.each))
-    ∙ of_kind-relisted c.args.kind c.self.inside.items.items c.args.items.items c.self.invariant c.requires.sorted (recursion_from_All (λ o. kind_of o ≡ c.args.kind) c.args.items.items c.requires.each))
+pub returns-in-Some-clause-now : goal.returns-in-Some-clause-now
+returns-in-Some-clause-now c = of_kind_set vec_items c.self.inside.of_kinds c.self.invariant.0 c.args.kind c.place_of.result c.index-self-place_of.result c.place_of.ensures.place c.place_of.ensures.bound c.replace.new.dest (good c) ∙ ap vec_items c.replace.ensures.after
