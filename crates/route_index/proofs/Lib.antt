@@ -1,1 +1,5 @@
+mod Followed
+mod InPlace
+mod Named
 mod RouteCosts
+mod Twos

@@ -5,25 +5,23 @@ ghost use Rattle.mark_rules.specs.Reads.{route_reads};
 ghost use Rattle.mark_rules.specs.Rows.{server_routes};
 ghost use Rattle.mark_rules.specs.declared.keys.RouteKey.{RouteKey as TheKey};
 
-use crate::finder::RouteFinder;
-use row_table::plain_row::FindAnew;
+use crate::rule::RouteRule;
 use row_table::row_index::RowIndex;
 use row_table::table::RowTable;
 use std::alloc::Global;
 
 /// The routes of Servers by their keys.
-pub type RouteIndex = RowTable<FindAnew<RouteFinder>>;
+pub type RouteIndex = RowTable<RouteRule>;
 
 /// An index without users. It stands for all objects.
 pub fn new_index(alloc: Global) -> RouteIndex
-    ensures filter { ⟦<RowTable<FindAnew<RouteFinder>> as RowIndex>⟧.filter result
+    ensures filter { ⟦<RowTable<RouteRule> as RowIndex>⟧.filter result
         ≡ record { row_of = server_routes; reads = λ held. route_reads } }
     ensures users { (key : TheKey)
-        → ⟦<RowTable<FindAnew<RouteFinder>> as RowIndex>⟧.users result key ≡ 0 }
+        → ⟦<RowTable<RouteRule> as RowIndex>⟧.users result key ≡ 0 }
     ensures stands { (held : ObjectMap)
-        → ⟦<RowTable<FindAnew<RouteFinder>> as RowIndex>⟧.stands result held }
-    ensures going { ⟦<RowTable<FindAnew<RouteFinder>> as RowIndex>⟧.is_spent result ≡ false }
+        → ⟦<RowTable<RouteRule> as RowIndex>⟧.stands result held }
+    ensures going { ⟦<RowTable<RouteRule> as RowIndex>⟧.is_spent result ≡ false }
 {
-    let finder = RouteFinder;
-    RowTable::new(alloc, FindAnew { finder })
+    RowTable::new(alloc, RouteRule)
 }

@@ -1,6 +1,6 @@
 use Rattle.std.proofs.Common.{◌≡◌, map, take}
 use Rattle.mark_rules.specs.Rows.{bare_route}
-use Rattle.route_index.proofs.finder.bare_routes.Given as goal
+use Rattle.route_index.proofs.found.bare_routes.Given as goal
 
 -- what is shown of the routes so far
 abbrev pub invariant-loop-route : goal.invariant-loop-route
