@@ -9,17 +9,17 @@ use Rattle.k8s_meta.specs.Words.{valid, text}
 use Rattle.k8s_meta.specs.declared.fault.What.TheVariants as what
 use Rattle.k8s_meta.specs.declared.fault.ReadFault.{ReadFault}
 
--- a text, in nanoseconds
+-- a string, in nanoseconds
 unfoldable pub duration : Spot → Result ℕ ReadFault
 duration s = text s >>= λ t. valid s.at what.Duration (duration_of t)
 
--- a number that is held as a whole one
+-- a whole number, in thousandths
 abbrev pub whole_quantity : Num → Option ℕ
 whole_quantity (unsigned n) = at_most 4294967295 (Some (n * 1000))
 whole_quantity (negative z) = None
 whole_quantity (float x) = None
 
--- a number or a text, in thousandths
+-- a number or a string, in thousandths
 abbrev pub quantity_value : Data → Option ℕ
 quantity_value null = None
 quantity_value (boolean b) = None
@@ -28,6 +28,6 @@ quantity_value (string t) = quantity_of t
 quantity_value (array ds) = None
 quantity_value (object ms) = None
 
--- any other value is a bad quantity
+-- any other value is the error BadValue
 unfoldable pub quantity : Spot → Result ℕ ReadFault
 quantity s = valid s.at what.Quantity (quantity_value s.value)

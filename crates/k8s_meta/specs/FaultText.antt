@@ -1,4 +1,4 @@
--- How a fault is written: its word, the path of the member, and what is wrong with its value.
+-- The string of an error: its name, the path of the member, and what is wrong with its value.
 use Rattle.std.specs.Prelude.{ℕ, List, [], ◌++◌, codes}
 use Rattle.k8s_meta.specs.declared.fault.ReadFault.{ReadFault}
 use Rattle.k8s_meta.specs.declared.fault.ReadFault.TheVariants.{Memory, Missing, WrongType, BadName, BadValue}
@@ -16,7 +16,7 @@ what_text Method = codes "Method"
 what_text Shape = codes "Shape"
 what_text TwoReferences = codes "TwoReferences"
 
--- Want of memory has no text.
+-- The string of Memory is empty.
 abbrev pub read_fault_text : ReadFault → List ℕ
 read_fault_text Memory = []
 read_fault_text (Missing path) = codes "Missing " ++ path

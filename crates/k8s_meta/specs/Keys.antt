@@ -1,4 +1,4 @@
--- The names of members.
+-- The names of members in JSON.
 use Rattle.std.specs.Prelude.{codes, ℕ, List}
 use Rattle.k8s_meta.specs.declared.key.Key.{Key}
 use Rattle.k8s_meta.specs.declared.key.Key.TheVariants as keys

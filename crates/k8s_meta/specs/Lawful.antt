@@ -1,10 +1,10 @@
--- What holds of metadata, strings, ports and times that were read, and later calls require.
+-- Properties of metadata, strings, ports and times that were read, which later calls require.
 use Rattle.std.specs.Prelude.{ℕ, ◌≡◌, ◌≢◌, ◌<◌, ◌^◌, Bool, true, List, [], Option, Some, None, IsUtf8}
 use Rattle.std.specs.List.{AllByRecursion}
 use Rattle.k8s_meta.specs.Scalars.{is_label_byte, is_name_byte}
 use Rattle.k8s_meta.specs.declared.meta.Meta.{Meta}
 
--- no string, or one in UTF-8
+-- no string, or a string in UTF-8
 abbrev pub IsString : Option (List ℕ) → Type 0
 IsString None = Unit {0}
 IsString (Some text) = IsUtf8 text
@@ -16,11 +16,11 @@ abbrev pub IsSomePort : Option ℕ → Type 0
 IsSomePort None = Unit {0}
 IsSomePort (Some port) = IsPort port
 
--- Each byte of the string passes.
+-- Each byte of the string passes the test.
 abbrev pub HasOnly : (ℕ → Bool) → List ℕ → Type 0
 HasOnly passes text = AllByRecursion (λ (byte : ℕ). passes byte ≡ true) text
 
--- There is a name, it and the namespace have the bytes of names alone, and a creation time isn't the empty string.
+-- The name and the namespace have only bytes of names; the name and a creation time are not empty.
 pub record IsLawfulMeta (meta : Meta) : Type 0 where
   pub name : meta.name ≢ []
   pub name_text : IsUtf8 meta.name
@@ -30,7 +30,7 @@ pub record IsLawfulMeta (meta : Meta) : Type 0 where
   pub created : meta.created ≢ Some []
   pub created_text : IsString meta.created
 
--- below 2 ^ 63 nanoseconds
+-- no duration, or one below 2 ^ 63 nanoseconds
 abbrev pub IsShort : Option ℕ → Type 0
 IsShort None = Unit {0}
 IsShort (Some nanoseconds) = nanoseconds < 2 ^ 63

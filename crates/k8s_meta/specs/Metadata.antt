@@ -1,4 +1,4 @@
--- The metadata of an object.
+-- The metadata of an object (ObjectMeta, meta/v1).
 use Rattle.std.specs.Prelude.{codes, ℕ, ◌&&◌, ◌==◌, List, [], ◌∷◌, Bool, true, false, Option, Some, None, Result, Ok, nat_le, if◌then◌else◌}
 use Rattle.k8s_meta.specs.Lists.{label_map}
 use Rattle.k8s_meta.specs.Scalars.{name_within, namespace}
@@ -8,7 +8,7 @@ use Rattle.k8s_meta.specs.declared.fault.ReadFault.{ReadFault}
 use Rattle.k8s_meta.specs.declared.key.Key.TheVariants as keys
 use Rattle.k8s_meta.specs.declared.meta.Meta.{Meta}
 
--- a byte as one of a form, where d is any digit
+-- whether a byte fits a byte of a form, where d is any digit
 abbrev pub fits : ℕ → ℕ → Bool
 fits form byte = if form == 100 then nat_le 48 byte && nat_le byte 57 else form == byte
 
@@ -20,12 +20,12 @@ all_fit _ _ = false
 unfoldable pub is_time : List ℕ → Bool
 is_time t = all_fit (codes "dddd-dd-ddTdd:dd:ddZ") t
 
--- another text counts as absent
+-- any other string counts as absent
 abbrev pub time_of : Option (List ℕ) → Option (List ℕ)
 time_of (Some t) = if is_time t then Some t else None
 time_of None = None
 
--- the metadata, where the name has at most so many bytes
+-- the metadata of an object whose name has at most this many bytes
 unfoldable pub meta_within : ℕ → Spot → Result Meta ReadFault
 meta_within most o = do
   o ← object o

@@ -5,18 +5,18 @@ use crate::fault::{ReadFault, What};
 use crate::place::Place;
 use crate::reader::Reader;
 
-/// Words that stand for something.
+/// A set of words, each with a meaning.
 pub trait Word {
     type Meaning: Drop;
 
-    /// What a word stands for, if it is among them.
+    /// The meaning of a word, or None if it is not in the set.
     ghost meaning: { Self → List ℕ → Option Self.Meaning };
 
     fn meaning_of(&self, text: &str) -> Option<Self::Meaning>
         ensures { result ≡ meaning self.now text.now };
 }
 
-/// A string that is among the words.
+/// A reader of the words of a set. Any other string is the error `BadValue` with `Choice`.
 #[derive(Clone, Copy)]
 pub struct Choice<W>(pub W);
 

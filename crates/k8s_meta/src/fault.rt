@@ -6,7 +6,7 @@ use mesh_base::memory;
 use mesh_base::text::Text;
 use std::alloc::{AllocError, AllocFailed, Global};
 
-/// What is wrong with a value of the right type.
+/// The reason why a value of the right type is not accepted.
 #[derive(Clone, Copy, Debug, PartialEq, Eq)]
 pub enum What {
     Address,
@@ -20,7 +20,7 @@ pub enum What {
     TwoReferences,
 }
 
-/// Why an object can't be read: its first fault in the order of the member tables, and the path of it.
+/// The first error of an object, in the order of the member tables, with the path of the member.
 #[derive(Debug, Drop)]
 pub enum ReadFault {
     Memory,

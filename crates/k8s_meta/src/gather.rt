@@ -11,7 +11,7 @@ use mesh_base::list::List;
 use mesh_base::memory::Memory;
 use serde_json::Value;
 
-/// What an item that was read adds to the list of all.
+/// A way to add an item that was read to the list of results.
 pub trait Gather<A> {
     type Item: Drop;
 
@@ -21,7 +21,7 @@ pub trait Gather<A> {
         ensures { OnOk result (found.new ≡ found.old ++ parts read) };
 }
 
-/// Itself.
+/// The item itself.
 pub struct Single;
 
 impl<T: Drop> Gather<T> for Single {
@@ -34,7 +34,7 @@ impl<T: Drop> Gather<T> for Single {
     }
 }
 
-/// Its value, where it gives one.
+/// The value of an optional item. None adds nothing.
 pub struct Present;
 
 impl<T: Drop> Gather<Option<T>> for Present {
@@ -82,14 +82,14 @@ fn read_items<'a, R: Reader, G: Gather<R::Made>>(
 }
 
 impl<'a> Place<'a> {
-    /// The items of the list at a member, which is empty where it is absent.
+    /// Reads the items of the list at a member. An absent list is empty.
     pub fn each<R: Reader>(&'a self, key: Key, reader: &R) -> Result<List<R::Made>, ReadFault>
         ensures { Reads result (each (R.reading reader.now) ((seen self.now) · key)) }
     {
         read_list::<R, Single>(&self.member(key), reader)
     }
 
-    /// The values of those items of the list at a member that give one.
+    /// Reads the optional items of the list at a member. Items without a value are left out.
     pub fn each_some<T: Drop, R: Reader<Made = Option<T>>>(
         &'a self,
         key: Key,

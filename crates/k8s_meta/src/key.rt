@@ -1,7 +1,7 @@
 ghost use Rattle.std.specs.Prelude.{◌≡◌};
 ghost use Rattle.k8s_meta.specs.Keys.{key_text};
 
-/// The name of a member of an object or of a line.
+/// The name of a member of a Kubernetes object, or of a line of a feed.
 #[derive(Clone, Copy)]
 pub enum Key {
     ApiVersion,
@@ -118,7 +118,7 @@ pub enum Key {
 }
 
 impl Key {
-    /// As JSON writes it.
+    /// Returns the name as it is in JSON, such as `apiVersion`.
     #[tactic(auto, unfolding(crate::specs::Keys::key_text))]
     pub fn text(self) -> &'static str
         ensures { result.now ≡ key_text self }

@@ -32,7 +32,7 @@ fn labels_of(alloc: Global, members: &Map<String, Value>) -> Result<Option<Label
     Ok(Some(found))
 }
 
-/// The texts of an object by their keys.
+/// Reads an object of strings. Members that are null are left out.
 #[tactic(auto, unfolding(crate::specs::Lists::label_map, crate::specs::Words::default))]
 fn labels_here<'a>(place: &'a Place<'a>) -> Result<Labels, ReadFault>
     ensures { Reads result (label_map (seen place.now)) }
@@ -48,7 +48,7 @@ fn labels_here<'a>(place: &'a Place<'a>) -> Result<Labels, ReadFault>
 }
 
 impl<'a> Place<'a> {
-    /// The map of texts at a member, empty where it is absent. A fault names the map itself.
+    /// Reads the map of strings at a member, empty if absent. An error has the path of the map.
     pub fn labels(&'a self, key: Key) -> Result<Labels, ReadFault>
         ensures { Reads result (label_map ((seen self.now) · key)) }
     {

@@ -1,9 +1,9 @@
-//! Metadata and scalars of Kubernetes objects, and the language that the readers of all kinds are written in.
+//! Metadata and scalars of Kubernetes objects, and the language in which readers are written.
 //!
-//! Stands on mesh_base and net_cidr. A reader's definition is its member table, one line a member, in the words of
-//! `specs/Words`, `specs/Scalars`, `specs/Amounts` and `specs/Lists`: each reads a `Spot`, a value and its path, and
-//! gives what stands there or the first fault. The code is the same lines over a `Place`, with a `Reader` for each
-//! word, and its contract is `Reads result (table (seen place))` of `specs/Spots`. Metadata is `specs/Metadata`.
+//! Depends on mesh_base and net_cidr. A reader is defined by a member table in the words of
+//! `specs/Words`, `specs/Scalars`, `specs/Amounts` and `specs/Lists`. A word reads a `Spot`, a
+//! value with its path, and returns a value or the first error. The code has the same lines over a
+//! `Place`, with the contract `Reads` of `specs/Spots`. `specs/Metadata` defines metadata.
 #![tactic(auto)]
 
 pub mod choice;

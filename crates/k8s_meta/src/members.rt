@@ -11,7 +11,7 @@ use mesh_base::memory::Memory;
 use mesh_base::text::Text;
 
 impl<'a> Place<'a> {
-    /// The member, an object, empty where it is absent.
+    /// Returns the object at a member. An absent one counts as empty.
     #[tactic(auto, unfolding(crate::specs::Words::part, crate::specs::Words::default))]
     pub fn part(&'a self, key: Key) -> Result<Place<'a>, ReadFault>
         ensures { Gives seen result (part ((seen self.now) · key)) }
@@ -24,7 +24,7 @@ impl<'a> Place<'a> {
         Ok(place)
     }
 
-    /// The member, an object, which has to be there.
+    /// Returns the object at a member, or the error `Missing` if it is absent.
     #[tactic(auto, unfolding(crate::specs::Words::required))]
     pub fn required_part(&'a self, key: Key) -> Result<Place<'a>, ReadFault>
         ensures { Gives seen result (required object ((seen self.now) · key)) }
@@ -37,7 +37,7 @@ impl<'a> Place<'a> {
         Ok(place)
     }
 
-    /// The member, which has to be there.
+    /// Reads a member, or returns the error `Missing` if it is absent.
     #[tactic(auto, unfolding(crate::specs::Words::required))]
     pub fn required<R: Reader>(&'a self, key: Key, reader: &R) -> Result<R::Made, ReadFault>
         ensures { Reads result (required (R.reading reader.now) ((seen self.now) · key)) }
@@ -49,7 +49,7 @@ impl<'a> Place<'a> {
         reader.read(&place)
     }
 
-    /// The member, if it is there.
+    /// Reads a member, or returns None if it is absent.
     #[tactic(auto, unfolding(crate::specs::Spots::then, crate::specs::Words::optional, crate::specs::Words::default))]
     pub fn optional<R: Reader>(&'a self, key: Key, reader: &R) -> Result<Option<R::Made>, ReadFault>
         ensures { Reads result (optional (R.reading reader.now) ((seen self.now) · key)) }
@@ -62,7 +62,7 @@ impl<'a> Place<'a> {
         Ok(Some(found))
     }
 
-    /// The member, or another value where it is absent.
+    /// Reads a member, or returns `other` if it is absent.
     #[tactic(auto, unfolding(crate::specs::Words::default))]
     pub fn default<R: Reader>(
         &'a self,
@@ -79,7 +79,7 @@ impl<'a> Place<'a> {
         reader.read(&place)
     }
 
-    /// The string at a member, or another one where it is absent, without a copy.
+    /// Returns the string at a member without a copy, or `other` if it is absent.
     #[tactic(auto, unfolding(crate::specs::Words::default))]
     pub fn str_or(&'a self, key: Key, other: &'a str) -> Result<&'a str, ReadFault>
         ensures { Gives (λ s. s.now) result (default other.now text ((seen self.now) · key)) }
@@ -91,7 +91,7 @@ impl<'a> Place<'a> {
         place.text()
     }
 
-    /// The member, or another string where it is absent.
+    /// Reads the string at a member, or returns a copy of `other` if it is absent.
     #[tactic(auto, unfolding(crate::specs::Words::default))]
     pub fn text_or<R: Reader<Made = Text>>(
         &'a self,
@@ -108,7 +108,7 @@ impl<'a> Place<'a> {
         reader.read(&place)
     }
 
-    /// The member, where it reads. One with a fault counts as absent.
+    /// Reads a member, or returns None if that fails. The only error is out of memory.
     #[tactic(auto, using(crate::proofs::Loop::fails_none))]
     pub fn lenient<R: Reader>(&'a self, key: Key, reader: &R) -> Result<Option<R::Made>, Memory>
         ensures { IfOk result
@@ -121,7 +121,7 @@ impl<'a> Place<'a> {
     }
 }
 
-/// Nothing for a fault, unless memory ran out.
+/// Returns None for an error other than out of memory.
 fn none_for<T: Drop>(fault: ReadFault) -> Result<Option<T>, Memory>
     ensures { IfOk result (λ found. (found ≡ None) × (fault ≢ faults.Memory)) }
 {

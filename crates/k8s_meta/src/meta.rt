@@ -15,15 +15,15 @@ use mesh_base::text::Text;
 use serde_json::Value;
 use std::alloc::Global;
 
-/// What each object says of itself (ObjectMeta, meta/v1).
+/// The metadata of an object (ObjectMeta, meta/v1).
 #[derive(Debug, Drop)]
 pub struct Meta {
-    /// `default` where the object names none.
+    /// `default` if the object has no namespace.
     pub ns: Text,
     pub name: Text,
     pub labels: Labels,
     pub notes: Labels,
-    /// Of the form `dddd-dd-ddTdd:dd:ddZ`.
+    /// A time of the form `dddd-dd-ddTdd:dd:ddZ`. Any other string counts as absent.
     pub created: Option<Text>,
 }
 
@@ -39,7 +39,7 @@ impl Copied for Meta {
     }
 }
 
-/// The metadata of the object that stands at the path `at`.
+/// Reads the metadata of the object at the path `at`.
 pub fn read_meta(alloc: Global, object: &Value, at: &str) -> Result<Meta, ReadFault>
     ensures lawful { IfOk result IsLawfulMeta }
     ensures value { Reads result (meta_at record { at = at.now; value = view object.now }) }
@@ -47,7 +47,7 @@ pub fn read_meta(alloc: Global, object: &Value, at: &str) -> Result<Meta, ReadFa
     meta_of(&Place::top(alloc, object, at))
 }
 
-/// The metadata of the object that stands at a place.
+/// Reads the metadata of the object at a place.
 pub fn meta_of<'a>(object: &'a Place<'a>) -> Result<Meta, ReadFault>
     ensures lawful { IfOk result IsLawfulMeta }
     ensures value { Reads result (meta_at (seen object.now)) }
@@ -55,7 +55,7 @@ pub fn meta_of<'a>(object: &'a Place<'a>) -> Result<Meta, ReadFault>
     meta_within(object, 253)
 }
 
-/// The same, where the name has at most so many bytes.
+/// Reads the metadata of an object whose name has at most `most` bytes.
 #[tactic(auto, unfolding(crate::specs::Spots::then, crate::specs::Metadata::meta_within))]
 pub fn meta_within<'a>(object: &'a Place<'a>, most: usize) -> Result<Meta, ReadFault>
     ensures { Reads result (meta_within most (seen object.now)) }
@@ -91,7 +91,7 @@ fn time_of(text: Option<Text>) -> Option<Text>
     }
 }
 
-/// The form `dddd-dd-ddTdd:dd:ddZ`.
+/// Whether a string has the form `dddd-dd-ddTdd:dd:ddZ`, where `d` is a digit.
 #[tactic(auto, unfolding(crate::specs::Metadata::is_time))]
 fn is_time(text: &[u8]) -> bool
     ensures { result ≡ is_time text.now }

@@ -28,7 +28,7 @@ fn has_byte_of_no_label(text: &[u8]) -> bool
     text.iter().any(|b| !is_label_byte(*b))
 }
 
-/// Whether the bytes are some, at most so many, and each of `a-z`, `0-9`, `-` and `.`.
+/// Whether a string has 1 to `most` bytes, each of `a-z`, `0-9`, `-` and `.`.
 pub fn is_name_within(text: &[u8], most: usize) -> bool
     ensures { result ≡ is_made_of is_name_byte most text.now }
 {
@@ -41,7 +41,7 @@ pub fn is_name_within(text: &[u8], most: usize) -> bool
     !has_other_byte(text)
 }
 
-/// Whether the bytes are some, at most so many, and each of `a-z`, `0-9` and `-`.
+/// Whether a string has 1 to `most` bytes, each of `a-z`, `0-9` and `-`.
 pub fn is_label_within(text: &[u8], most: usize) -> bool
     ensures { result ≡ is_made_of is_label_byte most text.now }
 {
@@ -54,7 +54,7 @@ pub fn is_label_within(text: &[u8], most: usize) -> bool
     !has_byte_of_no_label(text)
 }
 
-/// The name of an object.
+/// Whether a string is the name of an object: 1 to 253 bytes of `a-z`, `0-9`, `-` and `.`.
 #[tactic(auto, unfolding(crate::specs::Scalars::is_name))]
 pub fn is_name(text: &[u8]) -> bool
     ensures { result ≡ is_name text.now }

@@ -5,7 +5,7 @@ ghost use Rattle.k8s_meta.specs.Paths.{path_text, member_path, item_path};
 use crate::key::Key;
 use std::alloc::{AllocError, Global};
 
-/// Where a value stands. The front of a path lies with whoever reads the parent.
+/// The path of a value. It borrows the path of the parent.
 #[derive(Clone, Copy)]
 pub enum Path<'a> {
     Top(&'a str),
@@ -14,7 +14,7 @@ pub enum Path<'a> {
 }
 
 impl<'a> Path<'a> {
-    /// The path of a whole value. The members of an empty one have no dot before them.
+    /// Returns the path of a whole value. Members of an empty path have no dot before them.
     pub fn top(at: &'a str) -> Path<'a>
         ensures { path_text result ≡ at.now }
     {
@@ -27,14 +27,14 @@ impl<'a> Path<'a> {
         Path::Member(self, key)
     }
 
-    /// The path of a list's item, counted from 0.
+    /// Returns the path of an item of a list, by its index from 0.
     pub fn item(&'a self, place: usize) -> Path<'a>
         ensures { path_text result ≡ item_path (path_text self.now) place }
     {
         Path::Item(self, place)
     }
 
-    /// The members joined by `.`, and places of lists as `[n]`.
+    /// Formats the path. Members are joined by `.`, and the index of an item is `[n]`.
     pub fn text(&self, alloc: Global) -> Result<String, AllocError>
         ensures { IfOk result (λ t. string_bytes t ≡ path_text self.now) }
     {

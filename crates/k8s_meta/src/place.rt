@@ -16,7 +16,7 @@ use mesh_base::text::Text;
 use serde_json::{Map, Number, Value};
 use std::alloc::Global;
 
-/// A value, or none where nothing stands there, and the path to it.
+/// A value, or None if it is absent, and its path.
 #[derive(Clone, Copy)]
 pub struct Place<'a> {
     alloc: Global,
@@ -25,7 +25,7 @@ pub struct Place<'a> {
 }
 
 impl<'a> Place<'a> {
-    /// A value that stands at the path `at`.
+    /// Returns the place of a value at the path `at`.
     pub fn top(alloc: Global, value: &'a Value, at: &'a str) -> Place<'a>
         ensures { seen result ≡ record { at = at.now; value = view value.now } }
     {
@@ -36,19 +36,19 @@ impl<'a> Place<'a> {
         }
     }
 
-    /// The allocator of what is read.
+    /// Returns the allocator for what is read.
     pub fn alloc(&self) -> Global {
         self.alloc
     }
 
-    /// The value, which is none or null where nothing stands here.
+    /// Returns the value, which is None or null if it is absent.
     pub fn value(&self) -> Option<&'a Value>
         ensures { value_seen result ≡ (seen self.now).value }
     {
         self.value
     }
 
-    /// The string that stands here, if it is one.
+    /// Returns the string, or None if the value is not a string.
     #[tactic(auto, unfolding(crate::specs::Words::string_in))]
     pub fn as_text(&self) -> Option<&'a str>
         ensures { option_map (λ s. s.now) result ≡ string_in (seen self.now).value }
@@ -59,7 +59,7 @@ impl<'a> Place<'a> {
         }
     }
 
-    /// The items of the list that stands here, if it is one.
+    /// Returns the items of the list, or None if the value is not a list.
     pub fn as_list(&self) -> Option<&'a [Value]>
         ensures { option_map (λ l. items_view l.now) result ≡ as_array (seen self.now).value }
     {
@@ -72,7 +72,7 @@ impl<'a> Place<'a> {
         }
     }
 
-    /// The member of an object. Another value has none.
+    /// Returns the place of a member of the object. It is absent in any other value.
     pub fn member(&'a self, key: Key) -> Place<'a>
         ensures { seen result ≡ (seen self.now) · key }
     {
@@ -83,7 +83,7 @@ impl<'a> Place<'a> {
         }
     }
 
-    /// An item of the list that stands here, by its place from 0.
+    /// Returns the place of an item of the list, by its index from 0.
     pub fn item(&'a self, index: usize, value: &'a Value) -> Place<'a>
         ensures { seen result ≡ item_spot (seen self.now).at index (view value.now) }
     {
@@ -94,7 +94,7 @@ impl<'a> Place<'a> {
         }
     }
 
-    /// Null counts as absent.
+    /// Whether the value is absent or null.
     pub fn is_absent(&self) -> bool
         ensures { result ≡ is_absent (seen self.now) }
     {
@@ -146,7 +146,7 @@ impl<'a> Place<'a> {
         }
     }
 
-    /// What a value of the right type stands for, where it stands for anything.
+    /// Returns the value found, or the error `BadValue` if it is None.
     pub fn valid<T: Drop>(&self, what: What, found: Option<T>) -> Result<T, ReadFault>
         ensures { Reads result (valid (seen self.now).at what found) }
     {
@@ -170,7 +170,7 @@ impl<'a> Place<'a> {
         }
     }
 
-    /// The members of an object.
+    /// Returns the members of the object, or the error `WrongType` for any other value.
     pub fn members(&self) -> Result<&'a Map<String, Value>, ReadFault>
         ensures { Gives (λ m. members_view m.now.entries) result
             (typed (seen self.now).at (as_object (seen self.now).value)) }
@@ -184,7 +184,7 @@ impl<'a> Place<'a> {
         }
     }
 
-    /// The items of a list.
+    /// Returns the items of the list, or the error `WrongType` for any other value.
     #[tactic(auto, unfolding(crate::specs::Words::list))]
     pub fn list(&self) -> Result<&'a [Value], ReadFault>
         ensures { Gives (λ l. items_view l.now) result (list (seen self.now)) }
@@ -221,7 +221,7 @@ impl<'a> Place<'a> {
         }
     }
 
-    /// A whole number of 64 bits, from low to high.
+    /// Reads an integer from `low` to `high`. Any other integer is the error `BadValue`.
     #[tactic(auto, unfolding(crate::specs::Spots::then, crate::specs::Scalars::number))]
     pub fn number(&self, low: u64, high: u64) -> Result<u64, ReadFault>
         ensures value { Reads result (number low high (seen self.now)) }

@@ -5,11 +5,11 @@ ghost use Rattle.k8s_meta.specs.declared.fault.ReadFault.{ReadFault as Fault};
 use crate::fault::ReadFault;
 use crate::place::Place;
 
-/// A word of the member tables: how what stands at a place is read.
+/// A word of the member tables, which reads the value at a place.
 pub trait Reader {
     type Made: Drop;
 
-    /// What the tables say of a place.
+    /// The definition of what is read at a spot.
     ghost reading: { Self → Spot → Result Self.Made Fault };
 
     fn read<'a>(&self, place: &'a Place<'a>) -> Result<Self::Made, ReadFault>

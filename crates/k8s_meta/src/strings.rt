@@ -4,7 +4,7 @@ ghost use Rattle.k8s_meta.specs.Words.{if_utf8, string_in};
 
 use serde_json::Value;
 
-/// The string that a value is, if it is one.
+/// Returns the string, or None if the value is not a string.
 #[tactic(auto, unfolding(crate::specs::Words::string_in))]
 pub fn string_in(value: &Value) -> Option<&str>
     ensures { option_map (λ s. s.now) result ≡ string_in (view value.now) }
@@ -15,7 +15,7 @@ pub fn string_in(value: &Value) -> Option<&str>
     }
 }
 
-/// The string as it is.
+/// Returns the string unchanged: a `str` is UTF-8.
 fn same_text(text: &str) -> &str
     ensures { Some result.now ≡ if_utf8 text.now }
 {

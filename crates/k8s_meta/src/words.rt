@@ -27,7 +27,7 @@ impl Reader for AnyText {
     }
 }
 
-/// A string of 1 byte to so many, each of `a-z`, `0-9`, `-` and `.`.
+/// A string of 1 to `most` bytes, each of `a-z`, `0-9`, `-` and `.`.
 #[derive(Clone, Copy)]
 pub struct NameWithin {
     pub most: usize,
@@ -83,7 +83,7 @@ impl Reader for Namespace {
     }
 }
 
-/// True or false.
+/// A boolean.
 #[derive(Clone, Copy)]
 pub struct Flag;
 
@@ -97,14 +97,14 @@ impl Reader for Flag {
     }
 }
 
-/// A whole number from low to high.
+/// An integer of 16 bits, from `low` to `high`.
 #[derive(Clone, Copy)]
 pub struct Number16 {
     pub low: u16,
     pub high: u16,
 }
 
-/// The port of a service or a container.
+/// The port of a Service or a container.
 pub const PORT: Number16 = Number16 {
     low: 1,
     high: 65535,
@@ -121,7 +121,7 @@ impl Reader for Number16 {
     }
 }
 
-/// A whole number from low to high.
+/// An integer of 32 bits, from `low` to `high`.
 #[derive(Clone, Copy)]
 pub struct Number32 {
     pub low: u32,
@@ -155,7 +155,7 @@ impl Reader for Address {
     }
 }
 
-/// A network, or a bare address as the network of it alone.
+/// A network, or an address, which counts as the network of this address alone.
 #[derive(Clone, Copy)]
 pub struct Network;
 
@@ -171,7 +171,7 @@ impl Reader for Network {
     }
 }
 
-/// A duration's text, in nanoseconds below 2^63.
+/// A duration such as `1h30m`, in nanoseconds below 2^63.
 #[derive(Clone, Copy)]
 pub struct Nanoseconds;
 
@@ -187,7 +187,7 @@ impl Reader for Nanoseconds {
     }
 }
 
-/// A quantity, in thousandths.
+/// A quantity, as a whole number or as a string such as `100m`, in thousandths.
 #[derive(Clone, Copy)]
 pub struct Thousandths;
 
@@ -206,7 +206,7 @@ impl Reader for Thousandths {
     }
 }
 
-/// A string, where the empty one counts as absent.
+/// A string that is read by another reader. The empty string counts as absent.
 #[derive(Clone, Copy)]
 pub struct Filled<R>(pub R);
 

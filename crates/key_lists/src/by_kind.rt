@@ -1,4 +1,4 @@
-//! Lists of keys at marks of a kind and two parts. The kinds are few: one with no list left stays, empty.
+//! Lists of keys at marks of a kind and two parts. A kind without lists stays, as kinds are few.
 ghost use Rattle.std.specs.Prelude.{◌≡◌, ◌<◌, ◌&&◌, ◌||◌, not, [], OnOk, length};
 ghost use Rattle.std.specs.Ordering.{eq_by_cmp};
 ghost use Rattle.mesh_base.specs.declared.key.ObjKey.{ObjKey};
@@ -12,7 +12,7 @@ use mesh_base::memory::Memory;
 use std::alloc::Global;
 use std::collections::BTreeMap;
 
-/// The keys at the kind and the two parts of a mark.
+/// Returns the keys at the kind and the two parts of a mark.
 pub fn keys_at<'a, K: Ord + Copy, A: Ord + Copied, B: Ord + Copied>(
     by: &'a BTreeMap<K, BTreeMap<A, BTreeMap<B, KeyList>>>,
     kind: K,
@@ -28,7 +28,7 @@ pub fn keys_at<'a, K: Ord + Copy, A: Ord + Copied, B: Ord + Copied>(
     }
 }
 
-/// Puts a key to the kind and the two parts of a mark.
+/// Inserts a key at the kind and the two parts of a mark.
 pub fn put_one<K: Ord + Copy, A: Ord + Copied, B: Ord + Copied>(
     alloc: Global,
     by: &mut BTreeMap<K, BTreeMap<A, BTreeMap<B, KeyList>>>,
@@ -58,7 +58,7 @@ pub fn put_one<K: Ord + Copy, A: Ord + Copied, B: Ord + Copied>(
     Ok(())
 }
 
-/// Puts the keys of a list to the kind and the two parts of a mark.
+/// Inserts the keys of a list at the kind and the two parts of a mark.
 pub fn put_list<K: Ord + Copy, A: Ord + Copied, B: Ord + Copied>(
     alloc: Global,
     by: &mut BTreeMap<K, BTreeMap<A, BTreeMap<B, KeyList>>>,
@@ -89,7 +89,7 @@ pub fn put_list<K: Ord + Copy, A: Ord + Copied, B: Ord + Copied>(
     Ok(())
 }
 
-/// Takes the list of the kind and the two parts of a mark out, and gives it.
+/// Removes the list at the kind and the two parts of a mark, and returns it.
 pub fn take_list<K: Ord + Copy, A: Ord + Copied, B: Ord + Copied>(
     alloc: Global,
     by: &mut BTreeMap<K, BTreeMap<A, BTreeMap<B, KeyList>>>,
@@ -112,7 +112,7 @@ pub fn take_list<K: Ord + Copy, A: Ord + Copied, B: Ord + Copied>(
     }
 }
 
-/// Takes a key from the kind and the two parts of a mark.
+/// Removes a key at the kind and the two parts of a mark, if it is there.
 pub fn take_one<K: Ord + Copy, A: Ord + Copied, B: Ord + Copied>(
     by: &mut BTreeMap<K, BTreeMap<A, BTreeMap<B, KeyList>>>,
     kind: K,

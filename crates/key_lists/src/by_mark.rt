@@ -11,7 +11,7 @@ use mesh_base::memory::Memory;
 use std::alloc::Global;
 use std::collections::BTreeMap;
 
-/// The keys at a mark.
+/// Returns the keys at a mark.
 pub fn keys_at<'a, M: Ord + Copied>(by: &'a BTreeMap<M, KeyList>, mark: &M) -> &'a [ObjKey]
     ensures value { result.now ≡ keys_at M.cmp by.now mark.now }
     ensures rise { Rises (keys_at M.cmp by.now mark.now) }
@@ -22,7 +22,7 @@ pub fn keys_at<'a, M: Ord + Copied>(by: &'a BTreeMap<M, KeyList>, mark: &M) -> &
     }
 }
 
-/// Puts a key to a mark.
+/// Inserts a key at a mark.
 pub fn put_one<M: Ord + Copied>(
     alloc: Global,
     by: &mut BTreeMap<M, KeyList>,
@@ -49,7 +49,7 @@ pub fn put_one<M: Ord + Copied>(
     Ok(())
 }
 
-/// Puts the keys of a list to a mark.
+/// Inserts the keys of a list at a mark.
 pub fn put_list<M: Ord + Copied>(
     alloc: Global,
     by: &mut BTreeMap<M, KeyList>,
@@ -74,7 +74,7 @@ pub fn put_list<M: Ord + Copied>(
     Ok(())
 }
 
-/// Takes the list of a mark out, and gives it.
+/// Removes the list at a mark, and returns it. It is empty if there is none.
 pub fn take_list<M: Ord + Copied>(alloc: Global, by: &mut BTreeMap<M, KeyList>, mark: &M) -> KeyList
     ensures list { (m : M) (k : ObjKey)
         → key_at M.cmp by.old m k
@@ -88,7 +88,7 @@ pub fn take_list<M: Ord + Copied>(alloc: Global, by: &mut BTreeMap<M, KeyList>, 
     }
 }
 
-/// Takes a key from a mark.
+/// Removes a key at a mark, if it is there.
 pub fn take_one<M: Ord + Copied>(by: &mut BTreeMap<M, KeyList>, mark: &M, key: &ObjKey)
     ensures taken { (m : M) (k : ObjKey)
         → key_at M.cmp by.new m k
@@ -100,7 +100,7 @@ pub fn take_one<M: Ord + Copied>(by: &mut BTreeMap<M, KeyList>, mark: &M, key: &
     }
 }
 
-/// Takes a key from the list of a mark. Answers whether no key is left in it.
+/// Removes a key from the list at a mark. Returns whether there is a list, empty now.
 fn take_from<M: Ord + Copied>(by: &mut BTreeMap<M, KeyList>, mark: &M, key: &ObjKey) -> bool
     ensures taken { (m : M) (k : ObjKey)
         → key_at M.cmp by.new m k
@@ -118,7 +118,7 @@ fn take_from<M: Ord + Copied>(by: &mut BTreeMap<M, KeyList>, mark: &M, key: &Obj
     }
 }
 
-/// Drops the list of a mark without keys.
+/// Removes the list at a mark that has no keys.
 fn let_go<M: Ord + Copied>(by: &mut BTreeMap<M, KeyList>, mark: &M)
     requires { keys_at M.cmp by.old mark.now ≡ [] }
     ensures same { (m : M) (k : ObjKey) → key_at M.cmp by.new m k ≡ key_at M.cmp by.old m k }

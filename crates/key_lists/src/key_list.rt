@@ -12,7 +12,7 @@ use std::alloc::Global;
 use std::cmp::Ordering;
 use std::marker::Model;
 
-/// Keys in order, each once. Contracts see them as a list.
+/// Object keys in ascending order by kind, namespace and name, each once. Contracts see a list.
 #[derive(Drop)]
 pub struct KeyList {
     keys: Vec<ObjKey>,
@@ -56,7 +56,7 @@ impl KeyList {
         self.keys.is_empty()
     }
 
-    /// Puts the key into the list, if it isn't there.
+    /// Inserts the key, unless the list has it.
     pub fn put(&mut self, key: ObjKey) -> Result<(), Memory>
         ensures filled { OnOk result (0 < length self.new) }
         ensures put { OnOk result ((k : ObjKey)
@@ -69,7 +69,7 @@ impl KeyList {
         Ok(())
     }
 
-    /// Takes the key out of the list.
+    /// Removes the key, if the list has it.
     pub fn take(&mut self, key: &ObjKey)
         ensures { (k : ObjKey) → has_key k self.new ≡ (not (is_key k key.now) && has_key k self.old) }
     {
@@ -81,7 +81,7 @@ impl KeyList {
         }
     }
 
-    /// Puts the keys of the other list into the list. They move whole where all of them come after its own.
+    /// Inserts the keys of `other`. It is appended whole if all its keys come after those here.
     pub fn put_all(&mut self, other: KeyList) -> Result<(), Memory>
         ensures filled { 0 < length other → OnOk result (0 < length self.new) }
         ensures put { OnOk result ((k : ObjKey)
@@ -94,7 +94,7 @@ impl KeyList {
         }
     }
 
-    /// Takes out the keys of the kinds after this one, and gives them.
+    /// Removes the keys of the kinds after this one, and returns them.
     pub fn split_after(&mut self, kind: Kind) -> Result<KeyList, Memory>
         ensures left { OnOk result ((k : ObjKey)
             → has_key k self.new ≡ (not (is_after kind k) && has_key k self.old)) }
@@ -128,7 +128,7 @@ impl KeyList {
     }
 }
 
-/// Inserts a key. Most lists have one key alone, so that an empty one gets room for one and no more.
+/// Inserts a key. An empty list reserves room for one key alone, as most lists have one.
 fn insert(keys: &mut Vec<ObjKey>, at: usize, key: ObjKey) -> Result<(), Memory>
     requires { at ≤ vec_len keys.old }
     ensures items { OnOk result (keys.new.items ≡ list_insert keys.old.items at key) }
@@ -141,7 +141,7 @@ fn insert(keys: &mut Vec<ObjKey>, at: usize, key: ObjKey) -> Result<(), Memory>
     Ok(())
 }
 
-/// Whether all keys of the first list come before those of the second.
+/// Returns whether all keys of the first list come before those of the second.
 fn stand_before(first: &[ObjKey], second: &[ObjKey]) -> bool
     requires first { Rises first.now }
     requires second { Rises second.now }
@@ -153,7 +153,7 @@ fn stand_before(first: &[ObjKey], second: &[ObjKey]) -> bool
     }
 }
 
-/// Where the keys of the kinds after this one begin.
+/// Returns the index of the first key of a kind after this one, or the length.
 fn start_after(keys: &[ObjKey], kind: Kind) -> usize
     requires { Rises keys.now }
     ensures within { result ≤ length keys.now }
@@ -169,7 +169,7 @@ fn comes_after(key: &ObjKey, kind: Kind) -> bool
     key.kind > kind
 }
 
-/// Where the key stands, or where it would go.
+/// Returns the index of the key, or as an error the index at which it would be inserted.
 fn place(keys: &[ObjKey], key: &ObjKey) -> Result<usize, usize>
     requires { Rises keys.now }
     ensures hit { IfOk result (IsHit (λ k. key_cmp k key.now) keys.now) }

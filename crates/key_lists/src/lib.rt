@@ -1,5 +1,5 @@
-//! Lists of objects' keys, one for each mark. A mark is one value, or has parts that are looked up one by one. `specs/Keys`
-//! says which keys stand at a mark.
+//! Lists of object keys, one list per mark. A mark is one value, or has parts looked up in turn.
+//! Depends on mesh_base alone. `specs/Keys` defines the keys at a mark.
 #![tactic(auto)]
 
 pub mod by_kind;

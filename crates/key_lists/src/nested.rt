@@ -1,4 +1,4 @@
-//! Lists of keys at marks of two parts. A part with no list left is dropped.
+//! Lists of keys at marks of two parts. A part with no list left is removed.
 ghost use Rattle.std.specs.Prelude.{◌≡◌, ◌<◌, ◌&&◌, ◌||◌, not, true, false, [], OnOk, length};
 ghost use Rattle.std.specs.Ordering.{eq_by_cmp};
 ghost use Rattle.mesh_base.specs.declared.key.ObjKey.{ObjKey};
@@ -12,7 +12,7 @@ use mesh_base::memory::Memory;
 use std::alloc::Global;
 use std::collections::BTreeMap;
 
-/// The keys at the two parts of a mark.
+/// Returns the keys at the two parts of a mark.
 pub fn keys_at<'a, A: Ord + Copied, B: Ord + Copied>(
     by: &'a BTreeMap<A, BTreeMap<B, KeyList>>,
     a: &A,
@@ -27,7 +27,7 @@ pub fn keys_at<'a, A: Ord + Copied, B: Ord + Copied>(
     }
 }
 
-/// Puts a key to the two parts of a mark.
+/// Inserts a key at the two parts of a mark.
 pub fn put_one<A: Ord + Copied, B: Ord + Copied>(
     alloc: Global,
     by: &mut BTreeMap<A, BTreeMap<B, KeyList>>,
@@ -55,7 +55,7 @@ pub fn put_one<A: Ord + Copied, B: Ord + Copied>(
     Ok(())
 }
 
-/// Puts the keys of a list to the two parts of a mark.
+/// Inserts the keys of a list at the two parts of a mark.
 pub fn put_list<A: Ord + Copied, B: Ord + Copied>(
     alloc: Global,
     by: &mut BTreeMap<A, BTreeMap<B, KeyList>>,
@@ -84,7 +84,7 @@ pub fn put_list<A: Ord + Copied, B: Ord + Copied>(
     Ok(())
 }
 
-/// Takes the list of the two parts of a mark out, and gives it.
+/// Removes the list at the two parts of a mark, and returns it.
 pub fn take_list<A: Ord + Copied, B: Ord + Copied>(
     alloc: Global,
     by: &mut BTreeMap<A, BTreeMap<B, KeyList>>,
@@ -105,7 +105,7 @@ pub fn take_list<A: Ord + Copied, B: Ord + Copied>(
     list
 }
 
-/// Takes a list out of those of a part. Answers also whether no list is left there.
+/// Removes a list from those of a part. Returns it, and whether the part has no list left.
 fn list_from<A: Ord + Copied, B: Ord + Copied>(
     alloc: Global,
     by: &mut BTreeMap<A, BTreeMap<B, KeyList>>,
@@ -131,7 +131,7 @@ fn list_from<A: Ord + Copied, B: Ord + Copied>(
     }
 }
 
-/// Takes a key from the two parts of a mark.
+/// Removes a key at the two parts of a mark, if it is there.
 pub fn take_one<A: Ord + Copied, B: Ord + Copied>(
     by: &mut BTreeMap<A, BTreeMap<B, KeyList>>,
     a: &A,
@@ -149,7 +149,7 @@ pub fn take_one<A: Ord + Copied, B: Ord + Copied>(
     }
 }
 
-/// Takes a key from the lists of a part. Answers whether no list is left there.
+/// Removes a key from the lists of a part. Returns whether the part has no list left.
 fn take_from<A: Ord + Copied, B: Ord + Copied>(
     by: &mut BTreeMap<A, BTreeMap<B, KeyList>>,
     a: &A,
@@ -174,7 +174,7 @@ fn take_from<A: Ord + Copied, B: Ord + Copied>(
     }
 }
 
-/// Drops a part without keys.
+/// Removes a part that has no keys.
 fn let_go<A: Ord + Copied, B: Ord + Copied>(by: &mut BTreeMap<A, BTreeMap<B, KeyList>>, a: &A)
     requires { (y : B) → nested_keys A.cmp B.cmp by.old a.now y ≡ [] }
     ensures same { (x : A) (y : B) (k : ObjKey)

@@ -1,4 +1,4 @@
-// Gives a machine the lines of what is read, and writes what it says.
+// Passes the lines of the input to a machine, and writes its output.
 ghost use Rattle.std.specs.Prelude.{◌≡◌, ◌+◌, ◌<◌, ◌≤◌, ◌^◌, ℕ, Bool, true, false, [], ◌∷◌, List, ◌++◌, Option, length, OnOk, OnErr, Ok};
 ghost use Rattle.line_run.specs.Rows.{Row, NoBreak, row_of, past_from, past_of};
 ghost use Rattle.line_run.specs.Within.{now_of, Come, Says, Stopped};
@@ -10,15 +10,15 @@ use crate::write::{flush, flush_much};
 use mesh_outside::{Sink, SinkFault};
 use std::alloc::{AllocError, Global};
 
-/// What a run keeps between its calls.
+/// The state of a run between its calls.
 #[derive(Drop)]
 pub(crate) struct Feeder {
     pub(crate) cutter: Cutter,
-    /// The lines given so far.
+    /// The number of lines passed so far.
     pub(crate) lines: u64,
-    /// One of them was refused.
+    /// Whether one of them was refused.
     pub(crate) refused: bool,
-    /// What the machine said and isn't written yet.
+    /// The output of the machine that isn't written yet.
     pub(crate) out: Vec<u8>,
 }
 
@@ -37,7 +37,7 @@ impl Feeder {
         }
     }
 
-    // Gives the machine the line that is whole.
+    // Passes the completed line to the machine.
     fn tell<M: LineMachine>(&mut self, limit: u64, machine: &mut M) -> Result<(), AllocError>
         requires { self.old.lines + 1 < 2 ^ 64 }
         ensures lines { self.new.lines ≡ self.old.lines + 1 }
@@ -55,7 +55,7 @@ impl Feeder {
         Ok(())
     }
 
-    // Gives the machine the line that is whole, writes what has gathered once it is much, and begins the next line.
+    // Passes the completed line to the machine, flushes much output, and begins the next line.
     fn give<M: LineMachine, K: Sink>(
         &mut self,
         limit: u64,
@@ -87,7 +87,7 @@ impl Feeder {
         Ok(())
     }
 
-    // Gives the machine each line that is whole now, and keeps what has come of the next.
+    // Passes each completed line to the machine, and keeps the bytes of the next.
     pub(crate) fn feed<M: LineMachine, K: Sink>(
         &mut self,
         limit: u64,
@@ -126,7 +126,7 @@ impl Feeder {
         }
     }
 
-    // Gives the machine the last line, if there is one.
+    // Passes the last line to the machine, if there is one.
     fn give_last<M: LineMachine, K: Sink>(
         &mut self,
         limit: u64,
@@ -154,7 +154,7 @@ impl Feeder {
         Ok(())
     }
 
-    // Adds the next piece of the end to what has gathered, and answers whether there is more.
+    // Appends the next piece of the end to the output, and returns whether there is more.
     fn next_piece<M: LineMachine, K: Sink>(
         &mut self,
         machine: &mut M,
@@ -181,7 +181,7 @@ impl Feeder {
         Ok(more)
     }
 
-    // Writes what has gathered, and the end.
+    // Writes the output not yet written, and the end.
     fn write_end<M: LineMachine, K: Sink>(
         &mut self,
         machine: &mut M,
@@ -203,7 +203,7 @@ impl Feeder {
         Ok(())
     }
 
-    // Gives the machine the last line, if there is one, and writes its end.
+    // Passes the last line to the machine, if there is one, and writes its end.
     pub(crate) fn finish<M: LineMachine, K: Sink>(
         &mut self,
         limit: u64,

@@ -13,7 +13,7 @@ use mesh_base::limits::Limits;
 use mesh_outside::{Failed, Sink, SinkFault, Source};
 use std::alloc::{AllocError, Global};
 
-// The greatest length of one read.
+// The greatest number of bytes of one read.
 const BLOCK: usize = 65536;
 
 fn new_block(alloc: Global) -> Result<Vec<u8>, AllocError>
@@ -22,7 +22,7 @@ fn new_block(alloc: Global) -> Result<Vec<u8>, AllocError>
     Ok(vec![in alloc; 0; BLOCK]?)
 }
 
-// Reads into the front of a buffer that isn't empty, at most so many bytes.
+// Reads at most `most` bytes into the front of a nonempty buffer.
 fn read_front<S: Source>(source: &mut S, block: &mut [u8], most: usize) -> Result<usize, Failed>
     requires some { 0 < most }
     requires room { most ≤ length block.old }
@@ -47,9 +47,9 @@ fn status_of(fault: SinkFault) -> Status
     }
 }
 
-/// Reads lines to the end of the input, gives each to the machine, and writes what the machine says. A line longer
-/// than the line limit is skipped whole, and the machine learns its number; a last piece without LF is a line if it
-/// isn't empty. Takes no more bytes than the input limit.
+/// Reads lines to the end of the input, passes each to the machine, and writes the output. A line
+/// longer than the line limit is skipped whole, and the machine gets its number; a last piece
+/// without LF is a line if it isn't empty. The run reads no more bytes than the input limit.
 pub fn run_lines<M: LineMachine, S: Source, K: Sink>(
     alloc: Global,
     limits: Limits,
@@ -59,12 +59,12 @@ pub fn run_lines<M: LineMachine, S: Source, K: Sink>(
 ) -> Status
     requires { M.stands machine.old machine.old [] [] false }
 
-    // Read to the end: what was written is what the machine says of all the rows, and whether a line was refused.
+    // At the end of the input, the output for all rows was written; `refused` if one was refused.
     ensures whole { OnEnd result (λ refused.
         Whole (M.ended machine.old) limits.line limits.input (S.left source.old) (K.held sink.old)
         (K.held sink.new) machine.new refused) }
 
-    // Else it is a front of that, and the machine there leads to the machine now.
+    // Otherwise a front of that was written, and the machine there leads to the machine now.
     ensures part { OnStop result (Part (M.stands machine.old) (M.ending machine.old)
         (M.ended machine.old) (λ there. M.keeps there machine.new) limits.line (S.left source.old)
         (K.held sink.old) (K.held sink.new)) }
@@ -76,8 +76,8 @@ pub fn run_lines<M: LineMachine, S: Source, K: Sink>(
     ensures long { result ≡ Status.InputTooLong → TookLimit limits.input (S.left source.old) }
     ensures usage { result ≢ Status.Usage }
 
-    // On ends that don't fail, an input below the limit is read to its end unless there is no memory, and a longer
-    // one is too long.
+    // If the source and the sink don't fail, an input below the limit is read to its end unless the
+    // run is out of memory, and any other input is too long.
     ensures complete { Unrisen (S.faults source.old) (S.faults source.new)
         → Unrisen (K.faults sink.old) (K.faults sink.new)
         → (bytes : List ℕ) → S.left source.old ≡ Some bytes → length bytes < limits.input
@@ -87,7 +87,7 @@ pub fn run_lines<M: LineMachine, S: Source, K: Sink>(
         → (bytes : List ℕ) → S.left source.old ≡ Some bytes → limits.input ≤ length bytes
         → IsTooLong result }
 
-    // No count falls, and each fault is told by its status.
+    // No count falls, and each error is reported by its status.
     ensures read_later { S.faults source.old ≤ S.faults source.new }
     ensures write_later { K.faults sink.old ≤ K.faults sink.new }
     ensures read_told { result ≢ Status.ReadFault → S.faults source.new ≡ S.faults source.old }
@@ -118,7 +118,7 @@ pub fn run_lines<M: LineMachine, S: Source, K: Sink>(
     Status::InputTooLong
 }
 
-// Ends the run: the last line, what the machine writes at the end, and the status.
+// Ends the run: passes the last line, writes the machine's end, and returns the status.
 fn end<M: LineMachine, K: Sink>(
     feeder: &mut Feeder,
     limit: u64,

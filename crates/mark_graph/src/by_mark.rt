@@ -14,7 +14,7 @@ use std::alloc::Global;
 use std::collections::btree_map::Entry;
 use std::collections::{BTreeMap, BTreeSet};
 
-/// Adds a row at a mark. Answers whether the mark had rows.
+/// Adds a row at a mark. Returns whether the mark had rows before.
 pub fn put_one<M: Ord + Copied>(
     alloc: Global,
     by: &mut BTreeMap<M, SortedSet<u64>>,
@@ -37,7 +37,7 @@ pub fn put_one<M: Ord + Copied>(
     }
 }
 
-/// Removes a row from a mark. Answers whether the mark has others.
+/// Removes a row from a mark. Returns whether the mark still has rows.
 pub fn take_one<M: Ord + Copied>(by: &mut BTreeMap<M, SortedSet<u64>>, mark: &M, row: u64) -> bool
     ensures taken { RemovesRow M.cmp (eq_by_cmp M.cmp mark.now) row by.old by.new }
     ensures kept { AllHaveRows M.cmp by.old → AllHaveRows M.cmp by.new }
@@ -50,7 +50,7 @@ pub fn take_one<M: Ord + Copied>(by: &mut BTreeMap<M, SortedSet<u64>>, mark: &M,
     false
 }
 
-/// Removes a row from a mark. Answers whether others are left there.
+/// Removes a row from a mark, but keeps its set. Returns whether the set still has rows.
 fn keeps_others<M: Ord + Copied>(by: &mut BTreeMap<M, SortedSet<u64>>, mark: &M, row: u64) -> bool
     ensures taken { RemovesRow M.cmp (eq_by_cmp M.cmp mark.now) row by.old by.new }
     ensures none { result ≡ false → (r : ℕ) → row_at M.cmp by.new mark.now r ≡ false }
@@ -67,7 +67,7 @@ fn keeps_others<M: Ord + Copied>(by: &mut BTreeMap<M, SortedSet<u64>>, mark: &M,
     }
 }
 
-/// Drops the set of a mark at which no row stands.
+/// Drops the set of a mark that has no rows.
 fn let_go<M: Ord + Copied>(by: &mut BTreeMap<M, SortedSet<u64>>, mark: &M)
     requires { (r : ℕ) → row_at M.cmp by.old mark.now r ≡ false }
     ensures same { (m : M) (r : ℕ) → row_at M.cmp by.new m r ≡ row_at M.cmp by.old m r }
@@ -145,7 +145,7 @@ fn take_unless<M: Ord + Copied>(
     }
 }
 
-/// The marks of a list, each once.
+/// Returns the marks of a list, each once.
 pub fn set_of<M: Ord + Copied>(alloc: Global, marks: List<M>) -> Result<BTreeSet<M>, Memory>
     ensures { IfOk result (λ set. (m : _) → contains M.cmp set m ≡ has_mark M.cmp marks m) }
 {
@@ -156,7 +156,7 @@ pub fn set_of<M: Ord + Copied>(alloc: Global, marks: List<M>) -> Result<BTreeSet
     Ok(set)
 }
 
-/// The rows at these marks, ascending and each once.
+/// Returns the rows at these marks, ascending and each once.
 pub fn rows_at<M: Ord + Copied>(
     alloc: Global,
     by: &BTreeMap<M, SortedSet<u64>>,
@@ -170,7 +170,7 @@ pub fn rows_at<M: Ord + Copied>(
     Ok(SortedSet::of_list(List::from_vec(rows)).into_list())
 }
 
-/// The rows at these marks, in no order. Those of one mark alone stand in order.
+/// Returns the rows at these marks, mark by mark. The rows of each mark are ascending.
 fn gather_all<M: Ord + Copied>(
     alloc: Global,
     by: &BTreeMap<M, SortedSet<u64>>,

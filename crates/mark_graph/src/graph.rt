@@ -17,7 +17,7 @@ use mesh_base::memory::Memory;
 use std::alloc::Global;
 use std::collections::BTreeMap;
 
-/// Rows, and the marks that each watches.
+/// A graph of rows, each a number, and of the marks that each row watches.
 #[derive(Drop)]
 pub struct Graph<M: Ord + Copied> {
     at_marks: MarkRows<M>,
@@ -29,7 +29,7 @@ pub struct Graph<M: Ord + Copied> {
 }
 
 impl<M: Ord + Copied> Graph<M> {
-    /// A graph without rows.
+    /// Returns a graph without rows.
     pub fn new(alloc: Global) -> Graph<M>
         ensures none { (r : ℕ) (m : M) → watches M.cmp result.rows r m ≡ false }
         ensures going { result.spent ≡ false }
@@ -42,7 +42,7 @@ impl<M: Ord + Copied> Graph<M> {
         }
     }
 
-    /// Lets the row watch these marks, and no others. After Memory the graph is spent.
+    /// Replaces the marks that the row watches by these. After `Memory` the graph is spent.
     pub fn watch(&mut self, row: u64, marks: List<M>) -> Result<(), Memory>
         ensures watched { OnOk result (Rewatches M.cmp (has_mark M.cmp marks) row self.old.rows
             self.new.rows) }
@@ -60,8 +60,8 @@ impl<M: Ord + Copied> Graph<M> {
         Ok(())
     }
 
-    /// Lets the row watch some marks more, and some no more. This costs what these marks cost, however many the row watches.
-    /// After Memory the graph is spent.
+    /// Adds some marks to those that the row watches, and removes others. Only these marks are
+    /// updated, however many the row watches. After `Memory` the graph is spent.
     pub fn move_marks(&mut self, row: u64, moves: MarkMoves<M>) -> Result<(), Memory>
         ensures watched { OnOk result (Rewatches M.cmp
             (has_after M.cmp moves (watches M.cmp self.old.rows row)) row self.old.rows
@@ -79,7 +79,7 @@ impl<M: Ord + Copied> Graph<M> {
         Ok(())
     }
 
-    /// Lets the row watch nothing.
+    /// Removes all marks that the row watches.
     pub fn unwatch(&mut self, row: u64)
         ensures watched { Rewatches M.cmp (λ m. false) row self.old.rows self.new.rows }
         ensures spent { self.new.spent ≡ self.old.spent }
@@ -87,8 +87,8 @@ impl<M: Ord + Copied> Graph<M> {
         remove_row(&mut self.at_marks, &mut self.rows, row);
     }
 
-    /// The rows that watch one of the marks, ascending and each once. Rows that are new are put at their marks. After Memory the
-    /// graph is spent.
+    /// Returns the rows that watch one of the marks, ascending and each once. New rows are first
+    /// added at their marks. After `Memory` the graph is spent.
     pub fn due(&mut self, marks: &[M]) -> Result<List<u64>, Memory>
         ensures due { IfOk result (λ rows.
             (r : ℕ) → has_row r rows ≡ list_any (λ m. watches M.cmp self.old.rows r m) marks.now) }
@@ -109,7 +109,7 @@ impl<M: Ord + Copied> Graph<M> {
     }
 }
 
-/// Lets the row watch these marks: it is moved at those marks alone that it doesn't watch both before and after.
+/// Sets the marks of the row, and moves it only at the marks that it gains or loses.
 fn change_row<M: Ord + Copied>(
     alloc: Global,
     at_marks: &mut MarkRows<M>,
@@ -128,7 +128,7 @@ fn change_row<M: Ord + Copied>(
     keep_marks(rows, row, marks)
 }
 
-/// Lets the row watch some marks more, and some no more.
+/// Adds some marks to those that the row watches, and removes others.
 fn move_row_marks<M: Ord + Copied>(
     alloc: Global,
     at_marks: &mut MarkRows<M>,
@@ -163,7 +163,7 @@ fn remove_row<M: Ord + Copied>(
     }
 }
 
-/// The marks that the row watches. It watches none then.
+/// Removes all marks that the row watches, and returns them.
 fn take_marks<M: Ord + Copied>(
     alloc: Global,
     rows: &mut BTreeMap<u64, SortedSet<M>>,
@@ -178,7 +178,7 @@ fn take_marks<M: Ord + Copied>(
     }
 }
 
-/// Lets the row watch these marks, which watched none.
+/// Sets the marks of a row that watches none.
 fn keep_marks<M: Ord + Copied>(
     rows: &mut BTreeMap<u64, SortedSet<M>>,
     row: u64,

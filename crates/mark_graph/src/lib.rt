@@ -1,6 +1,6 @@
-//! Which rows watch which marks, for marks of any type with an order.
+//! A graph of which rows watch which marks, for marks of any type with an order.
 //!
-//! Stands on mesh_base. The contracts cite `specs/RowMarks`, and `specs/Moves` where some marks of a row go and others come.
+//! Depends on mesh_base alone. `specs/RowMarks` defines the graph, `specs/Moves` moves of marks.
 #![tactic(auto)]
 
 pub mod by_mark;

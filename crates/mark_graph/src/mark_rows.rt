@@ -14,11 +14,11 @@ use mesh_base::memory::Memory;
 use std::alloc::Global;
 use std::collections::BTreeMap;
 
-/// The rows at each mark. A new row is put there when rows are asked for, so that one that goes before costs nothing there.
+/// The rows at each mark. A new row is added at its marks only when `settle` is called.
 #[derive(Drop)]
 pub struct MarkRows<M: Ord + Copied> {
     pub(crate) by_mark: BTreeMap<M, SortedSet<u64>>,
-    /// The rows that are put at no mark yet.
+    /// The new rows, which are not at their marks yet.
     new_rows: SortedSet<u64>,
     alloc: Global,
 }
@@ -35,7 +35,7 @@ impl<M: Ord + Copied> MarkRows<M> {
         }
     }
 
-    /// Moves a row from the old marks to the new ones, unless it is new. One without old marks becomes new.
+    /// Moves a row to the new marks, unless it is new. A row without old marks becomes new.
     pub(crate) fn move_row(
         &mut self,
         old: &SortedSet<M>,
@@ -57,7 +57,7 @@ impl<M: Ord + Copied> MarkRows<M> {
         put_new(self.alloc, &mut self.by_mark, old, new, row)
     }
 
-    /// Moves a row, unless it is new, at these marks alone.
+    /// Moves a row at these marks alone, unless it is new.
     pub(crate) fn move_marks(&mut self, moves: &MarkMoves<M>, row: u64) -> Result<(), Memory>
         ensures moved { OnOk result ((before : M → Bool) → StandsAfter M.cmp before
             (has_after M.cmp moves.now before) row self.old self.new) }
@@ -70,7 +70,7 @@ impl<M: Ord + Copied> MarkRows<M> {
         move_at_marks(self.alloc, &mut self.by_mark, moves, row)
     }
 
-    /// Removes a row from these marks, which are all at which it stands.
+    /// Removes a row from these marks, which are all the marks that it is at.
     pub(crate) fn remove_row(&mut self, marks: &SortedSet<M>, row: u64)
         ensures removed { StandsAfter M.cmp (contains M.cmp marks.now) (λ m. false) row self.old
             self.new }
@@ -83,7 +83,7 @@ impl<M: Ord + Copied> MarkRows<M> {
         take_old(&mut self.by_mark, marks, &SortedSet::new(self.alloc), row);
     }
 
-    /// Puts the new rows at their marks.
+    /// Adds the new rows at their marks, after which no row is new.
     pub(crate) fn settle(&mut self, rows: &BTreeMap<u64, SortedSet<M>>) -> Result<(), Memory>
         ensures stand { Agree M.cmp self.old rows.now → OnOk result ((m : M) (r : ℕ)
             → row_at M.cmp self.new.by_mark m r ≡ watches M.cmp rows.now r m) }
@@ -97,7 +97,7 @@ impl<M: Ord + Copied> MarkRows<M> {
     }
 }
 
-/// Puts these rows at their marks.
+/// Adds these rows at their marks.
 fn put_each<M: Ord + Copied>(
     alloc: Global,
     by: &mut BTreeMap<M, SortedSet<u64>>,
@@ -115,7 +115,7 @@ fn put_each<M: Ord + Copied>(
     Ok(())
 }
 
-/// Puts a row at its marks.
+/// Adds a row at its marks.
 fn put_row<M: Ord + Copied>(
     alloc: Global,
     by: &mut BTreeMap<M, SortedSet<u64>>,

@@ -12,14 +12,14 @@ use mesh_base::memory::Memory;
 use std::alloc::Global;
 use std::collections::BTreeMap;
 
-/// The marks that a row watches no more, and those that it watches from now on. One that is among both is watched.
+/// The marks that a row loses, and those that it gains. A mark in both lists is gained.
 #[derive(Debug, Drop)]
 pub struct MarkMoves<M> {
     pub gone: List<M>,
     pub come: List<M>,
 }
 
-/// Moves the row at these marks alone.
+/// Removes the row from the marks that are gone, and adds it at those that come.
 pub fn move_at_marks<M: Ord + Copied>(
     alloc: Global,
     by: &mut BTreeMap<M, SortedSet<u64>>,
@@ -61,7 +61,7 @@ pub(crate) fn put_all<M: Ord + Copied>(
     Ok(())
 }
 
-/// Moves marks out of a set and into it.
+/// Removes the marks that are gone from a set, and inserts those that come.
 pub fn move_in_set<M: Ord + Copied>(
     set: &mut SortedSet<M>,
     moves: MarkMoves<M>,

@@ -12,7 +12,7 @@ use mesh_base::memory::Memory;
 use std::alloc::Global;
 use std::marker::Model;
 
-/// A set that is kept as a list in order, for sets of which most have few items. Contracts see it as they see a `BTreeSet`.
+/// A set as a sorted vector, for sets with few items. Contracts see it as a `BTreeSet`.
 #[derive(Drop)]
 pub struct SortedSet<T: Ord> {
     items: Vec<T>,
@@ -43,7 +43,7 @@ impl<T: Ord> SortedSet<T> {
         }
     }
 
-    /// The items of a list, each once.
+    /// Returns the set of the items of a list.
     pub fn of_list(list: List<T>) -> SortedSet<T>
     where
         T: Drop,
@@ -56,7 +56,7 @@ impl<T: Ord> SortedSet<T> {
         SortedSet { items }
     }
 
-    /// The items in order.
+    /// Returns the items in order.
     pub fn as_slice(&self) -> &[T]
         ensures { result.now ≡ self.now.keys }
     {
@@ -84,7 +84,7 @@ impl<T: Ord> SortedSet<T> {
         place(self.items.as_slice(), item).is_ok()
     }
 
-    /// Puts an item into the set. If an equal one is there, that one stays.
+    /// Inserts an item. If an equal one is in the set, that one stays.
     pub fn insert(&mut self, item: T) -> Result<(), Memory>
     where
         T: Drop,
@@ -101,7 +101,7 @@ impl<T: Ord> SortedSet<T> {
         Ok(())
     }
 
-    /// Takes an item out of the set.
+    /// Removes the item that is equal to this one, if there is one.
     pub fn remove(&mut self, item: &T)
     where
         T: Drop,
@@ -117,7 +117,7 @@ impl<T: Ord> SortedSet<T> {
     }
 }
 
-/// Puts an item at its place. The first one takes the room of one alone.
+/// Inserts an item at an index. The first item reserves memory for one item only.
 fn put_at<T: Drop>(items: &mut Vec<T>, at: usize, item: T) -> Result<(), Memory>
     requires { at ≤ length items.old.items }
     ensures { items.new.items
@@ -130,7 +130,7 @@ fn put_at<T: Drop>(items: &mut Vec<T>, at: usize, item: T) -> Result<(), Memory>
     Ok(())
 }
 
-/// Where the item stands, or where it would go.
+/// Returns the index of the item as `Ok`, or the index to insert it at as `Err`.
 fn place<T: Ord>(items: &[T], item: &T) -> Result<usize, usize>
     requires { IsStrictlySortedBy T.cmp items.now }
     ensures hit { IfOk result (IsHit (λ other. T.cmp other item.now) items.now) }

@@ -1,10 +1,10 @@
--- What links that play a script count.
+-- The counts of links that play a script.
 use Rattle.std.specs.Prelude.{ℕ, Bool, true, false}
 use Rattle.mesh_links.specs.Counts.{Counts}
 use Rattle.mesh_links.specs.declared.links.LinkFault.{LinkFault}
 use Rattle.mesh_links.specs.declared.links.LinkFault.TheVariants as faults
 
--- one number for the polls that failed, and one each for the failures and the answers `Pending` of all links
+-- one count of failed polls, and one each of the failures and the results `Pending` of all links
 abbrev pub counts_of : ℕ → ℕ → ℕ → Counts
 counts_of polls faults pendings = record { polls = polls; faults = λ link. faults; pendings = λ link. pendings }
 

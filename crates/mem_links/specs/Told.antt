@@ -1,4 +1,4 @@
--- What the trace tells of a read and a write.
+-- The form of the results of a read and a write in the trace.
 use Rattle.std.specs.Prelude.{◌≡◌, ℕ, List, take, Result, Ok, Err}
 use Rattle.mesh_links.specs.declared.call.ReadGot.{ReadGot}
 use Rattle.mesh_links.specs.declared.call.ReadGot.TheVariants as reads
@@ -8,7 +8,7 @@ use Rattle.mesh_links.specs.declared.links.LinkFault.{LinkFault}
 use Rattle.mesh_links.specs.declared.links.LinkFault.TheVariants as faults
 use Rattle.mem_links.specs.declared.play.Spot.{Spot}
 
--- of a read, whose buffer has these bytes after it
+-- for a read with these bytes in its buffer after it
 abbrev pub IsToldRead : Result (ℕ × Spot) LinkFault → List ℕ → ReadGot → Type 0
 IsToldRead (Ok read) buf got = got ≡ reads.Bytes (take read.0 buf)
 IsToldRead (Err faults.Pending) buf got = got ≡ reads.Pending

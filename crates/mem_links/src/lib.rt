@@ -1,7 +1,7 @@
-//! Links in memory that play a script: what peers do is given as steps, and the calls that were made are kept as a trace.
+//! Links in memory that play a script of steps of their peers, and record the calls as a trace.
 //!
-//! Stands on mesh_links for the trait `Links`, whose contract `mem::MemLinks` meets with its trace told. `step::MemStep` says
-//! what each step does; `sure::SureLinks` plays a script without failures.
+//! Depends on mesh_links for the trait `Links`, whose contract `mem::MemLinks` meets with a trace.
+//! `step::MemStep` defines the steps; `sure::SureLinks` plays a script without failures.
 #![tactic(auto)]
 
 pub mod mem;

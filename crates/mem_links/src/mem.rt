@@ -18,17 +18,17 @@ use mesh_links::call::{LinkCall, LinkEvent, ReadGot, WriteGot};
 use mesh_links::links::{LinkFault, Links, PollFault};
 use std::alloc::Global;
 
-/// Links in memory that play a script, and keep the calls that were made.
+/// Links in memory that play a script, and record the calls.
 #[derive(Drop)]
 pub struct MemLinks {
     pub script: List<MemStep>,
-    /// The calls so far with their answers, the oldest first. There is always room for the close of each open link.
+    /// The calls so far with their results, in order. It has room for the close of each open link.
     pub trace: Vec<LinkCall>,
-    /// The polls that failed.
+    /// The number of failed polls.
     pub faults: u64,
-    /// The reads and writes that failed.
+    /// The number of failed reads and writes.
     link_faults: u64,
-    /// The reads and writes that returned Pending.
+    /// The number of reads and writes that returned Pending.
     pendings: u64,
     play: Play,
     alloc: Global,
@@ -44,7 +44,7 @@ fn copy(alloc: Global, bytes: &[u8]) -> Result<List<u8>, Memory>
     Ok(copy)
 }
 
-// What a read tells of itself in the trace.
+// Converts the result of a read to its form in the trace.
 fn told_read(
     alloc: Global,
     looked: Result<(usize, Spot), LinkFault>,
@@ -73,7 +73,7 @@ fn told_write(accepted: Result<usize, LinkFault>) -> Result<WriteGot, Memory>
 }
 
 impl MemLinks {
-    /// Links whose script begins, before any call.
+    /// Creates links at the beginning of a script, before any call.
     pub fn new(alloc: Global, script: List<MemStep>) -> MemLinks
         ensures script { result.script ≡ script }
         ensures trace { result.trace.items ≡ [] }
@@ -82,7 +82,7 @@ impl MemLinks {
         MemLinks::playing(alloc, script, true)
     }
 
-    /// Links whose script begins, and whether its steps make calls fail.
+    /// Creates links at the beginning of a script; `may_fail` is whether its steps make calls fail.
     pub(crate) fn playing(alloc: Global, script: List<MemStep>, may_fail: bool) -> MemLinks
         ensures script { result.script ≡ script }
         ensures trace { result.trace.items ≡ [] }
@@ -100,14 +100,14 @@ impl MemLinks {
         }
     }
 
-    /// The calls so far with their answers, the oldest first.
+    /// Returns the calls so far with their results, the oldest first.
     pub fn trace(&self) -> &[LinkCall]
         ensures { result.now ≡ self.now.trace.items }
     {
         self.trace.as_slice()
     }
 
-    // Makes room for one call more, and for the closes of so many new links.
+    // Makes room for one more call, and for the closes of this number of new links.
     fn make_room(&mut self, new_links: usize) -> Result<(), Memory>
         ensures room { OnOk result (vec_len self.new.trace + vec_len self.new.play.links + new_links + 1
             ≤ vec_capacity self.new.trace) }

@@ -1,4 +1,4 @@
-// How far a script was played, and the links that are open.
+// The position in a script, and the open links.
 ghost use Rattle.std.specs.Prelude.{◌≡◌, ◌≢◌, ◌≤◌, ◌<◌, ◌+◌, ◌==◌, ◌++◌, ◌∷◌, [], not, ℕ, List, Ok, Err, None, true, false, IfOk, IfSome, OnOk, is_some, filter, length, vec_len, vec_capacity};
 ghost use Rattle.std.specs.List.{position_from};
 ghost use Rattle.mesh_links.specs.declared.links.LinkFault.TheVariants as faults;
@@ -9,10 +9,10 @@ use mesh_links::call::LinkEvent;
 use mesh_links::links::LinkFault;
 use std::alloc::{AllocError, Global};
 
-/// The most events of one poll.
+/// The greatest number of events of one poll.
 const MOST_SHOWN: usize = 1024;
 
-/// Where the unread bytes of a link begin: at a step, after so many of its bytes.
+/// The start of the unread bytes of a link: a step, and an offset in its bytes.
 #[derive(Clone, Copy, Debug, PartialEq, Eq)]
 pub(crate) struct Spot {
     step: usize,
@@ -25,7 +25,7 @@ pub(crate) struct OpenLink {
     number: u32,
     unread: Spot,
     has_ended: bool,
-    /// The most bytes of one write, after the first step that says so.
+    /// The greatest number of bytes of one write, after the first step that limits it.
     room: Option<u64>,
     read_fails: bool,
     write_fails: bool,
@@ -48,7 +48,7 @@ impl OpenLink {
         }
     }
 
-    // Plays a step of this link, and returns what it shows.
+    // Plays a step of this link. Returns its event, if there is one.
     fn take_step(&mut self, step: &MemStep) -> Option<LinkEvent>
         ensures number { self.new.number ≡ self.old.number }
         ensures shows { (last : ℕ) (numbers : List ℕ) → Steps result last numbers last numbers }
@@ -80,7 +80,7 @@ impl OpenLink {
         }
     }
 
-    // Notes a read that `look` has returned.
+    // Records a read that `look` has returned.
     fn has_read(&mut self, looked: Result<(usize, Spot), LinkFault>)
         ensures { self.new.number ≡ self.old.number }
     {
@@ -91,7 +91,7 @@ impl OpenLink {
         }
     }
 
-    // Notes a write of which `accepts` has told.
+    // Records a write that `accepts` has returned.
     fn has_written(&mut self, accepted: Result<usize, LinkFault>)
         ensures { self.new.number ≡ self.old.number }
     {
@@ -136,7 +136,7 @@ impl Shown {
     }
 }
 
-// Lets go of the links of a number.
+// Removes the links with the number.
 fn take_out(links: &mut Vec<OpenLink>, number: u32)
     ensures items { links.new.items
         ≡ filter (λ link. not (link.number == number)) links.old.items }
@@ -147,7 +147,7 @@ fn take_out(links: &mut Vec<OpenLink>, number: u32)
     links.retain(|link| link.number != number);
 }
 
-// Where a link stands.
+// Returns the index of a link.
 fn first_of(links: &[OpenLink], number: u32) -> Option<usize>
     ensures place { IfSome result (λ at. at < length links.now) }
     ensures first { result ≡ position_from (λ link. link.number == number) 0 links.now }
@@ -155,7 +155,7 @@ fn first_of(links: &[OpenLink], number: u32) -> Option<usize>
     links.iter().position(|link| link.number == number)
 }
 
-/// How far a script was played.
+/// The position in a script, and the open links.
 #[derive(Drop)]
 pub(crate) struct Play {
     /// Whether steps make calls fail.
@@ -182,14 +182,14 @@ impl Play {
         }
     }
 
-    /// The number of open links.
+    /// Returns the number of open links.
     pub(crate) fn open_count(&self) -> usize
         ensures { result ≡ vec_len self.now.links }
     {
         self.links.len()
     }
 
-    /// The most events that the next poll can show.
+    /// Returns the greatest number of events of the next poll.
     pub(crate) fn most_events(&self, script: &[MemStep]) -> usize
         ensures { result ≤ 1024 }
     {
@@ -211,7 +211,7 @@ impl Play {
         Shown::with_capacity(alloc, most)
     }
 
-    /// Whether the next poll fails. The step that says so is then played.
+    /// Whether the next poll fails. If it does, its step is played.
     pub(crate) fn fails(&mut self, script: &[MemStep]) -> bool
         ensures open_links { self.new.links ≡ self.old.links }
         ensures sure { self.old.may_fail ≡ false → result ≡ false }
@@ -227,7 +227,7 @@ impl Play {
         }
     }
 
-    /// Plays the steps of one poll, which shows at most so many events.
+    /// Plays the steps of one poll, with at most `most` events.
     pub(crate) fn show(&mut self, script: &[MemStep], most: usize, shown: &mut Shown)
         requires events { shown.old.events.items ≡ [] }
         requires told { shown.old.told.items ≡ [] }
@@ -261,7 +261,7 @@ impl Play {
         }
     }
 
-    // Plays a step, and returns what it shows.
+    // Plays a step. Returns its event, if there is one.
     fn take_step(&mut self, step: &MemStep) -> Option<LinkEvent>
         requires { vec_len self.old.links < vec_capacity self.old.links }
         ensures shows { Steps result self.old.last (numbers_of self.old.links.items)
@@ -311,7 +311,7 @@ impl Play {
         first_of(self.links.as_slice(), number)
     }
 
-    /// Copies unread bytes of a link, and returns their number and where the link's unread bytes then begin.
+    /// Copies unread bytes of a link. Returns their number and the new start of the unread bytes.
     pub(crate) fn look(
         &self,
         script: &[MemStep],
@@ -342,7 +342,7 @@ impl Play {
         }
     }
 
-    /// Notes a read that `look` has returned.
+    /// Records a read that `look` has returned.
     pub(crate) fn has_read(&mut self, number: u32, looked: Result<(usize, Spot), LinkFault>)
         ensures open_links { numbers_of self.new.links.items ≡ numbers_of self.old.links.items }
         ensures len { vec_len self.new.links ≡ vec_len self.old.links }
@@ -354,7 +354,7 @@ impl Play {
         }
     }
 
-    /// How many of so many bytes a write on a link accepts.
+    /// Returns how many of `len` bytes a write on a link accepts.
     pub(crate) fn accepts(&self, number: u32, len: usize) -> Result<usize, LinkFault>
         ensures bound { IfOk result (λ n. n ≤ len) }
         ensures some { 0 < len → result ≢ Ok 0 }
@@ -375,7 +375,7 @@ impl Play {
         }
     }
 
-    /// Notes a write of which `accepts` has told.
+    /// Records a write that `accepts` has returned.
     pub(crate) fn has_written(&mut self, number: u32, accepted: Result<usize, LinkFault>)
         ensures open_links { numbers_of self.new.links.items ≡ numbers_of self.old.links.items }
         ensures len { vec_len self.new.links ≡ vec_len self.old.links }
@@ -403,7 +403,7 @@ impl Play {
     }
 }
 
-// The bytes that a step brings to a link.
+// Returns the bytes that a step sends on a link.
 fn bytes_of(step: &MemStep, number: u32) -> &[u8] {
     match step {
         MemStep::Bytes(link, bytes) if *link == number => bytes.as_slice(),
@@ -411,7 +411,7 @@ fn bytes_of(step: &MemStep, number: u32) -> &[u8] {
     }
 }
 
-// Where the unread bytes begin: at a step with such bytes, or behind the last step that was played.
+// Returns the start of the unread bytes: a step with such bytes, or the end of the steps played.
 fn first_unread(played: &[MemStep], number: u32, from: Spot) -> Spot {
     let mut spot = from;
     while spot.step < played.len() {
@@ -426,7 +426,7 @@ fn first_unread(played: &[MemStep], number: u32, from: Spot) -> Spot {
     spot
 }
 
-// Copies bytes to the front of the buffer, and returns how many.
+// Copies bytes to the front of the buffer. Returns their number.
 fn copy_front(bytes: &[u8], buf: &mut [u8]) -> usize
     ensures count { result ≤ length buf.old }
     ensures len { length buf.new ≡ length buf.old }

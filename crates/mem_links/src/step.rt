@@ -1,16 +1,16 @@
 // The steps of a script.
 use mesh_base::list::List;
 
-/// What a peer does, or when a poll ends. A step other than `Arrive` does nothing if its link is not open.
+/// An action of a peer, or the end of a poll. Except for `Arrive`, only open links are affected.
 #[derive(Debug, Drop)]
 pub enum MemStep {
-    /// A link with this number is opened, and shown as new. Does nothing unless the number is above all that arrived before.
+    /// Opens a link and shows it as new, if the number is above those of all earlier links.
     Arrive(u32),
-    /// The peer has sent these bytes. The link is shown as readable.
+    /// The peer sends these bytes. The link is shown as readable.
     Bytes(u32, List<u8>),
-    /// The peer sends nothing more. The link is shown as readable, and a read that finds no bytes returns 0.
+    /// The peer sends no more bytes. The link is shown as readable; at the end a read returns 0.
     End(u32),
-    /// Each write accepts at most so many bytes, and returns Pending if that is 0. Above 0 the link is shown as writable.
+    /// The limit of each write in bytes: 0 means Pending. Above 0 the link is shown as writable.
     Room(u32, u64),
     /// The next read fails. The link is shown as readable.
     FailRead(u32),

@@ -10,7 +10,7 @@ use mesh_links::call::{LinkCall, LinkEvent};
 use mesh_links::links::{LinkFault, Links, PollFault};
 use std::alloc::Global;
 
-/// Links in memory that play a script. No call fails, though there may be no memory.
+/// Links in memory that play a script. No call fails, except if it is out of memory.
 #[derive(Drop)]
 pub struct SureLinks {
     links: MemLinks,
@@ -18,7 +18,7 @@ pub struct SureLinks {
 }
 
 impl SureLinks {
-    /// Links whose script begins, before any call. The steps that make a call fail are left out.
+    /// Creates links at the beginning of a script. Steps that make a call fail are left out.
     pub fn new(alloc: Global, script: List<MemStep>) -> SureLinks
         ensures trace { ⟦<SureLinks as Links>⟧.trace result ≡ Some [] }
         ensures counts { ⟦<SureLinks as Links>⟧.counts result ≡ counts_of none_ever none_ever 0 }
@@ -30,7 +30,7 @@ impl SureLinks {
         }
     }
 
-    /// The calls so far with their answers, the oldest first.
+    /// Returns the calls so far with their results, the oldest first.
     pub fn trace(&self) -> &[LinkCall]
         ensures { ⟦<SureLinks as Links>⟧.trace self.now ≡ Some result.now }
     {

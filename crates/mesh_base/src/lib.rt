@@ -1,8 +1,8 @@
-//! The types that every crate speaks: texts, lists, labels, keys, limits and the step counter, each seen by
-//! contracts as the plain value that it stands for.
+//! The types that all crates share: strings, lists, labels, keys of objects, limits and the step counter. Contracts see
+//! each as a plain value.
 //!
-//! Stands on std alone. `Copied` says that a copy equals its source, `Same` that a comparison decides equality;
-//! sorted lists with keys meet `specs/Keyed`, the order of keys is `specs/KeyOrder`.
+//! Depends on std alone. `Copied` is the trait of copies that equal their source, `Same` that of comparisons that decide
+//! equality. `specs/Keyed` defines sorted lists with keys, and `specs/KeyOrder` the order of objects' keys.
 #![tactic(auto)]
 
 pub mod boxed;

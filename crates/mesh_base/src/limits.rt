@@ -12,13 +12,13 @@ pub struct Limits {
     pub subs: u32,
     /// Open links.
     pub links: u32,
-    /// Open links that feed lines.
+    /// Open links that are feeds of events.
     pub feeds: u32,
     /// Addresses of one message.
     pub frame_addrs: u32,
     /// Bytes of one message.
     pub message: u32,
-    /// Bytes that are read from an input.
+    /// Bytes read from an input.
     pub input: u64,
     /// Bytes of a request frame on a link.
     pub request: u32,

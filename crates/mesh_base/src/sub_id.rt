@@ -1,3 +1,3 @@
-/// The number by which a subscription is called.
+/// The ID of a subscription.
 #[derive(Clone, Copy, Debug, PartialEq, Eq, PartialOrd, Ord)]
 pub struct SubId(pub u32);

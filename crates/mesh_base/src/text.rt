@@ -17,7 +17,7 @@ pub struct Text {
     text: RcStr,
 }
 
-/// A string that is not shared: it is made from a `String` without an allocation.
+/// A string whose bytes are not shared. It is made from a `String` without an allocation.
 #[derive(Debug, Drop)]
 pub struct OwnedText {
     text: String,

@@ -1,4 +1,4 @@
--- The trace of calls on links, and what it tells of them.
+-- The trace of calls on links, the links open after it, and the numbers of new links.
 use Rattle.std.specs.Prelude.{◌≡◌, ◌<◌, ℕ, ◌==◌, Bool, false, ◌||◌, List, [], ◌∷◌, ◌++◌, Option, Some, None, Result, Ok, Err, if◌then◌else◌, max, take}
 use Rattle.mesh_links.specs.declared.call.LinkCall.{LinkCall}
 use Rattle.mesh_links.specs.declared.call.LinkCall.TheVariants as calls
@@ -11,23 +11,23 @@ use Rattle.mesh_links.specs.declared.links.LinkFault.TheVariants as faults
 use Rattle.mesh_links.specs.declared.links.PollFault.{PollFault}
 use Rattle.mesh_links.specs.declared.links.PollFault.TheVariants as polls
 
--- the trace after a call; a call that answers Memory isn't in it
+-- the trace after a call; a call that returns Memory isn't recorded
 abbrev pub with_call : List LinkCall → Option LinkCall → List LinkCall
 with_call trace None = trace
 with_call trace (Some call) = trace ++ call ∷ []
 
--- where the trace was told before, it is told now, with the call that was made
+-- if the trace was specified before the call, it is specified after it, with the call
 abbrev pub Continues : Option (List LinkCall) → Option (List LinkCall) → (List LinkCall → Option LinkCall) → Type 0
 Continues old new made = (trace : List LinkCall) → old ≡ Some trace → new ≡ Some (with_call trace (made trace))
 
--- ---- the call that was made, by its answer
+-- ---- the call that was made, by its result
 
 abbrev pub poll_made : Bool → Result (List LinkEvent) PollFault → Option LinkCall
 poll_made wait (Ok shown) = Some (calls.Poll wait (Some shown))
 poll_made wait (Err polls.Failed) = Some (calls.Poll wait None)
 poll_made wait (Err polls.Memory) = None
 
--- a read into a buffer of so many bytes, which has these bytes after it
+-- a read into a buffer of `room` bytes, which holds `buf` after it
 abbrev pub read_made : ℕ → ℕ → Result ℕ LinkFault → List ℕ → Option LinkCall
 read_made link room (Ok n) buf = Some (calls.Read link room (reads.Bytes (take n buf)))
 read_made link room (Err faults.Pending) buf = Some (calls.Read link room reads.Pending)
@@ -56,11 +56,11 @@ is_open_after link is_open (calls.Read n room got ∷ more) = is_open_after link
 is_open_after link is_open (calls.Write n piece got ∷ more) = is_open_after link is_open more
 is_open_after link is_open (calls.Close n ∷ more) = is_open_after link (if n == link then false else is_open) more
 
--- a poll has shown the link as New, and no close followed
+-- a poll has returned the link as New, and no close followed
 abbrev pub is_open_in : List LinkCall → ℕ → Bool
 is_open_in trace link = is_open_after link false trace
 
--- a close of a link that isn't open does nothing
+-- a close of a link that isn't open does nothing, and isn't recorded
 abbrev pub close_made : List LinkCall → ℕ → Option LinkCall
 close_made trace link = if is_open_in trace link then Some (calls.Close link) else None
 
@@ -80,7 +80,7 @@ last_after last (calls.Read n room got ∷ more) = last_after last more
 last_after last (calls.Write n piece got ∷ more) = last_after last more
 last_after last (calls.Close n ∷ more) = last_after last more
 
--- the greatest number of a link that was shown as new, or 0
+-- the greatest number of a link that was returned as New, or 0
 abbrev pub last_in : List LinkCall → ℕ
 last_in trace = last_after 0 trace
 
@@ -90,6 +90,6 @@ AreAbove last (events.New n ∷ more) = (last < n) × AreAbove n more
 AreAbove last (events.Readable n ∷ more) = AreAbove last more
 AreAbove last (events.Writable n ∷ more) = AreAbove last more
 
--- each link shown as new has a number above those of all earlier ones
+-- each link returned as New has a number above those of all earlier ones
 abbrev pub AreNew : List LinkCall → List LinkEvent → Type 0
 AreNew trace shown = AreAbove (last_in trace) shown

@@ -1,4 +1,4 @@
--- The counts of faults on links. A fault is answered only where its count rose in the call, or has reached the end of its type.
+-- Counts of errors on links. An error is returned only if its count rose or is at its maximum.
 use Rattle.std.specs.Prelude.{◌≡◌, ◌≤◌, ℕ, List, Result, IsErrOf}
 use Rattle.mesh_outside.specs.Causes.{Rose}
 use Rattle.mesh_links.specs.declared.call.LinkEvent.{LinkEvent}
@@ -7,7 +7,7 @@ use Rattle.mesh_links.specs.declared.links.LinkFault.TheVariants as faults
 use Rattle.mesh_links.specs.declared.links.PollFault.{PollFault}
 use Rattle.mesh_links.specs.declared.links.PollFault.TheVariants as polls
 
--- the number of failed polls, and for each link those of failed calls and of calls answered Pending
+-- the number of failed polls, and for each link those of failed calls and of Pending results
 pub record Counts : Type 0 where
   pub polls : ℕ
   pub faults : ℕ → ℕ

@@ -1,18 +1,18 @@
-// The calls on links, as a trace tells them.
+// The calls on links, as a trace records them.
 use mesh_base::list::List;
 
-/// An event that a poll shows.
+/// An event that a poll returns.
 #[derive(Clone, Copy, Debug, PartialEq, Eq)]
 pub enum LinkEvent {
     /// A peer has opened the link.
     New(u32),
-    /// A read of the link may answer something else than Pending.
+    /// A read of the link may return something other than `Pending`.
     Readable(u32),
-    /// A write on the link may answer something else than Pending.
+    /// A write on the link may return something other than `Pending`.
     Writable(u32),
 }
 
-/// What a read answered, other than Memory.
+/// The result of a read, other than `Memory`.
 #[derive(Debug, Drop)]
 pub enum ReadGot {
     /// The bytes that were read. No bytes mean the end of the peer's input.
@@ -21,7 +21,7 @@ pub enum ReadGot {
     Failed,
 }
 
-/// What a write answered, other than Memory.
+/// The result of a write, other than `Memory`.
 #[derive(Debug, Drop)]
 pub enum WriteGot {
     /// The number of bytes accepted from the front of the piece.
@@ -30,15 +30,15 @@ pub enum WriteGot {
     Failed,
 }
 
-/// A call on links with its answer. A call that answers Memory isn't told.
+/// A call on links and its result. A call that returns `Memory` isn't recorded.
 #[derive(Debug, Drop)]
 pub enum LinkCall {
-    /// A poll with the events that it showed, or None where it failed.
+    /// A poll and the events that it returned, or None if it failed.
     Poll {
         wait: bool,
         got: Option<List<LinkEvent>>,
     },
-    /// A read into a buffer of so many bytes.
+    /// A read into a buffer of `room` bytes.
     Read {
         link: u32,
         room: u64,

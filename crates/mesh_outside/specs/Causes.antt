@@ -1,48 +1,48 @@
--- When a fault of the outside may be answered: the count of faults rose in the call, or stands at its type's end.
+-- When an error may be returned: its count rose in the call, or is at the maximum of its type.
 use Rattle.std.specs.Prelude.{◌≡◌, ◌+◌, ◌-◌, ◌^◌, ◌≤◌, ◌<◌, ℕ, Bool, true, false, ◌&&◌, ◌==◌, nat_lt, if◌then◌else◌, List, length, min, Result, Ok, Err, OnErr, OnOk, IsErrOf}
 use Rattle.mesh_outside.specs.declared.sink.SinkFault.{SinkFault}
 use Rattle.mesh_outside.specs.declared.sink.SinkFault.TheVariants.{Failed, Memory}
 
--- a count that rises, and stands still at the end of its type
+-- the count plus one, which saturates at the maximum of u64
 abbrev pub one_more : ℕ → ℕ
 one_more n = min (n + 1) (2 ^ 64 - 1)
 
--- a count after a call that is counted, or isn't
+-- the count after a call that is counted, or isn't
 abbrev pub counted : Bool → ℕ → ℕ
 counted is_counted count = if is_counted then one_more count else count
 
--- a write failed, or took nothing of a piece that isn't empty
+-- a write failed, or accepted nothing of a nonempty piece
 abbrev pub is_fault : List ℕ → Result ℕ SinkFault → Bool
 is_fault piece (Ok n) = n == 0 && nat_lt 0 (length piece)
 is_fault piece (Err Failed) = true
 is_fault piece (Err Memory) = false
 
--- a write had the memory that it needed
+-- a write didn't run out of memory
 abbrev pub had_memory : Result ℕ SinkFault → Bool
 had_memory (Ok n) = true
 had_memory (Err Failed) = true
 had_memory (Err Memory) = false
 
--- the count of what never fails
+-- the count of errors where none occurs
 abbrev pub none_ever : ℕ
 none_ever = 0
 
--- the count rose from before to now, or stands at the end of its type
+-- the count rose from before to now, or is at the maximum of its type
 abbrev pub Rose : ℕ → ℕ → Type 0
 Rose before now = one_more before ≤ now
 
--- a count that didn't rise, and is below the end of its type
+-- the count didn't rise, and is below the maximum of its type
 abbrev pub Unrisen : ℕ → ℕ → Type 0
 Unrisen before now = (now ≡ before) × (before < 2 ^ 64 - 1)
 
--- The count doesn't fall in a call. An error is answered only where it rose, and it stays where none is.
+-- The count doesn't fall in a call. An error is returned only if it rose. Ok leaves it unchanged.
 pub record HasCause {T E : Type 0} (before now : ℕ) (result : Result T E) : Type 0 where
   pub later : before ≤ now
   pub failed : OnErr result (Rose before now)
   pub other : OnOk result (now ≡ before)
 
--- The count doesn't fall in a write. `Failed`, and 0 for a piece that isn't empty, are answered only where it rose, and it
--- stays where neither is.
+-- The count doesn't fall in a write. `Failed`, and 0 for a nonempty piece, are returned only if it
+-- rose. Any other result leaves it unchanged.
 pub record WriteHasCause (before now : ℕ) (piece : List ℕ) (result : Result ℕ SinkFault) : Type 0 where
   pub later : before ≤ now
   pub failed : IsErrOf result Failed → Rose before now

@@ -1,4 +1,4 @@
-// What tells whether patterns match.
+// Matchers of patterns.
 ghost use Rattle.std.specs.Prelude.{◌≡◌, ◌≢◌, ◌≤◌, ℕ, Bool, List, [], Option, Some, IfOk, IfSome, IsErrOf, Ok, Err, if◌then◌else◌, true, false};
 ghost use Rattle.std.specs.Str.{bytes_eq};
 ghost use Rattle.mesh_outside.specs.Causes.{Rose, counted, none_ever};
@@ -8,26 +8,26 @@ use mesh_base::list::List;
 use mesh_base::text::Text;
 use std::alloc::Global;
 
-/// Why a pattern gives no answer.
+/// The reason why a match has no result.
 #[derive(Clone, Copy, Debug, PartialEq, Eq)]
 pub enum PatternFault {
-    /// It isn't a pattern that can be matched.
+    /// The pattern isn't one that can be matched.
     Refused,
     Memory,
 }
 
-/// What tells whether a pattern matches a whole text.
+/// A matcher of patterns on whole strings.
 pub trait Patterns {
-    /// Whether a pattern matches a text, where that is told.
+    /// Whether a pattern matches a string, if specified.
     ghost tells: { Self → Option (List ℕ → List ℕ → Bool) };
 
-    /// Which patterns are refused, where that is told.
+    /// The patterns that are refused, if specified.
     ghost refuses: { Self → Option (List ℕ → Bool) };
 
-    /// How often a pattern was refused; the count stands still at the end of `u64`.
+    /// The number of refusals so far, which saturates at `u64::MAX`.
     ghost refusals: { Self → ℕ };
 
-    /// Whether the pattern matches the whole text.
+    /// Returns whether the pattern matches the whole string.
     fn whole(&mut self, alloc: Global, pattern: &str, text: &str) -> Result<bool, PatternFault>
         ensures told { IfOk result (λ answer.
             IfSome (tells self.old) (λ f. answer ≡ f pattern.now text.now)) }
@@ -41,17 +41,17 @@ pub trait Patterns {
         ensures refuses_same { refuses self.new ≡ refuses self.old };
 }
 
-/// Patterns that are their own text, some of which are refused.
+/// Patterns that match their own string alone, some of which are refused.
 #[derive(Drop)]
 pub struct MemPatterns {
     /// The patterns that are refused.
     pub refuse: List<Text>,
-    /// The refusals so far.
+    /// The number of refusals so far.
     pub count: u64,
 }
 
 impl MemPatterns {
-    /// Patterns of which none is refused.
+    /// Returns patterns of which none is refused.
     pub fn new(alloc: Global) -> MemPatterns
         ensures refuse { result.refuse ≡ [] }
         ensures count { result.count ≡ 0 }
@@ -90,7 +90,7 @@ impl Patterns for MemPatterns {
         ensures other { result ≢ Err PatternFault.Refused → self.new.count ≡ self.old.count }
         ensures refuses_same { self.new.refuse ≡ self.old.refuse }
 
-        // The field says which are refused, and the others are told without memory. Refusals alone are counted.
+        // Patterns in `refuse` are refused, others matched without allocating. Only refusals count.
         ensures answer { result ≡ (if is_among pattern.now self.old.refuse then Err
             PatternFault.Refused else Ok (bytes_eq pattern.now text.now)) }
         ensures count { self.new.count ≡ counted (is_among pattern.now self.old.refuse) self.old.count }
@@ -103,7 +103,7 @@ impl Patterns for MemPatterns {
     }
 }
 
-/// Patterns that are their own text, none of which is refused.
+/// Patterns that match their own string alone, none of which is refused.
 #[derive(Drop)]
 pub struct SurePatterns;
 
@@ -121,7 +121,7 @@ impl Patterns for SurePatterns {
         ensures named { IsErrOf result PatternFault.Refused → false ≡ true }
         ensures other { result ≢ Err PatternFault.Refused → none_ever ≡ none_ever }
 
-        // Each is told, and without memory.
+        // Each pattern is matched, without allocating.
         ensures answer { result ≡ Ok (bytes_eq pattern.now text.now) }
     {
         Ok(pattern == text)

@@ -1,4 +1,4 @@
-// Where bytes go.
+// Sinks of bytes.
 ghost use Rattle.std.specs.Prelude.{◌≡◌, ◌≤◌, ◌↔◌, List, [], ℕ, Some, None, length, Contains, IfOk, IsErrOf};
 ghost use Rattle.std.specs.declared.option.Option.{Option};
 ghost use Rattle.std.specs.Io.{WritesAtMost};
@@ -9,11 +9,11 @@ use mesh_base::list::List;
 use std::alloc::Global;
 use std::io::Write;
 
-/// Why a write to a sink failed.
+/// The error of a write to a sink.
 #[derive(Clone, Copy, Debug, PartialEq, Eq)]
 pub enum SinkFault {
     Failed,
-    /// There was no memory, and the sink is as before.
+    /// Out of memory; the sink is as before.
     Memory,
 }
 
@@ -21,13 +21,13 @@ pub enum SinkFault {
 pub trait Sink {
     ghost use Rattle.mesh_outside.specs.Causes.{WriteHasCause};
 
-    /// The bytes that it holds, where it tells them.
+    /// The bytes that the sink holds, if specified.
     ghost held: { Self → Option (List ℕ) };
 
-    /// How often it failed; the count stands still at the end of `u64`.
+    /// The number of failed writes so far, which saturates at `u64::MAX`.
     ghost faults: { Self → ℕ };
 
-    /// Adds bytes from the front of the piece, and answers how many.
+    /// Accepts bytes from the front of the piece, and returns their number.
     fn write(&mut self, piece: &[u8]) -> Result<usize, SinkFault>
         ensures bound { WritesAtMost result piece.now }
         ensures bytes { WriteAppends (held self.old) (held self.new) result piece.now }
@@ -35,20 +35,20 @@ pub trait Sink {
         ensures memory { IsErrOf result SinkFault.Memory → held self.new ≡ held self.old };
 }
 
-/// Bytes in memory. The calls whose numbers, from 1, stand in `fails` fail.
+/// A sink in memory. The calls whose numbers, from 1, are in `fails` fail.
 #[derive(Drop)]
 pub struct MemSink {
     /// The bytes held.
     pub bytes: Vec<u8>,
     pub fails: List<u64>,
-    /// The calls so far, without those that had no memory.
+    /// The number of calls so far, without those that ran out of memory.
     pub calls: u64,
-    /// The faults so far.
+    /// The number of failed calls so far.
     pub count: u64,
 }
 
 impl MemSink {
-    /// A sink that holds nothing and never fails.
+    /// Returns a sink that holds nothing and never fails.
     pub fn new(alloc: Global) -> MemSink
         ensures bytes { result.bytes.items ≡ [] }
         ensures fails { result.fails ≡ [] }
@@ -77,7 +77,7 @@ impl Sink for MemSink {
         ensures memory { IsErrOf result SinkFault.Memory
             → Some self.new.bytes.items ≡ Some self.old.bytes.items }
 
-        // The fields say which calls fail, and the others accept the whole piece. A call that had no memory isn't counted.
+        // The calls in `fails` fail, others accept the whole piece. Out of memory isn't counted.
         ensures fails { IsErrOf result SinkFault.Failed
             ↔ Contains self.old.fails (one_more self.old.calls) }
         ensures whole { IfOk result (λ n. n ≡ length piece.now) }
@@ -99,7 +99,7 @@ impl Sink for MemSink {
     }
 }
 
-/// Bytes in memory. No call fails, though there may be no memory.
+/// A sink in memory. Its only error is `Memory`.
 #[derive(Drop)]
 pub struct SureSink {
     /// The bytes held.
@@ -119,7 +119,7 @@ impl Sink for SureSink {
         ensures memory { IsErrOf result SinkFault.Memory
             → Some self.new.bytes.items ≡ Some self.old.bytes.items }
 
-        // It accepts the whole piece.
+        // A write accepts the whole piece.
         ensures whole { IfOk result (λ n. n ≡ length piece.now) }
         ensures none { ¬ (IsErrOf result SinkFault.Failed) }
     {
@@ -130,7 +130,7 @@ impl Sink for SureSink {
     }
 }
 
-/// Any writer of std. What it holds is told where std tells it, so not for a file or standard output.
+/// A sink over any `Write`. Its bytes are specified if std does so: not for a file or stdout.
 #[derive(Drop)]
 pub struct WriteSink<W> {
     writer: W,
@@ -159,7 +159,7 @@ impl<W: Write> Sink for WriteSink<W> {
         ensures memory { IsErrOf result SinkFault.Memory
             → W.contents self.new.writer ≡ W.contents self.old.writer }
 
-        // Faults alone are counted, and it allocates nothing.
+        // Only faults are counted, and nothing is allocated.
         ensures count { self.new.count ≡ counted (is_fault piece.now result) self.old.count }
         ensures none { ¬ (IsErrOf result SinkFault.Memory) }
     {

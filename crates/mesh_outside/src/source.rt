@@ -1,4 +1,4 @@
-// Where bytes come from.
+// Sources of bytes.
 ghost use Rattle.std.specs.Prelude.{◌≡◌, ◌≤◌, ◌↔◌, List, [], ℕ, Some, None, min, length, drop, vec_len, Contains, IsErr, IfOk, is_err};
 ghost use Rattle.std.specs.declared.option.Option.{Option};
 ghost use Rattle.std.specs.Io.{ReadsAtMost};
@@ -9,40 +9,40 @@ use mesh_base::list::List;
 use std::alloc::Global;
 use std::io::Read;
 
-/// The source failed.
+/// The error of a read from a source.
 #[derive(Clone, Copy, Debug, PartialEq, Eq)]
 pub struct Failed;
 
 /// A source of bytes.
 pub trait Source {
-    /// The bytes that are left, where it tells them.
+    /// The bytes that are left, if specified.
     ghost left: { Self → Option (List ℕ) };
 
-    /// How often it failed; the count stands still at the end of `u64`.
+    /// The number of failed reads so far, which saturates at `u64::MAX`.
     ghost faults: { Self → ℕ };
 
-    /// Moves bytes from the front of what is left to the front of the buffer, and answers how many. None for a
-    /// buffer that isn't empty is the end of the input.
+    /// Moves bytes from the front of what is left to the front of the buffer, and returns their
+    /// number. 0 for a nonempty buffer means the end of the input.
     fn read(&mut self, buf: &mut [u8]) -> Result<usize, Failed>
         ensures bound { ReadsAtMost result buf.new }
         ensures bytes { ReadConsumes (left self.old) (left self.new) result buf.new }
         ensures cause { HasCause (faults self.old) (faults self.new) result };
 }
 
-/// Bytes in memory. The calls whose numbers, from 1, stand in `fails` fail.
+/// A source in memory. The calls whose numbers, from 1, are in `fails` fail.
 #[derive(Drop)]
 pub struct MemSource {
     /// The bytes left.
     pub bytes: Vec<u8>,
     pub fails: List<u64>,
-    /// The calls so far.
+    /// The number of calls so far.
     pub calls: u64,
-    /// The faults so far.
+    /// The number of failed calls so far.
     pub count: u64,
 }
 
 impl MemSource {
-    /// A source of these bytes that never fails.
+    /// Returns a source of these bytes that never fails.
     pub fn of(alloc: Global, bytes: Vec<u8>) -> MemSource
         ensures bytes { result.bytes.items ≡ bytes.items }
         ensures fails { result.fails ≡ [] }
@@ -78,7 +78,7 @@ impl Source for MemSource {
             buf.new }
         ensures cause { HasCause self.old.count self.new.count result }
 
-        // The fields say which calls fail, and the others give as much as there is.
+        // The calls in `fails` fail, others read all bytes that are left and fit the buffer.
         ensures fails { IsErr result ↔ Contains self.old.fails self.new.calls }
         ensures whole { IfOk result (λ n. n ≡ min (length buf.old) (vec_len self.old.bytes)) }
         ensures calls { self.new.calls ≡ one_more self.old.calls }
@@ -98,7 +98,7 @@ impl Source for MemSource {
     }
 }
 
-/// Lent bytes. No call fails.
+/// A source of borrowed bytes. No call fails.
 #[derive(Drop)]
 pub struct SureSource<'a> {
     /// The bytes left.
@@ -115,7 +115,7 @@ impl<'a> Source for SureSource<'a> {
         ensures bytes { ReadConsumes (Some self.old.bytes.now) (Some self.new.bytes.now) result buf.new }
         ensures cause { HasCause none_ever none_ever result }
 
-        // It gives as much as there is.
+        // A read moves all bytes that are left and fit the buffer.
         ensures whole { result ≡ Ok (min (length buf.old) (length self.old.bytes.now)) }
     {
         let bytes = self.bytes;
@@ -126,7 +126,7 @@ impl<'a> Source for SureSource<'a> {
     }
 }
 
-/// Any reader of std. What it has left is told where std tells it, so not for a file or standard input.
+/// A source over any `Read`. Its bytes are specified if std does so: not for a file or stdin.
 #[derive(Drop)]
 pub struct ReadSource<R> {
     reader: R,
@@ -153,7 +153,7 @@ impl<R: Read> Source for ReadSource<R> {
             result buf.new }
         ensures cause { HasCause self.old.count self.new.count result }
 
-        // Faults alone are counted.
+        // Only errors are counted.
         ensures count { self.new.count ≡ counted (is_err result) self.old.count }
     {
         match self.reader.read(buf) {

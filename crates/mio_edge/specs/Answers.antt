@@ -1,4 +1,4 @@
--- Which answers are counted.
+-- The results that are counted.
 use Rattle.std.specs.Prelude.{ℕ, Bool, true, false, List, Result, Ok, Err}
 use Rattle.mesh_links.specs.declared.call.LinkEvent.{LinkEvent}
 use Rattle.mesh_links.specs.declared.links.LinkFault.{LinkFault}
@@ -14,7 +14,7 @@ is_failed (Err faults.Failed) = true
 is_failed (Err faults.Pending) = false
 is_failed (Err faults.Memory) = false
 
--- a read or a write was answered Pending
+-- a read or a write returned Pending
 abbrev pub is_pending : Result ℕ LinkFault → Bool
 is_pending (Ok n) = false
 is_pending (Err faults.Failed) = false
@@ -27,7 +27,7 @@ is_poll_failed (Ok shown) = false
 is_poll_failed (Err polls.Failed) = true
 is_poll_failed (Err polls.Memory) = false
 
--- all links together have one count of failures, which is that of the polls too, and one of answers Pending
+-- all links have one count of failures, which includes those of polls, and one of results Pending
 abbrev pub counts_of : ℕ → ℕ → Counts
 counts_of failures pendings = record {
   polls = failures;

@@ -1,8 +1,8 @@
 //! Links to peers over TCP: connections that a listener accepts, without threads.
 //!
-//! Stands on mesh_links for the trait `Links`, whose contract `mio_links::MioLinks` meets without a trace, since the system
-//! alone knows what its sockets hold. `specs/Answers` says which answers are counted, and `specs/Numbers` how new links are
-//! numbered.
+//! Depends on mesh_links for the trait `Links`, whose contract `mio_links::MioLinks` meets without
+//! a trace, since only the system knows what its sockets hold. `specs/Answers` defines which
+//! results are counted, and `specs/Numbers` how new links are numbered.
 #![tactic(auto)]
 
 pub mod mio_links;

@@ -23,20 +23,20 @@ use std::io::{self, ErrorKind, Read, Write};
 use std::net::{AddrParseError, Net, SocketAddr};
 use std::sync::Wait;
 
-/// The most events of one poll.
+/// The greatest number of events of one poll.
 const MOST_SHOWN: usize = 1024;
 
-/// The most connections that one poll accepts, so that open links are polled too.
+/// The greatest number of connections that one poll accepts. The limit lets it poll open links too.
 const MOST_NEW: usize = 64;
 
-/// The most sockets that one poll asks about. Each has two events at most, and there is room for new links beside them.
+/// The most sockets that one poll returns. With two events each, they leave room for new links.
 const MOST_READY: usize = 480;
 
 /// Why there is no listener.
 #[derive(Clone, Copy, Debug)]
 pub enum ListenFault {
     Memory,
-    /// The system refused the address, with its reason, or the text isn't an address.
+    /// The system refused the address, with its reason, or the string is not an address.
     Failed(Option<io::Error>),
 }
 
@@ -67,19 +67,19 @@ pub struct MioLinks<'r, R> {
     ready: Events,
     listener: TcpListener,
     accepting: Accepting,
-    /// Those that are open, by number.
+    /// The open links, by number.
     links: Vec<OpenLink>,
     /// The number of the newest link, or 0.
     last: u32,
-    /// The failures of polls, and of reads and writes of all links.
+    /// The number of failures of polls, and of reads and writes of all links.
     faults: u64,
-    /// The reads and writes of all links that were answered Pending.
+    /// The number of reads and writes of all links that returned Pending.
     pendings: u64,
     ghost few: { events_capacity ready ≡ 480 },
 }
 
 impl<'r, R: Net + Wait> MioLinks<'r, R> {
-    /// Listens at an address with a port, as `127.0.0.1:8086`.
+    /// Listens at an address with a port, such as `127.0.0.1:8086`.
     pub fn listen(rt: &'r R, alloc: Global, address: &str) -> Result<MioLinks<'r, R>, ListenFault>
         ensures address { IfOk result (λ links.
             (at : SocketAddr) × IsSocketText address.now at) }
@@ -109,7 +109,7 @@ impl<'r, R: Net + Wait> MioLinks<'r, R> {
 }
 
 impl<'r, R> MioLinks<'r, R> {
-    // A failure, counted.
+    // Counts a failure.
     fn failed(&mut self) -> LinkFault
         ensures faults { self.new.faults ≡ counted (is_failed (Err result)) self.old.faults }
         ensures pendings { self.new.pendings ≡ counted (is_pending (Err result)) self.old.pendings }
@@ -120,7 +120,7 @@ impl<'r, R> MioLinks<'r, R> {
         LinkFault::Failed
     }
 
-    // An answer Pending, counted.
+    // Counts a result Pending.
     fn pending(&mut self) -> LinkFault
         ensures faults { self.new.faults ≡ counted (is_failed (Err result)) self.old.faults }
         ensures pendings { self.new.pendings ≡ counted (is_pending (Err result)) self.old.pendings }
@@ -131,7 +131,7 @@ impl<'r, R> MioLinks<'r, R> {
         LinkFault::Pending
     }
 
-    // Has the next poll show a link again if it is ready.
+    // Makes the next poll show a link again if it is ready.
     fn show_again(&mut self, at: usize) -> bool
         requires { at < vec_len self.old.links }
         ensures faults { self.new.faults ≡ self.old.faults }
@@ -149,7 +149,7 @@ impl<'r, R> MioLinks<'r, R> {
             .is_ok()
     }
 
-    // Why a link gave nothing. A signal is no failure: the link is still ready, and so that this isn't lost it is shown again.
+    // Returns the error of a link: Pending after a signal, and the next poll shows the link again.
     fn fault(&mut self, at: usize, kind: ErrorKind) -> LinkFault
         requires { at < vec_len self.old.links }
         ensures faults { self.new.faults ≡ counted (is_failed (Err result)) self.old.faults }
@@ -166,7 +166,7 @@ impl<'r, R> MioLinks<'r, R> {
         self.failed()
     }
 
-    // Accepts the connections that wait, each as a new link.
+    // Accepts the waiting connections, each as a new link.
     fn accept_all(&mut self, shown: &mut Vec<LinkEvent>)
         requires links { vec_len self.old.links + 64 ≤ vec_capacity self.old.links }
         requires room { vec_len shown.old + 64 ≤ vec_capacity shown.old }
@@ -188,7 +188,7 @@ impl<'r, R> MioLinks<'r, R> {
         }
     }
 
-    // Accepts one connection, and tells whether another may be waiting. None is accepted once the numbers are used up.
+    // Accepts a connection, unless the numbers are used up. Returns whether another may be waiting.
     fn accept(&mut self, shown: &mut Vec<LinkEvent>) -> bool
         requires links { vec_len self.old.links < vec_capacity self.old.links }
         requires room { vec_len shown.old < vec_capacity shown.old }
@@ -219,8 +219,8 @@ impl<'r, R> MioLinks<'r, R> {
         }
     }
 
-    // Says when to accept again after an error, and whether at once. The connection that it was about is gone if it was aborted;
-    // if there are too many open files, say, it is still waiting.
+    // Sets when to accept again after an error. Returns whether that is at once. The connection is
+    // gone if it was aborted; it is still waiting if there are too many open files, for example.
     fn accept_later(&mut self, kind: ErrorKind) -> bool
         ensures links { self.new.links ≡ self.old.links }
         ensures last { self.new.last ≡ self.old.last }
@@ -239,7 +239,7 @@ impl<'r, R> MioLinks<'r, R> {
         false
     }
 
-    // Makes a connection a link. One that the system doesn't watch is dropped, and so closed.
+    // Opens a link for a connection. One that the system does not watch is closed.
     fn add(&mut self, stream: TcpStream, shown: &mut Vec<LinkEvent>)
         requires number { self.old.last < 2 ^ 32 - 1 }
         requires links { vec_len self.old.links < vec_capacity self.old.links }
@@ -282,7 +282,7 @@ impl<'r, R> MioLinks<'r, R> {
     }
 }
 
-// Has polls show a new link, without delay of small writes.
+// Makes polls show a new link, whose small writes are not delayed.
 fn is_watched(registry: &Registry, stream: &mut TcpStream, number: u32) -> bool {
     stream.set_nodelay(true).is_ok()
         && registry
@@ -308,7 +308,7 @@ impl<'r, R: Wait> Links for MioLinks<'r, R> {
         ensures numbered { IfOk result (λ events. Numbered self.old.last self.new.last events) }
         ensures last { OnErr result (self.new.last ≡ self.old.last) }
 
-        // Failures alone are counted.
+        // Only failures are counted.
         ensures faults { self.new.faults ≡ counted (is_poll_failed result) self.old.faults }
         ensures pendings { self.new.pendings ≡ self.old.pendings }
     {
@@ -334,7 +334,7 @@ impl<'r, R: Wait> Links for MioLinks<'r, R> {
         ensures cause { KeptInCall link (counts_of self.old.faults self.old.pendings)
             (counts_of self.new.faults self.new.pendings) result }
 
-        // Failures and answers Pending alone are counted, and nothing is allocated.
+        // Only failures and results Pending are counted, and nothing is allocated.
         ensures faults { self.new.faults ≡ counted (is_failed result) self.old.faults }
         ensures pendings { self.new.pendings ≡ counted (is_pending result) self.old.pendings }
         ensures none { ¬ (IsErrOf result LinkFault.Memory) }
@@ -355,7 +355,7 @@ impl<'r, R: Wait> Links for MioLinks<'r, R> {
         ensures cause { KeptInCall link (counts_of self.old.faults self.old.pendings)
             (counts_of self.new.faults self.new.pendings) result }
 
-        // Failures and answers Pending alone are counted, and nothing is allocated.
+        // Only failures and results Pending are counted, and nothing is allocated.
         ensures faults { self.new.faults ≡ counted (is_failed result) self.old.faults }
         ensures pendings { self.new.pendings ≡ counted (is_pending result) self.old.pendings }
         ensures none { ¬ (IsErrOf result LinkFault.Memory) }

@@ -2,14 +2,14 @@ ghost use Rattle.std.specs.Prelude.{◌<◌, length, IfSome};
 
 use mio::net::TcpStream;
 
-/// A link that is open.
+/// An open link.
 #[derive(Drop)]
 pub(crate) struct OpenLink {
     pub(crate) number: u32,
     pub(crate) stream: TcpStream,
 }
 
-/// The place of a link among those that are open.
+/// Returns the index of a link among the open ones.
 pub(crate) fn place(links: &[OpenLink], link: u32) -> Option<usize>
     ensures within { IfSome result (λ at. at < length links.now) }
 {

@@ -1,4 +1,4 @@
-// What is ready, and how long to wait for it.
+// Which sockets are ready, and how long to wait for them.
 ghost use Rattle.std.specs.Prelude.{◌≡◌, ◌+◌, ◌*◌, ◌≤◌, ◌<◌, ℕ, length, vec_len, vec_capacity};
 ghost use Rattle.mio.specs.Events.{items, capacity as events_capacity};
 ghost use Rattle.mio_edge.specs.Numbers.{Numbered};
@@ -10,21 +10,21 @@ use std::io;
 use std::sync::Wait;
 use std::time::Duration;
 
-/// The listener's token. Each link has its number as token.
+/// The listener's token. That of a link is its number.
 pub(crate) const LISTENER: Token = Token(0);
 
 /// When the next connection is accepted.
 #[derive(Clone, Copy, Debug, PartialEq, Eq)]
 pub(crate) enum Accepting {
-    /// Once the listener is ready: none is waiting.
+    /// When the listener is ready: no connection is waiting.
     AtEvent,
-    /// In the next poll: others may be waiting.
+    /// In the next poll: connections may be waiting.
     Now,
-    /// In the next poll, which waits a second at most: one could not be accepted.
+    /// In the next poll, which waits at most a second: a connection could not be accepted.
     Soon,
 }
 
-/// How long a poll waits, or None for as long as nothing is ready.
+/// Returns how long a poll waits, or None to wait until something is ready.
 pub(crate) fn limit(wait: bool, accepting: Accepting) -> Option<Duration> {
     match accepting {
         _ if !wait => Some(Duration::ZERO),
@@ -34,7 +34,7 @@ pub(crate) fn limit(wait: bool, accepting: Accepting) -> Option<Duration> {
     }
 }
 
-/// Waits until something is ready, or for as long as the limit says. It may wait forever, so it takes a handle.
+/// Waits until something is ready, or to the limit. It may wait forever, so it requires a handle.
 pub(crate) fn wait_for<R: Wait>(
     _rt: &R,
     poll: &mut Poll,
@@ -52,7 +52,7 @@ pub(crate) fn has_listener(ready: &Events) -> bool {
     ready.iter().any(|event| event.token() == LISTENER)
 }
 
-/// Shows what links are ready for.
+/// Appends the events of all links that are ready.
 pub(crate) fn show_all(ready: &Events, shown: &mut Vec<LinkEvent>)
     requires room { vec_len shown.old + 2 * length (items ready.now) ≤ vec_capacity shown.old }
     ensures len { vec_len shown.new ≤ vec_len shown.old + 2 * length (items ready.now) }
@@ -64,7 +64,7 @@ pub(crate) fn show_all(ready: &Events, shown: &mut Vec<LinkEvent>)
     }
 }
 
-/// Shows what one link is ready for: at a failure, and at the end of the peer's input, for whatever may answer it.
+/// Appends the events of one link. An error is shown as both events, a closed side as its own.
 fn show(event: &Event, shown: &mut Vec<LinkEvent>)
     requires room { vec_len shown.old + 2 ≤ vec_capacity shown.old }
     ensures len { vec_len shown.new ≤ vec_len shown.old + 2 }

@@ -1,4 +1,4 @@
--- What the calls of a store do to the objects, and when they are refused.
+-- The effects of the calls of a store on its objects, and when a call is refused.
 use Rattle.std.specs.Prelude.{◌≡◌, ◌&&◌, ◌==◌, not, if◌then◌else◌, ℕ, Bool, true, Some, None, [], ◌∷◌}
 use Rattle.std.specs.Ordering.{eq_by_cmp}
 use Rattle.std.specs.Option.{option_to_list}
@@ -14,11 +14,11 @@ use Rattle.object_store.specs.declared.change.StoreFault.{StoreFault}
 use Rattle.object_store.specs.declared.change.StoreFault.TheVariants.{Memory, Full}
 use Rattle.object_store.specs.Held.{Held}
 
--- the key is new, and as many objects are held as may be
+-- the key is new, and the number of objects is at the limit
 abbrev pub lacks_room : ObjectMap → ℕ → ObjKey → Bool
 lacks_room m limit k = not (contains_key m k) && (len m == limit)
 
--- the object is put at its key
+-- the object is set at its key
 pub record Puts (old new : ObjectMap) (o : Object) (change : Change) : Type 0 where
   pub objects : new ≡ insert old (key_of o) o
   pub before : change.old ≡ option_to_list (get old (key_of o))
@@ -26,7 +26,7 @@ pub record Puts (old new : ObjectMap) (o : Object) (change : Change) : Type 0 wh
   pub marks : change.marks ≡ marks_of_all (o ∷ change.old)
   pub leads : AtKeys old → Leads change.marks old new
 
--- what was held at the key is gone
+-- the object at the key, if there is one, is removed
 pub record Takes (old new : ObjectMap) (k : ObjKey) (change : Change) : Type 0 where
   pub objects : new ≡ remove old k
   pub before : change.old ≡ option_to_list (get old k)
@@ -34,20 +34,20 @@ pub record Takes (old new : ObjectMap) (k : ObjKey) (change : Change) : Type 0 w
   pub marks : change.marks ≡ marks_of_all change.old
   pub leads : AtKeys old → Leads change.marks old new
 
--- a refusal of the objects alone: `Full` comes where there is no room, says how many are held, and changes nothing
+-- an error of the objects alone: `Full` if there is no room, with the number held and no change
 abbrev pub IsFull : ObjectMap → ObjectMap → Bool → StoreFault → Type 0
 IsFull old new no_room Memory = Unit {0}
 IsFull old new no_room (Full held) = (no_room ≡ true) × (held ≡ len old) × (new ≡ old)
 
--- a refusal of the store: out of memory spends it, and `Full` leaves it as it was
+-- an error of the store: `Memory` spends it, and `Full` leaves it unchanged
 abbrev pub Refuses : Held → Held → Bool → StoreFault → Type 0
 Refuses old new no_room Memory = new.spent ≡ true
 Refuses old new no_room (Full held) = (no_room ≡ true) × (held ≡ len old.objects) × (new ≡ old)
 
--- key by key: the object at its own key, and else what was held
+-- by key: the object at its own key, and the old value at every other key
 abbrev pub PutByKey : Type 0
 PutByKey = (m : ObjectMap) (o : Object) (k : ObjKey) → get (insert m (key_of o) o) k ≡ (if eq_by_cmp key_cmp k (key_of o) then Some o else get m k)
 
--- key by key: nothing at the key, and else what was held
+-- by key: nothing at the key, and the old value at every other key
 abbrev pub TakenByKey : Type 0
 TakenByKey = (m : ObjectMap) (taken k : ObjKey) → get (remove m taken) k ≡ (if eq_by_cmp key_cmp k taken then None else get m k)

@@ -1,4 +1,4 @@
--- What a store holds.
+-- The value of a store in contracts.
 use Rattle.std.specs.Prelude.{ℕ, Bool, List, refl}
 use Rattle.std.specs.Coded.{Coded, code_by, coded×, coded_ℕ, coded_bool}
 use Rattle.std.specs.FinMap.{code}
@@ -8,13 +8,13 @@ use Rattle.mesh_base.specs.declared.key.ObjKey.{ObjKey}
 use Rattle.view_types.specs.contracts.object.Object as object
 use Rattle.view_types.specs.Objects.{ObjectMap}
 
--- the objects by their keys, how many there may be, and whether memory ran out
+-- the objects by their keys, their limit, and whether the store has run out of memory
 pub record Held : Type 0 where
   pub objects : ObjectMap
   pub limit : ℕ
   pub spent : Bool
 
--- as a map and the rest
+-- encoded as the map, the limit and the flag
 abbrev pub held_code : Coded Held
 held_code = code_by (ObjectMap × (ℕ × Bool)) (coded× (code coded_key object.the_row.coded) (coded× coded_ℕ coded_bool))
     (λ h. (h.objects, (h.limit, h.spent))) (λ p. record { objects = p.0; limit = p.1.0; spent = p.1.1 }) (λ _. refl)

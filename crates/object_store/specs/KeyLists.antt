@@ -1,4 +1,4 @@
--- The keys that a store keeps for marks, beside its objects. None are kept for the mark of a key, which tells the key itself.
+-- The keys that a store keeps by mark. None are kept for the mark of a key.
 use Rattle.std.specs.Prelude.{◌≡◌, ◌&&◌, ◌||◌, not, ℕ, Bool, true, false, List, [], Option, Some, None, slice_get}
 use Rattle.std.specs.Cmp.Lexicographic.{slice_cmp}
 use Rattle.std.specs.FinMap.{get}
@@ -52,7 +52,7 @@ kept_at keys (IpPod ip) = keys_at ip_cmp keys.pods ip
 abbrev pub is_kept : MarkKeys → Mark → ObjKey → Bool
 is_kept keys mark key = has_key key (kept_at keys mark)
 
--- an object is held, and the mark is one of its marks besides that of its key
+-- there is an object, and the mark is one of its marks other than that of its key
 abbrev pub has_other : Mark → Option Object → Bool
 has_other mark None = false
 has_other mark (Some o) = has_mark (other_marks o) mark
@@ -70,7 +70,7 @@ is_for asked mark = not (is_of_key mark) && same_mark mark asked
 abbrev pub is_at : Parent → Mark → Bool
 is_at parent mark = is_for (RouteOn parent.ns parent.kind parent.name) mark
 
--- the key is one of those that stand aside, and the mark is that of their list
+-- the key is among those set aside, and the mark is that of their list
 abbrev pub is_aside : Mark → ObjKey → Aside → Bool
 is_aside mark key aside = is_at aside.parent mark && has_key key aside.keys
 
@@ -78,14 +78,14 @@ is_aside mark key aside = is_at aside.parent mark && has_key key aside.keys
 abbrev pub is_among : List Mark → Mark → Bool
 is_among marks mark = not (is_of_key mark) && has_mark marks mark
 
--- ---- keys at places, each where an object belongs there
+-- ---- keys at the places to which their objects belong
 
 module _ {X : Type 0} (belongs : X → Option Object → Bool) where
-  -- a key stands at a place exactly where an object is held at it that belongs there
+  -- a key is at a place exactly if the object held at the key belongs to the place
   abbrev pub StandAt : ObjectMap → (X → ObjKey → Bool) → Type 0
   StandAt objects stands = (place : X) (key : ObjKey) → stands place key ≡ belongs place (get objects key)
 
-  -- the object belonged to the place, and stood at the key
+  -- the object belonged to the place, and its key is this one
   abbrev pub was_at : X → ObjKey → Object → Bool
   was_at place key o = belongs place (Some o) && is_key key (key_of o)
 
@@ -93,25 +93,25 @@ module _ {X : Type 0} (belongs : X → Option Object → Bool) where
   abbrev pub comes_at : ObjectMap → X → ObjKey → ObjKey → Bool
   comes_at objects place key new = is_key key new && belongs place (get objects new)
 
-  -- an object's key is taken out where the object belonged
+  -- the keys of the old objects are removed from the places to which they belonged
   abbrev pub AreTaken : List Object → (X → ObjKey → Bool) → (X → ObjKey → Bool) → Type 0
   AreTaken old before after = (place : X) (key : ObjKey) → after place key ≡ (not (list_any (was_at place key) old) && before place key)
 
-  -- a new key is put in where the object at it belongs
+  -- the new keys are added at the places to which their objects belong
   abbrev pub ArePut : ObjectMap → List ObjKey → (X → ObjKey → Bool) → (X → ObjKey → Bool) → Type 0
   ArePut objects new before after = (place : X) (key : ObjKey) → after place key ≡ (list_any (comes_at objects place key) new || before place key)
 
-  -- The keys follow a change: those of its old objects are taken out at their places, and then its new keys are put in at the
-  -- places to which the objects belong. Every other key stays.
+  -- The keys follow a change: the keys of its old objects are removed from their places, and its
+  -- new keys are added at the places to which the objects belong. Every other key stays.
   abbrev pub FollowAt : ObjectMap → (X → ObjKey → Bool) → (X → ObjKey → Bool) → Change → Type 0
   FollowAt objects before after change = (place : X) (key : ObjKey)
       → after place key ≡ (list_any (comes_at objects place key) change.new || (not (list_any (was_at place key) change.old) && before place key))
 
--- a key is kept for a mark exactly where an object is held at it that has the mark
+-- a key is kept for a mark exactly if the object held at the key has the mark
 abbrev pub AreKeysOf : ObjectMap → MarkKeys → Type 0
 AreKeysOf objects keys = StandAt has_other objects (is_kept keys)
 
--- the object had the mark, and stood at the key
+-- the object had the mark, and its key is this one
 abbrev pub is_old : Mark → ObjKey → Object → Bool
 is_old mark key o = was_at has_other mark key o
 
@@ -123,15 +123,15 @@ is_new objects mark key new = comes_at has_other objects mark key new
 abbrev pub Follows : ObjectMap → MarkKeys → MarkKeys → Change → Type 0
 Follows objects before after change = FollowAt has_other objects (is_kept before) (is_kept after) change
 
--- a refusal leaves the keys as they were, unless it spends the store
+-- an error leaves the keys unchanged, unless it spends the store
 abbrev pub StayUnlessSpent : {K : Type 0} → K → K → StoreFault → Type 0
 StayUnlessSpent before after Memory = Unit {0}
 StayUnlessSpent before after (Full held) = after ≡ before
 
--- what a look-up by a mark finds: unless the store is spent, the keys of the objects with the mark, in order
+-- unless the store is spent, a look-up by mark returns the keys of the objects with it, in order
 abbrev pub FindsKeys : Held → Mark → List ObjKey → Type 0
 FindsKeys held mark keys = held.spent ≡ false → keys ≡ keys_of held.objects mark
 
--- the first of them, if there is one
+-- the first of these keys, if there is one
 abbrev pub FindsFirst : Held → Mark → Option ObjKey → Type 0
 FindsFirst held mark key = held.spent ≡ false → key ≡ slice_get (keys_of held.objects mark) 0

@@ -6,7 +6,7 @@ use Rattle.mesh_base.specs.Keyed.{IsKeyed, keyed_map}
 use Rattle.view_types.specs.declared.object.Object.{Object}
 use Rattle.view_types.specs.Objects.{key_of, kind_of, ObjectMap}
 
--- the objects are of the kind at this place, and stand in the order of their keys
+-- the objects are of the kind at this place, and are in the order of their keys
 abbrev pub AreOfPlace : ℕ → List Object → Type 0
 AreOfPlace place os = IsKeyed key_cmp key_of (λ o. o) os × AllByRecursion (λ o. kind_place (kind_of o) ≡ place) os
 
@@ -16,6 +16,6 @@ module _ {X : Type 0} (items : X → List Object) where
   AreFrom place [] = place ≡ 11
   AreFrom place (list ∷ lists) = AreOfPlace place (items list) × AreFrom (suc place) lists
 
-  -- what they hold
+  -- the map of the objects in the lists
   abbrev pub map_of : List X → ObjectMap
   map_of lists = keyed_map key_cmp key_of (λ o. o) (flat_map items lists)

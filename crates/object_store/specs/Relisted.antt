@@ -24,7 +24,7 @@ of_kind kind m = filter (λ o. is_of kind (key_of o)) (values m)
 abbrev pub item_at : ObjKey → List Object → Option Object
 item_at k items = find (λ o. eq_by_cmp key_cmp k (key_of o)) items
 
--- each item put at its key
+-- the map with each item set at its key
 abbrev pub put_all : List Object → ObjectMap → ObjectMap
 put_all [] m = m
 put_all (o ∷ os) m = insert (put_all os m) (key_of o) o
@@ -33,11 +33,11 @@ put_all (o ∷ os) m = insert (put_all os m) (key_of o) o
 abbrev pub relisted : ObjectMap → Kind → List Object → ObjectMap
 relisted m kind items = put_all items (retain_keys m (λ k. not (is_of kind k)))
 
--- more objects would be held than may be
+-- the objects after the list would exceed the limit
 abbrev pub exceeds : ObjectMap → ℕ → Kind → List Object → Bool
 exceeds m limit kind items = nat_lt limit (len (relisted m kind items))
 
--- the items take the place of all objects of their kind
+-- the items replace all objects of their kind
 pub record Relists (old new : ObjectMap) (kind : Kind) (items : List Object) (change : Change) : Type 0 where
   pub objects : new ≡ relisted old kind items
   pub before : change.old ≡ of_kind kind old
@@ -45,12 +45,12 @@ pub record Relists (old new : ObjectMap) (kind : Kind) (items : List Object) (ch
   pub marks : change.marks ≡ marks_of_all (of_kind kind new ++ change.old)
   pub leads : AtKeys old → Leads change.marks old new
 
--- key by key: the item with the key where it is of the kind, and else what was held
+-- by key: the item with the key if the key is of the kind, and else the old value
 abbrev pub RelistedByKey : Type 0
 RelistedByKey = (m : ObjectMap) (kind : Kind) (items : List Object) → IsListOf kind items → (k : ObjKey)
     → get (relisted m kind items) k ≡ (if is_of kind k then item_at k items else get m k)
 
--- a list leads on by a change that has all marks of the objects of the kind, new and old
+-- a list leads to the new map by a change with all marks of the kind's objects, new and old
 abbrev pub RelistLeads : Type 0
 RelistLeads = (changed : List Mark) (held : ObjectMap) → AtKeys held → (kind : Kind) (items : List Object) → IsListOf kind items
     → Covers changed (of_kind kind (relisted held kind items) ++ of_kind kind held) → Leads changed held (relisted held kind items)

@@ -1,4 +1,4 @@
--- The keys of Servers that a store keeps by what the Servers require of a Pod's labels, beside its objects.
+-- The keys of Servers that a store keeps by the labels that the Servers require of a Pod.
 use Rattle.std.specs.Prelude.{◌≡◌, ◌&&◌, ℕ, Bool, false, List, Option, Some, None, slice_get}
 use Rattle.std.specs.FinMap.{entries, get}
 use Rattle.std.specs.Ordering.{eq_by_cmp}
@@ -15,14 +15,14 @@ use Rattle.view_types.specs.Objects.{ObjectMap}
 use Rattle.view_types.specs.declared.object.Object.{Object}
 use Rattle.view_types.specs.declared.server.ServerSpec.{ServerSpec}
 
--- ---- what a Server requires
+-- ---- the label that a Server requires
 
--- the value of the label, and else this
+-- the value of the label, or else this default
 abbrev pub value_or : List ℕ → Option (List ℕ × List ℕ) → List ℕ
 value_or other None = other
 value_or other (Some label) = label.1
 
--- the value of the first label that the selector requires; the namespace stands in its place where it requires none
+-- the value of the first label that the selector requires, or the namespace if it requires none
 abbrev pub value_in : List ℕ → Option Selector → List ℕ
 value_in ns None = ns
 value_in ns (Some selector) = value_or ns (slice_get (entries selector.exact) 0)
@@ -50,7 +50,7 @@ kept_for keys place = nested_keys text_cmp text_cmp keys.by_value place.0 place.
 abbrev pub is_kept_for : ServerKeys → Place → ObjKey → Bool
 is_kept_for keys place key = has_key key (kept_for keys place)
 
--- a key is kept at a place exactly where a Server is held at it that requires the value
+-- a key is kept at a place exactly if the object held at the key is a Server that requires it
 abbrev pub AreServersOf : ObjectMap → ServerKeys → Type 0
 AreServersOf objects keys = StandAt requires_value objects (is_kept_for keys)
 
@@ -62,6 +62,6 @@ AreKept objects keys = AreKeysOf objects keys.marked × AreServersOf objects key
 abbrev pub ServersFollow : ObjectMap → ServerKeys → ServerKeys → Change → Type 0
 ServersFollow objects before after change = FollowAt requires_value objects (is_kept_for before) (is_kept_for after) change
 
--- what a look-up by a value finds: unless the store is spent, the keys of the Servers of the namespace that require it
+-- unless the store is spent, a look-up returns the keys of the Servers that require the value
 abbrev pub FindsServers : Held → Place → List ObjKey → Type 0
 FindsServers held place keys = held.spent ≡ false → (key : ObjKey) → has_key key keys ≡ requires_value place (get held.objects key)

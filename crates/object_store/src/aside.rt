@@ -16,7 +16,7 @@ use std::alloc::Global;
 use view_types::mark::Mark;
 use view_types::route::ParentKind;
 
-/// A parent of routes.
+/// The parent of routes, as in `Mark::RouteOn`.
 #[derive(Drop)]
 pub struct Parent {
     pub ns: Text,
@@ -24,14 +24,14 @@ pub struct Parent {
     pub name: Text,
 }
 
-/// Keys of routes with this parent that stand aside, so that keys of an earlier kind change at the end of its list.
+/// Keys of routes, removed from the list of a parent while keys of an earlier kind change.
 #[derive(Drop)]
 pub struct Aside {
     pub parent: Parent,
     pub keys: KeyList,
 }
 
-/// Sets the keys of the kinds after this one aside, at each of the marks whose list has keys of several kinds.
+/// Removes and returns the keys of kinds after this one, at the marks with keys of several kinds.
 pub fn set_aside(
     alloc: Global,
     keys: &mut MarkKeys,
@@ -51,7 +51,7 @@ pub fn set_aside(
     Ok(asides)
 }
 
-/// Puts the keys back that were set aside.
+/// Puts back the keys that were set aside.
 pub fn put_back(alloc: Global, keys: &mut MarkKeys, asides: List<Aside>) -> Result<(), Memory>
     ensures { OnOk result ((m : Mark) (k : ObjKey)
         → is_kept keys.new m k ≡ (list_any (is_aside m k) asides || is_kept keys.old m k)) }

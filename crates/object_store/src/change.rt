@@ -11,7 +11,7 @@ use std::alloc::{AllocFailed, Global};
 use view_types::mark::Mark;
 use view_types::object::Object;
 
-/// What a call changed.
+/// The change that a call made.
 #[derive(Drop)]
 pub struct Change {
     /// The objects that were replaced or removed, in the order of their keys.
@@ -23,7 +23,7 @@ pub struct Change {
 }
 
 impl Change {
-    /// One object in the place of another, or in a free place. The marks are its own.
+    /// Returns the change of a set, from the marks of the new object and the object before.
     pub fn put(
         alloc: Global,
         marks: List<Mark>,
@@ -41,7 +41,7 @@ impl Change {
         Change::from(alloc, marks, old, new)
     }
 
-    /// One object gone, or nothing.
+    /// Returns the change of a removal, which is empty if there was no object.
     pub fn taken(alloc: Global, before: Option<Object>) -> Result<Change, memory::Memory>
         ensures old { IfOk result (λ change. change.old ≡ option_to_list before) }
         ensures new { IfOk result (λ change. change.new ≡ []) }
@@ -51,7 +51,7 @@ impl Change {
         Change::from(alloc, List::new(alloc), old, List::new(alloc))
     }
 
-    /// These objects gone, and these keys set. The marks are those of the new objects.
+    /// Returns the change with these old objects and new keys, from the marks of the new objects.
     pub fn from(
         alloc: Global,
         marks: List<Mark>,
@@ -80,11 +80,11 @@ fn listed(alloc: Global, found: Option<Object>) -> Result<List<Object>, memory::
     Ok(list)
 }
 
-/// Why a change was refused.
+/// The reason why a change was refused.
 #[derive(Clone, Copy, Debug, PartialEq, Eq)]
 pub enum StoreFault {
     Memory,
-    /// More objects would be held than may be. So many are held, as before.
+    /// The change would exceed the limit of objects. `held` is their unchanged number.
     Full { held: u32 },
 }
 

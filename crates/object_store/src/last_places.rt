@@ -1,12 +1,12 @@
-// Where objects were last found.
+// Where the last object of each kind was found.
 ghost use Rattle.std.specs.Prelude.{◌≡◌, ◌<◌};
 ghost use Rattle.mesh_base.specs.KeyOrder.{kind_place};
 
 use mesh_base::key::Kind;
 use std::cell::Cell;
 
-/// Where an object of each kind was last found among those of the kind. Who looks for objects of a kind one after another in the order of their keys
-/// finds each there or behind it, without a search. It is a hint: no clause knows what it holds.
+/// The index of the last object found of each kind. Lookups in the order of the keys find each
+/// object at this index or the next one, without a search. It is a hint: no clause reads it.
 #[derive(Drop)]
 pub struct LastPlaces {
     of_kinds: [Cell<usize>; 11],
@@ -31,13 +31,13 @@ impl LastPlaces {
         }
     }
 
-    /// That of a kind.
+    /// Returns the index for a kind.
     pub fn of(&self, kind: Kind) -> &Cell<usize> {
         &self.of_kinds[place_of(kind)]
     }
 }
 
-/// The kind's place among the kinds.
+/// Returns the position of the kind among the kinds.
 pub fn place_of(kind: Kind) -> usize
     ensures place { result ≡ kind_place kind }
     ensures bound { result < 11 }

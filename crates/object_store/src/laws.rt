@@ -1,22 +1,22 @@
 ghost use Rattle.object_store.specs.Changes.{PutByKey, TakenByKey};
 ghost use Rattle.object_store.specs.Relisted.{RelistLeads, RelistedByKey};
 
-/// After a set the object stands at its key, and every other key has what it had.
+/// Ensures that a set puts the object at its key, and changes no other key.
 pub fn put_by_key()
     ensures { PutByKey }
 {}
 
-/// After a removal nothing stands at the key, and every other key has what it had.
+/// Ensures that a removal leaves no object at the key, and changes no other key.
 pub fn taken_by_key()
     ensures { TakenByKey }
 {}
 
-/// After a list of a kind, a key of the kind has the item with that key or nothing, and any other what it had.
+/// Ensures that a list sets the keys of its kind to its items, and changes no other key.
 pub fn relisted_by_key()
     ensures { RelistedByKey }
 {}
 
-/// A list of a kind leads from the old map to the new one, by the marks of the kind's objects, old and new.
+/// Ensures that a list leads to the new map by the marks of the kind's objects, old and new.
 pub fn relist_leads()
     ensures { RelistLeads }
 {}

@@ -1,9 +1,9 @@
-//! The objects that are held: a finite map from keys to objects, at most a limit of them.
+//! The store of the objects held: a finite map from keys to objects, at most a limit of them.
 //!
-//! Depends on view_types, mark_rules and key_lists. `specs/Changes` says what a set and a removal do to the map and when a
-//! call is refused, `specs/Relisted` what a list of a whole kind does, `specs/KindLists` how the map is held in a list for each
-//! kind, `specs/KeyLists` how the keys of each mark follow from the objects, and `specs/ServerKeys` those of the Servers by the
-//! labels that they require.
+//! Depends on view_types for objects and marks, on mark_rules for the marks of an object, and on
+//! key_lists. `specs/Changes` defines a set, a removal and a refused call, `specs/Relisted` a list
+//! of a whole kind, `specs/KindLists` the map as a list for each kind, `specs/KeyLists` the keys of
+//! each mark, and `specs/ServerKeys` the keys of Servers by the labels that they require.
 #![tactic(auto)]
 
 mod aside;

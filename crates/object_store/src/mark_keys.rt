@@ -20,17 +20,17 @@ use view_types::authn::RefKind;
 use view_types::mark::Mark;
 use view_types::route::ParentKind;
 
-/// Keys of objects, by their marks. None are kept for the mark of a key. The parts of a mark are looked up one by one, so
-/// that no mark has to be put together.
+/// The keys of objects by their marks, except for the marks of keys. The maps are nested by the
+/// parts of a mark, for look-ups without building a mark.
 #[derive(Drop)]
 pub struct MarkKeys {
-    /// By the namespace and the name of the Service.
+    /// The keys of EndpointSlices by the namespace and the name of the Service.
     slices: BTreeMap<Text, BTreeMap<Text, KeyList>>,
     servers: BTreeMap<Text, KeyList>,
     server_authz: BTreeMap<Text, KeyList>,
-    /// By the kind, the namespace and the name of the target.
+    /// The keys of AuthorizationPolicies by the kind, the namespace and the name of the target.
     policies: BTreeMap<RefKind, BTreeMap<Text, BTreeMap<Text, KeyList>>>,
-    /// By the kind, the namespace and the name of the parent.
+    /// The keys of routes by the kind, the namespace and the name of the parent.
     routes: BTreeMap<ParentKind, BTreeMap<Text, BTreeMap<Text, KeyList>>>,
     services: BTreeMap<Ip, KeyList>,
     pods: BTreeMap<Ip, KeyList>,
@@ -51,7 +51,7 @@ impl MarkKeys {
         }
     }
 
-    /// The keys at the mark, in order.
+    /// Returns the keys at the mark, in order.
     pub fn at<'a>(&'a self, mark: &Mark) -> &'a [ObjKey]
         ensures value { result.now ≡ kept_at self.now mark.now }
         ensures rise { Rises (kept_at self.now mark.now) }
@@ -68,7 +68,7 @@ impl MarkKeys {
         }
     }
 
-    /// The keys of the EndpointSlices of the Service, in order.
+    /// Returns the keys of the EndpointSlices of the Service, in order.
     pub fn slices_of(&self, ns: &Text, service: &Text) -> &[ObjKey]
         ensures value { result.now ≡ kept_at self.now (SlicesOf ns.now service.now) }
         ensures rise { Rises (kept_at self.now (SlicesOf ns.now service.now)) }
@@ -76,7 +76,7 @@ impl MarkKeys {
         nested::keys_at(&self.slices, ns, service)
     }
 
-    /// The keys of the Servers of the namespace, in order.
+    /// Returns the keys of the Servers of the namespace, in order.
     pub fn servers_in(&self, ns: &Text) -> &[ObjKey]
         ensures value { result.now ≡ kept_at self.now (ServersIn ns.now) }
         ensures rise { Rises (kept_at self.now (ServersIn ns.now)) }
@@ -84,7 +84,7 @@ impl MarkKeys {
         by_mark::keys_at(&self.servers, ns)
     }
 
-    /// The keys of the ServerAuthorizations of the namespace, in order.
+    /// Returns the keys of the ServerAuthorizations of the namespace, in order.
     pub fn server_authz_in(&self, ns: &Text) -> &[ObjKey]
         ensures value { result.now ≡ kept_at self.now (ServerAuthzIn ns.now) }
         ensures rise { Rises (kept_at self.now (ServerAuthzIn ns.now)) }
@@ -92,7 +92,7 @@ impl MarkKeys {
         by_mark::keys_at(&self.server_authz, ns)
     }
 
-    /// The keys of the AuthorizationPolicies of the namespace with this target, in order.
+    /// Returns the keys of the AuthorizationPolicies of the namespace with this target, in order.
     pub fn policies_on(&self, ns: &Text, kind: RefKind, name: &Text) -> &[ObjKey]
         ensures value { result.now ≡ kept_at self.now (PolicyOn ns.now kind name.now) }
         ensures rise { Rises (kept_at self.now (PolicyOn ns.now kind name.now)) }
@@ -100,7 +100,7 @@ impl MarkKeys {
         by_kind::keys_at(&self.policies, kind, ns, name)
     }
 
-    /// The keys of the routes of the namespace with this parent, in order.
+    /// Returns the keys of the routes of the namespace with this parent, in order.
     pub fn routes_on(&self, ns: &Text, kind: ParentKind, name: &Text) -> &[ObjKey]
         ensures value { result.now ≡ kept_at self.now (RouteOn ns.now kind name.now) }
         ensures rise { Rises (kept_at self.now (RouteOn ns.now kind name.now)) }
@@ -108,7 +108,7 @@ impl MarkKeys {
         by_kind::keys_at(&self.routes, kind, ns, name)
     }
 
-    /// The keys of the Services at the address, in order.
+    /// Returns the keys of the Services at the address, in order.
     pub fn services_at(&self, ip: Ip) -> &[ObjKey]
         ensures value { result.now ≡ kept_at self.now (IpService ip) }
         ensures rise { Rises (kept_at self.now (IpService ip)) }
@@ -116,7 +116,7 @@ impl MarkKeys {
         by_mark::keys_at(&self.services, &ip)
     }
 
-    /// The keys of the Pods with the address, in order.
+    /// Returns the keys of the Pods with the address, in order.
     pub fn pods_at(&self, ip: Ip) -> &[ObjKey]
         ensures value { result.now ≡ kept_at self.now (IpPod ip) }
         ensures rise { Rises (kept_at self.now (IpPod ip)) }
@@ -124,7 +124,7 @@ impl MarkKeys {
         by_mark::keys_at(&self.pods, &ip)
     }
 
-    /// Puts the key to each mark.
+    /// Adds the key at each mark.
     pub fn put(&mut self, alloc: Global, marks: &[Mark], key: &ObjKey) -> Result<(), Memory>
         ensures { OnOk result ((m : Mark) (k : ObjKey)
             → is_kept self.new m k
@@ -136,7 +136,7 @@ impl MarkKeys {
         Ok(())
     }
 
-    /// Takes the key from each mark.
+    /// Removes the key from each mark.
     pub fn take(&mut self, marks: &[Mark], key: &ObjKey)
         ensures { (m : Mark) (k : ObjKey)
             → is_kept self.new m k
@@ -147,7 +147,7 @@ impl MarkKeys {
         }
     }
 
-    /// Sets the keys of the kinds after this one aside. Only a list of routes has keys of several kinds.
+    /// Removes and returns the keys of kinds after this one, which only a list of routes may have.
     pub fn set_aside(
         &mut self,
         alloc: Global,
@@ -177,7 +177,7 @@ impl MarkKeys {
         }
     }
 
-    /// Puts the keys back that were set aside.
+    /// Puts back the keys that were set aside.
     pub fn put_back(&mut self, alloc: Global, aside: Aside) -> Result<(), Memory>
         ensures { OnOk result ((m : Mark) (k : ObjKey)
             → is_kept self.new m k ≡ (is_aside m k aside || is_kept self.old m k)) }
@@ -273,7 +273,7 @@ impl MarkKeys {
     }
 }
 
-/// Whether no key is of a kind after this one. The last is of the last kind.
+/// Returns whether no key is of a kind after this one. The last key is of the last kind.
 fn ends_by(keys: &[ObjKey], kind: Kind) -> bool {
     match keys.last() {
         Some(key) => key.kind <= kind,

@@ -22,13 +22,13 @@ use std::marker::Model;
 use std::mem;
 use view_types::object::Object;
 
-/// Objects, each at its own key. Those of a kind stand in a list of their own in the order of their keys, so that a new object moves
-/// objects of its own kind alone. Contracts see them as a finite map.
+/// Objects, each at its own key, in a sorted list for each kind. An insertion moves objects of its
+/// own kind alone. Contracts see them as a finite map.
 #[derive(Drop)]
 pub struct Objects {
-    /// How many are held.
+    /// The number of objects of all kinds.
     held: usize,
-    /// Those of each kind, at the kind's place among the kinds.
+    /// The objects of each kind, at the index `place_of` of the kind.
     of_kinds: [Vec<Object>; 11],
     last: LastPlaces,
 }
@@ -80,7 +80,7 @@ impl Objects {
         self.held
     }
 
-    /// The objects of the kind in the order of their keys.
+    /// Returns the objects of the kind, in the order of their keys.
     pub fn of_kind(&self, kind: Kind) -> &[Object]
         ensures value { result.now ≡ of_kind kind self.now }
         ensures at_keys { AtKeys self.now }
@@ -88,7 +88,7 @@ impl Objects {
         self.of_kinds[place_of(kind)].as_slice()
     }
 
-    /// Each object stands at its own key. It looks at none of them.
+    /// Establishes that each object is at its own key. Reads no object.
     pub fn stand_at_keys(&self)
         ensures { AtKeys self.now }
     {
@@ -102,8 +102,8 @@ impl Objects {
         self.find(key.kind, &key.ns, &key.name)
     }
 
-    /// The object at the key of this kind, namespace and name, which need not be put together. It is looked for where the last one
-    /// of the kind was found, and behind that, before it is searched for.
+    /// Returns the object at the key of this kind, namespace and name, without building the key.
+    /// The index of the last object found of the kind and the next one are tried before a search.
     pub fn find(&self, kind: Kind, ns: &Text, name: &Text) -> Option<&Object>
         ensures value { option_copied result ≡ map.get self.now (key_with kind ns.now name.now) }
         ensures at_key { IfSome result (λ o. key_of o.now ≡ key_with kind ns.now name.now) }
@@ -119,7 +119,7 @@ impl Objects {
         }
     }
 
-    /// Takes the object out, and gives it.
+    /// Removes the object at the key, and returns it.
     pub fn remove(&mut self, key: &ObjKey) -> Option<Object>
         ensures before { result ≡ map.get self.old key.now }
         ensures removed { self.new ≡ map.remove self.old key.now }
@@ -134,7 +134,7 @@ impl Objects {
         }
     }
 
-    /// Puts the object at its key, and gives the one that was there.
+    /// Sets the object at its key, and returns the object that it replaced, if any.
     pub fn set(
         &mut self,
         limit: u32,
@@ -163,8 +163,8 @@ impl Objects {
         }
     }
 
-    /// Whether more objects would be held than may be if the items, which stand in the order of their keys, took the
-    /// place of all objects of their kind.
+    /// Returns whether more than `limit` objects would be held if the items, in the order of their
+    /// keys, replaced all objects of their kind.
     pub fn lacks_room_for(&self, limit: u32, kind: Kind, items: &[Object]) -> bool
         requires each { All (λ o. kind_of o ≡ kind) items.now }
         requires sorted { IsKeyed key_cmp key_of (λ o. o) items.now }
@@ -174,8 +174,8 @@ impl Objects {
         items.len() > limit as usize - (self.held - self.of_kind(kind).len())
     }
 
-    /// Puts the items, which stand in the order of their keys, in the place of all objects of their kind, and gives
-    /// those in their order. If memory runs out, no object is left.
+    /// Replaces all objects of the kind by the items, both in the order of their keys, and returns
+    /// the old ones. If their number overflows, drops all objects and returns `Memory`.
     pub fn replace(
         &mut self,
         alloc: Global,
@@ -203,7 +203,7 @@ impl Objects {
     }
 }
 
-/// Where the key of this kind, namespace and name stands, or where it would go. It is looked for at a place first, and behind that.
+/// Does the same as `place`, but tries the index `first` and the next one before a search.
 fn place_from(
     objects: &[Object],
     first: usize,
@@ -227,7 +227,7 @@ fn place_from(
     place(objects, kind, ns, name)
 }
 
-/// Whether the object at a place has the key of this kind, namespace and name.
+/// Returns whether the object at an index has the key of this kind, namespace and name.
 fn stands_at(objects: &[Object], at: usize, kind: Kind, ns: &Text, name: &Text) -> bool
     ensures { result ≡ true → IsHit (λ o. key_cmp (key_of o) (key_with kind ns.now name.now))
         objects.now at }
@@ -238,7 +238,7 @@ fn stands_at(objects: &[Object], at: usize, kind: Kind, ns: &Text, name: &Text) 
     }
 }
 
-/// Where the key of this kind, namespace and name stands, or where it would go.
+/// Returns the index of the key as `Ok`, or the index to insert it at as `Err`.
 fn place(objects: &[Object], kind: Kind, ns: &Text, name: &Text) -> Result<usize, usize>
     requires { IsKeyed key_cmp key_of (λ o. o) objects.now }
     ensures hit { IfOk result (IsHit (λ o. key_cmp (key_of o) (key_with kind ns.now name.now))
@@ -249,7 +249,7 @@ fn place(objects: &[Object], kind: Kind, ns: &Text, name: &Text) -> Result<usize
     objects.binary_search_by(|object| compare_key(object, kind, ns, name))
 }
 
-/// How the object's key compares with that of this kind, namespace and name.
+/// Compares the key of the object with that of this kind, namespace and name.
 fn compare_key(object: &Object, kind: Kind, ns: &Text, name: &Text) -> Ordering
     ensures { result ≡ key_cmp (key_of object.now) (key_with kind ns.now name.now) }
 {

@@ -22,7 +22,7 @@ use mesh_base::memory::Memory;
 use std::alloc::Global;
 use view_types::object::Object;
 
-/// Puts the items in the place of all objects of their kind. They are sorted once; the objects of other kinds stay where they are.
+/// Replaces all objects of the kind by the items, which it sorts. Other kinds are not moved.
 pub fn relist(
     alloc: Global,
     objects: &mut Objects,
@@ -56,7 +56,7 @@ pub fn relist(
     Ok(change)
 }
 
-/// The items in the order of their keys.
+/// Returns the items in the order of their keys.
 fn arrange(items: List<Object>) -> Vec<Object>
     requires { IsDistinct (eq_by_cmp key_cmp) (map key_of items) }
     ensures sorted { IsKeyed key_cmp key_of (λ o. o) result.items }

@@ -1,4 +1,4 @@
-// Keys of Servers by what they require of a Pod's labels.
+// Keys of Servers by the labels that they require of a Pod.
 ghost use Rattle.std.specs.Prelude.{◌≡◌, ◌&&◌, ◌||◌, not, false, OnOk, Some};
 ghost use Rattle.key_lists.specs.Keys.{is_key};
 ghost use Rattle.mesh_base.specs.declared.key.ObjKey.{ObjKey};
@@ -14,8 +14,8 @@ use std::collections::BTreeMap;
 use view_types::object::Object;
 use view_types::server::ServerSpec;
 
-/// Keys of Servers, by the namespace and the value of the first label that each requires of a Pod. Those that require none stand
-/// with their namespace in place of the value.
+/// The keys of Servers, by the namespace and the value of the first label that each requires of a
+/// Pod. A Server that requires no label has its namespace in place of the value.
 #[derive(Drop)]
 pub struct ServerKeys {
     by_value: BTreeMap<Text, BTreeMap<Text, KeyList>>,
@@ -30,14 +30,14 @@ impl ServerKeys {
         }
     }
 
-    /// The keys at the namespace and the value, in order.
+    /// Returns the keys for the namespace and the value, in order.
     pub fn at(&self, ns: &Text, value: &Text) -> &[ObjKey]
         ensures { result.now ≡ kept_for self.now (ns.now, value.now) }
     {
         nested::keys_at(&self.by_value, ns, value)
     }
 
-    /// Puts the key where its object belongs, if that is a Server.
+    /// Adds the key of an object, if the object is a Server.
     pub fn put(&mut self, alloc: Global, object: &Object, key: &ObjKey) -> Result<(), Memory>
         ensures { OnOk result ((place : Place) (k : ObjKey) → is_kept_for self.new place k
             ≡ ((is_key k key.now && requires_value place (Some object.now))
@@ -49,7 +49,7 @@ impl ServerKeys {
         }
     }
 
-    /// Takes the key from where its object belonged, if that was a Server.
+    /// Removes the key of an object, if the object is a Server.
     pub fn take(&mut self, object: &Object, key: &ObjKey)
         ensures { (place : Place) (k : ObjKey) → is_kept_for self.new place k
             ≡ (not (requires_value place (Some object.now) && is_key k key.now)
@@ -80,7 +80,7 @@ impl ServerKeys {
     }
 }
 
-/// The value of the first label that a Server requires, and its namespace where it requires none.
+/// Returns the value of the first label that a Server requires, or else its namespace.
 fn required_value(server: &ServerSpec) -> &Text
     ensures { result.now ≡ required_value server.now }
 {

@@ -29,7 +29,7 @@ use view_types::mark::Mark;
 use view_types::object::Object;
 use view_types::route::ParentKind;
 
-/// The objects that are held, at most `limit`. Once memory ran out, nothing can be changed any more.
+/// The objects held, at most `limit`. After an out of memory error, every change is refused.
 pub struct Store {
     objects: Objects,
     keys: StoreKeys,
@@ -38,7 +38,7 @@ pub struct Store {
     alloc: Global,
 }
 
-/// Written by hand, as that of `Object`.
+/// Written by hand, like that of `Object`.
 impl Drop for Store {
     fn drop(self) {
         let Store {
@@ -80,21 +80,21 @@ impl Store {
         }
     }
 
-    /// How many objects are held.
+    /// Returns the number of objects held.
     pub fn len(&self) -> usize
         ensures { result ≡ map.len self.now.objects }
     {
         self.objects.len()
     }
 
-    /// Whether memory ran out.
+    /// Returns whether a change has run out of memory.
     pub fn is_spent(&self) -> bool
         ensures { result ≡ self.now.spent }
     {
         self.spent
     }
 
-    /// The objects of the kind in the order of their keys.
+    /// Returns the objects of the kind, in the order of their keys.
     pub fn of_kind(&self, kind: Kind) -> &[Object]
         ensures value { result.now ≡ of_kind kind self.now.objects }
         ensures at_keys { AtKeys self.now.objects }
@@ -102,14 +102,14 @@ impl Store {
         self.objects.of_kind(kind)
     }
 
-    /// Each object stands at its own key. It looks at none of them: a caller that rests on it calls this, at no cost.
+    /// Establishes that each object is at its own key. Reads no object.
     pub fn stand_at_keys(&self)
         ensures { AtKeys self.now.objects }
     {
         self.objects.stand_at_keys();
     }
 
-    /// The object at the key. It counts as one step where there is one.
+    /// Returns the object at the key. An object that is found counts as one step.
     pub fn get<L>(&self, key: &ObjKey, steps: &mut Steps<L>) -> Option<&Object>
         ensures value { option_copied result ≡ map.get self.now.objects key.now }
         ensures at_key { IfSome result (λ o. key_of o.now ≡ key.now) }
@@ -123,7 +123,7 @@ impl Store {
         found
     }
 
-    /// `get` of the key of this kind, namespace and name, which need not be put together.
+    /// Returns the object at the key of this kind, namespace and name, without building the key.
     pub fn find<L>(
         &self,
         kind: Kind,
@@ -144,7 +144,7 @@ impl Store {
         found
     }
 
-    /// The keys of the objects with the mark, in order. What has the mark of a key is found by `get`.
+    /// Returns the keys of the objects with the mark, in order. For the mark of a key, use `get`.
     pub fn keys_with<'a>(&'a self, mark: &Mark) -> &'a [ObjKey]
         requires { is_of_key mark.now ≡ false }
         ensures { FindsKeys self.now mark.now result.now }
@@ -153,7 +153,7 @@ impl Store {
         self.keys.marked.at(mark)
     }
 
-    /// The keys of the EndpointSlices of the Service, in order.
+    /// Returns the keys of the EndpointSlices of the Service, in order.
     pub fn slices_of(&self, ns: &Text, service: &Text) -> &[ObjKey]
         ensures { FindsKeys self.now (SlicesOf ns.now service.now) result.now }
     {
@@ -161,7 +161,7 @@ impl Store {
         self.keys.marked.slices_of(ns, service)
     }
 
-    /// The keys of the Servers of the namespace, in order.
+    /// Returns the keys of the Servers of the namespace, in order.
     pub fn servers_in(&self, ns: &Text) -> &[ObjKey]
         ensures { FindsKeys self.now (ServersIn ns.now) result.now }
     {
@@ -169,15 +169,15 @@ impl Store {
         self.keys.marked.servers_in(ns)
     }
 
-    /// The keys of the Servers of the namespace whose first required label has the value. One that requires none stands with its
-    /// namespace in place of the value.
+    /// Returns the keys of the Servers of the namespace whose first required label has the value. A
+    /// Server that requires no label is found with its namespace as the value.
     pub fn servers_requiring(&self, ns: &Text, value: &Text) -> &[ObjKey]
         ensures { FindsServers self.now (ns.now, value.now) result.now }
     {
         self.keys.servers.at(ns, value)
     }
 
-    /// The keys of the ServerAuthorizations of the namespace, in order.
+    /// Returns the keys of the ServerAuthorizations of the namespace, in order.
     pub fn server_authz_in(&self, ns: &Text) -> &[ObjKey]
         ensures { FindsKeys self.now (ServerAuthzIn ns.now) result.now }
     {
@@ -185,7 +185,7 @@ impl Store {
         self.keys.marked.server_authz_in(ns)
     }
 
-    /// The keys of the AuthorizationPolicies of the namespace with this target, in order.
+    /// Returns the keys of the AuthorizationPolicies of the namespace with this target, in order.
     pub fn policies_on(&self, ns: &Text, kind: RefKind, name: &Text) -> &[ObjKey]
         ensures { FindsKeys self.now (PolicyOn ns.now kind name.now) result.now }
     {
@@ -193,7 +193,7 @@ impl Store {
         self.keys.marked.policies_on(ns, kind, name)
     }
 
-    /// The keys of the routes of the namespace with this parent, in order.
+    /// Returns the keys of the routes of the namespace with this parent, in order.
     pub fn routes_on(&self, ns: &Text, kind: ParentKind, name: &Text) -> &[ObjKey]
         ensures { FindsKeys self.now (RouteOn ns.now kind name.now) result.now }
     {
@@ -201,14 +201,14 @@ impl Store {
         self.keys.marked.routes_on(ns, kind, name)
     }
 
-    /// The first key of the Services at the address.
+    /// Returns the first of the keys of the Services at the address, in order.
     pub fn service_at(&self, ip: Ip) -> Option<&ObjKey>
         ensures { FindsFirst self.now (IpService ip) (option_copied result) }
     {
         self.services_at(ip).first()
     }
 
-    /// The first key of the Pods with the address.
+    /// Returns the first of the keys of the Pods with the address, in order.
     pub fn pod_at(&self, ip: Ip) -> Option<&ObjKey>
         ensures { FindsFirst self.now (IpPod ip) (option_copied result) }
     {
@@ -229,7 +229,7 @@ impl Store {
         self.keys.marked.pods_at(ip)
     }
 
-    /// Puts the object at its key. `Full` comes where the key is new and as many objects are held as may be.
+    /// Sets the object at its key. Returns `Full` if the key is new and `limit` objects are held.
     pub fn set(&mut self, object: Object) -> Result<Change, StoreFault>
         ensures ok { IfOk result (Puts self.old.objects self.new.objects object) }
         ensures room { OnOk result (lacks_room self.old.objects self.old.limit (key_of object) ≡ false) }
@@ -253,7 +253,7 @@ impl Store {
         result
     }
 
-    /// Takes the object at the key out. The change is empty where there is none.
+    /// Removes the object at the key. The change is empty if there is none.
     pub fn remove(&mut self, key: &ObjKey) -> Result<Change, Memory>
         ensures ok { IfOk result (Takes self.old.objects self.new.objects key.now) }
         ensures refused { OnErr result (self.new.spent ≡ true) }
@@ -269,8 +269,8 @@ impl Store {
         result
     }
 
-    /// Puts the items in the place of all objects of their kind, in all namespaces. `Full` comes where more objects
-    /// would be held than may be. The keys of the change ascend.
+    /// Replaces all objects of the kind, in all namespaces, by the items. Returns `Full` if more
+    /// than `limit` objects would be held. The keys of the change are ascending.
     pub fn relist(&mut self, kind: Kind, items: List<Object>) -> Result<Change, StoreFault>
         requires { IsListOf kind items }
         ensures ok { IfOk result (Relists self.old.objects self.new.objects kind items) }

@@ -9,12 +9,12 @@ use crate::mark_keys::MarkKeys;
 use crate::server_keys::ServerKeys;
 use std::alloc::Global;
 
-/// Keys of objects, by which they are found without their own.
+/// The indexes of a store: keys of objects, for look-ups by other values than a key.
 #[derive(Drop)]
 pub struct StoreKeys {
-    /// By the marks of the objects.
+    /// The keys by the marks of the objects.
     pub marked: MarkKeys,
-    /// Those of Servers, by what they require of a Pod's labels.
+    /// The keys of Servers by the labels that they require of a Pod.
     pub servers: ServerKeys,
 }
 

@@ -18,7 +18,7 @@ use mesh_base::memory::Memory;
 use std::alloc::Global;
 use view_types::object::Object;
 
-/// Takes out what the old objects of the change had, and puts in what those at its new keys have.
+/// Removes the keys of the old objects of the change, and adds those of its new objects.
 pub fn follow(
     alloc: Global,
     objects: &Objects,
@@ -34,7 +34,7 @@ pub fn follow(
     put_objects(alloc, objects, keys, change.new.as_slice())
 }
 
-/// `follow` for a change of one kind's objects. Keys of later kinds do not move for each of its keys.
+/// Does `follow` for a change of objects of one kind, with the keys of later kinds set aside.
 pub fn follow_kind(
     alloc: Global,
     objects: &Objects,
@@ -53,7 +53,7 @@ pub fn follow_kind(
     put_back(alloc, &mut keys.marked, asides)
 }
 
-/// The last first, since a key is taken fastest from the end of a list.
+/// Removes the keys of the objects, the last first: removal at the end of a list is fastest.
 fn take_objects(alloc: Global, keys: &mut StoreKeys, old: &[Object]) -> Result<(), Memory>
     ensures marked { OnOk result
         (AreTaken has_other old.now (is_kept keys.old.marked) (is_kept keys.new.marked)) }

@@ -1,4 +1,4 @@
--- What a function returned, by what a definition gives.
+-- The result of a function, compared with that of a definition.
 use Rattle.std.specs.Prelude.{◌≡◌, map, Result, Ok, Err}
 use Rattle.proto_wire.specs.declared.fault.WireFault.{WireFault}
 use Rattle.proto_wire.specs.declared.fault.WireFault.TheVariants.{Memory, Truncated, BadTag, LongVarint, Compressed, TooLong}
@@ -11,7 +11,7 @@ use Rattle.proto_wire.specs.declared.scan.RecRef.{RecRef}
 use Rattle.proto_wire.specs.declared.scan.Scanned.{Scanned}
 use Rattle.proto_wire.specs.Wire.{Scan}
 
--- The fault is the definition's, unless memory ran out.
+-- The error is that of the definition, or Memory.
 abbrev pub Fails : {A : Type 0} → WireFault → Result A WireFault → Type 0
 Fails Memory read = Unit {0}
 Fails (Truncated at) read = read ≡ Err (Truncated at)
@@ -20,12 +20,12 @@ Fails (LongVarint at) read = read ≡ Err (LongVarint at)
 Fails Compressed read = read ≡ Err Compressed
 Fails (TooLong len) read = read ≡ Err (TooLong len)
 
--- What was returned is what the definition gives, unless memory ran out.
+-- The result is that of the definition, or the error Memory.
 abbrev pub Gives : {A : Type 0} → Result A WireFault → Result A WireFault → Type 0
 Gives (Ok x) read = read ≡ Ok x
 Gives (Err fault) read = Fails fault read
 
--- a fact, unless memory ran out
+-- a property, unless the error is Memory
 abbrev pub UnlessMemory : {A : Type 0} → Result A WireFault → Type 0 → Type 0
 UnlessMemory (Ok x) P = P
 UnlessMemory (Err Memory) P = Unit {0}
@@ -35,17 +35,17 @@ UnlessMemory (Err (LongVarint at)) P = P
 UnlessMemory (Err Compressed) P = P
 UnlessMemory (Err (TooLong len)) P = P
 
--- the same of what was returned, as `view` sees it
+-- the same for a result that is converted by `view`
 abbrev pub GivesAs : {A B : Type 0} → (A → B) → Result A WireFault → Result B WireFault → Type 0
 GivesAs view (Ok x) read = read ≡ Ok (view x)
 GivesAs view (Err fault) read = Fails fault read
 
--- What was returned, as `view` sees it, is what the definition gives; no memory is taken.
+-- The result, converted by `view`, is that of the definition. Nothing is allocated.
 abbrev pub IsAs : {A B : Type 0} → (A → B) → Result A WireFault → Result B WireFault → Type 0
 IsAs view (Ok x) read = read ≡ Ok (view x)
 IsAs view (Err fault) read = read ≡ Err fault
 
--- ---- what lies in a message's bytes, without where it lies
+-- ---- borrowed records, as records
 
 abbrev pub view_value : ValueRef → WireValue
 view_value (lent.Varint n) = Varint n

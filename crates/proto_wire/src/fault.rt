@@ -4,19 +4,19 @@ ghost use Rattle.proto_wire.specs.declared.fault.WireFault.TheVariants.{Memory};
 use mesh_base::memory;
 use std::alloc::{AllocError, AllocFailed};
 
-/// Why bytes can't be read or written. A place counts the bytes of the message before the record that fails.
+/// The error of reading or writing. `at` is the number of bytes of the message before the record.
 #[derive(Clone, Copy, Debug, PartialEq, Eq)]
 pub enum WireFault {
     Memory,
     /// The bytes end inside the record.
     Truncated { at: u64 },
-    /// The field's number or the wire type isn't one of the format.
+    /// The field number is not from 1 to 536870911, or the wire type is not 0, 1, 2 or 5.
     BadTag { at: u64 },
-    /// A varint has no end within ten bytes, or doesn't fit 64 bits.
+    /// A varint does not end within ten bytes, or does not fit into 64 bits.
     LongVarint { at: u64 },
-    /// A frame says that its message is compressed.
+    /// The first byte of a frame, which is 0 for an uncompressed message, is not 0.
     Compressed,
-    /// A frame's message is longer than is allowed.
+    /// The message of a frame is longer than the limit.
     TooLong { len: u32 },
 }
 

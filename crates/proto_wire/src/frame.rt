@@ -6,7 +6,7 @@ use bytes::Bytes;
 use mesh_base::memory::Memory;
 use std::alloc::Global;
 
-/// The frame that carries a message. Its one fault is Memory.
+/// Returns the frame of a message. The only error is out of memory.
 pub fn frame(alloc: Global, message: &[u8]) -> Result<Bytes, WireFault>
     requires { length message.now < 2 ^ 32 }
     ensures ok { IfOk result (λ bytes. bytes ≡ frame_of message.now) }

@@ -1,16 +1,16 @@
-//! Bytes that grow at their front, so that what stands before a message, as its length, is written after it.
+//! Bytes that grow at the front. The length of a message is written after the message.
 ghost use Rattle.std.specs.Prelude.{◌≡◌, ◌≤◌, ◌++◌, [], length, drop, IfOk, OnOk, OnErr};
 
 use mesh_base::memory::Memory;
 use std::alloc::Global;
 use std::marker::Model;
 
-/// Bytes, before which others are put.
+/// A buffer of bytes that grows at the front.
 #[derive(Drop)]
 pub struct FrontBytes {
     alloc: Global,
     buffer: Vec<u8>,
-    /// Where the bytes begin.
+    /// The index at which the bytes begin.
     start: usize,
 }
 
@@ -24,8 +24,8 @@ impl Model for FrontBytes {
     ghost invariant = { λ f. f.start ≤ length f.buffer.items };
 }
 
-/// Moves the bytes from `start` on to where there is room for so many before them, and for as many as they are. If memory
-/// runs out, they are as before.
+/// Moves the bytes from `start` on to a larger buffer, with at least `room` bytes before them. If
+/// out of memory, they do not change.
 #[inline(never)]
 fn grow(alloc: Global, buffer: &mut Vec<u8>, start: &mut usize, room: usize) -> Result<(), Memory>
     requires { start.old ≤ length buffer.old.items }
@@ -43,7 +43,7 @@ fn grow(alloc: Global, buffer: &mut Vec<u8>, start: &mut usize, room: usize) -> 
     Ok(())
 }
 
-/// Sees that there is room for so many bytes before those from `start` on. If memory runs out, they are as before.
+/// Makes room for `room` bytes before those from `start` on. If out of memory, they do not change.
 fn make_room(
     alloc: Global,
     buffer: &mut Vec<u8>,
@@ -62,7 +62,7 @@ fn make_room(
 }
 
 impl FrontBytes {
-    /// No bytes, and room for so many.
+    /// Returns an empty buffer with room for `room` bytes.
     pub fn with_room(alloc: Global, room: usize) -> Result<FrontBytes, Memory>
         ensures { IfOk result (λ bytes. bytes ≡ []) }
     {
@@ -88,7 +88,7 @@ impl FrontBytes {
         &self.buffer[self.start..]
     }
 
-    /// Puts a piece before the bytes. If memory runs out, they are as before.
+    /// Puts a piece before the bytes. If out of memory, they do not change.
     pub fn put(&mut self, piece: &[u8]) -> Result<(), Memory>
         ensures ok { OnOk result (self.new ≡ piece.now ++ self.old) }
         ensures err { OnErr result (self.new ≡ self.old) }

@@ -6,24 +6,24 @@ ghost use Rattle.proto_wire.specs.Wire.{Fits, spelling, scan_of, records_of};
 ghost use Rattle.proto_wire.specs.Frames.{frame_of, frames_of, first_frame, Frames, after_messages, frames_in, MakeUp};
 ghost use Rattle.proto_wire.specs.Unframing.{all_messages, answers, all_answers};
 
-/// What is spelled is read again, whole.
+/// The scan of encoded records returns the same records, without an error.
 pub fn reads_back()
     ensures { (rs : List Rec) → AllByRecursion Fits rs
         → scan_of (spelling rs) ≡ record { records = rs; fault = None } }
 {}
 
-/// What is spelled is read again as these records, and without a fault.
+/// Encoded records are read as the same records, without an error.
 pub fn records_come_back()
     ensures { (rs : List Rec) → AllByRecursion Fits rs → records_of (spelling rs) ≡ Ok rs }
 {}
 
-/// A frame before any other bytes gives its message and these bytes.
+/// A frame before any bytes is read as its message, and these bytes are left.
 pub fn frames_come_apart()
     ensures { (message after : List ℕ) → length message < 2 ^ 32
         → first_frame (frame_of message ++ after) ≡ Some (message, after) }
 {}
 
-/// Frames one after another before any other bytes give their messages, and then what these bytes give.
+/// Frames before any bytes are read as their messages, followed by the messages of these bytes.
 pub fn frames_come_back(limit: u32)
     ensures whole { (messages : List (List ℕ))
         → AllByRecursion (λ message. length message ≤ limit) messages
@@ -37,7 +37,7 @@ pub fn frames_come_back(limit: u32)
     let _ = limit;
 }
 
-/// The messages, the fault and the rest of a stream are the only ones that make it up.
+/// The messages, the error and the rest of a stream are the only ones that make it up.
 pub fn streams_are_made_up(limit: u32, stream: &[u8])
     ensures { (f : Frames) → (f ≡ frames_in limit stream.now) ↔ MakeUp limit stream.now f }
 {
@@ -45,8 +45,8 @@ pub fn streams_are_made_up(limit: u32, stream: &[u8])
     let _ = stream;
 }
 
-/// What a longer stream holds follows from what its front holds: the front's messages come first, its rest is read on,
-/// and its fault stays.
+/// A longer stream holds the messages of its prefix, followed by those of the rest of the prefix
+/// and the bytes added. An error of the prefix remains.
 pub fn fronts_stay()
     ensures joined { (limit : ℕ) (front more : List ℕ)
         → let f = frames_in limit front in
@@ -59,8 +59,8 @@ pub fn fronts_stay()
         ≡ record { messages = f.messages; fault = Some fault; rest = f.rest ++ more } }
 {}
 
-/// Where a stream is cut doesn't matter: while memory lasts, the answers to its pieces give its messages together, or
-/// end with its first fault.
+/// The messages of a stream do not depend on where it is cut into pieces. Unless out of memory, the
+/// results of the pieces are all its messages together, or end with its first error.
 pub fn cutting_is_free()
     ensures { (limit : ℕ) (pieces : List (List ℕ))
         → all_answers (answers (record { limit = limit; part = Ok [] }) pieces)

@@ -1,9 +1,8 @@
-//! The wire format of Protocol Buffers, below messages: records, and the frames of gRPC that carry messages.
+//! The wire format of Protocol Buffers, below messages: records, and gRPC frames with messages.
 //!
-//! Stands on mesh_base and bytes. Readers and writers of records cite `specs/Wire`, which says how a record is read and
-//! what its one canonical spelling is. Those of frames cite `specs/Frames`, which says what a stream of frames holds,
-//! and `specs/Unframing`, which says the same of a stream that comes in pieces. Public laws in `laws` tie reading and
-//! writing to one another.
+//! Depends on mesh_base and bytes. `specs/Wire` defines how a record is read, and its one canonical
+//! encoding. `specs/Frames` defines what a stream of frames holds, and `specs/Unframing` the same
+//! for a stream in pieces. The public laws in `laws` relate reading and writing.
 #![tactic(auto)]
 
 pub mod fault;

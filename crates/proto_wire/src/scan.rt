@@ -1,4 +1,4 @@
-//! Reading records, strictly: each list of bytes has its records or one fault.
+//! Reads records strictly: each sequence of bytes has its records, or one error.
 ghost use Rattle.std.specs.Prelude.{◌≡◌, ◌<◌, map, IfOk};
 ghost use Rattle.std.specs.Int.{w32, w64};
 ghost use Rattle.proto_wire.specs.Wire.{byte_in, varint_in, fixed_in, chunk_in, value_in, record_in, scan_of, records_of};
@@ -11,24 +11,24 @@ use mesh_base::list::List;
 use mesh_base::memory::Memory;
 use std::alloc::Global;
 
-/// What a record says, where it lies in the message.
+/// The value of a record. A chunk is borrowed from the message.
 #[derive(Clone, Copy)]
 pub enum ValueRef<'a> {
     Varint(u64),
     Fixed64(u64),
     Fixed32(u32),
-    /// A text, bytes or a nested message.
+    /// A string, bytes or a nested message.
     Chunk(&'a [u8]),
 }
 
-/// A record, where it lies in the message.
+/// A record, borrowed from the message.
 #[derive(Clone, Copy)]
 pub struct RecRef<'a> {
     pub number: u32,
     pub value: ValueRef<'a>,
 }
 
-/// The records up to the first that can't be read, and why that one can't.
+/// The records before the first malformed one, and its error.
 #[derive(Drop)]
 pub struct Scanned<'a> {
     pub records: Vec<RecRef<'a>>,
@@ -144,7 +144,7 @@ fn record(at: u64, bytes: &[u8]) -> Result<(RecRef<'_>, &[u8]), WireFault>
     ))
 }
 
-/// The records of a message up to the first that can't be read, and its fault. They stay where they lie.
+/// Returns the records before the first malformed one, and its error. No bytes are copied.
 pub fn scan(alloc: Global, bytes: &[u8]) -> Result<Scanned<'_>, Memory>
     ensures { IfOk result (λ scanned. view_scan scanned ≡ scan_of bytes.now) }
 {
@@ -175,7 +175,7 @@ pub fn scan(alloc: Global, bytes: &[u8]) -> Result<Scanned<'_>, Memory>
 }
 
 impl RecRef<'_> {
-    /// The record, with bytes of its own.
+    /// Copies the record.
     pub fn to_rec(&self, alloc: Global) -> Result<Rec, Memory>
         ensures { IfOk result (λ r. r ≡ view_record self.now) }
     {
@@ -202,7 +202,7 @@ fn to_recs(alloc: Global, records: &[RecRef<'_>]) -> Result<List<Rec>, Memory>
     Ok(List::from_vec(all))
 }
 
-/// The records of a message, or the fault of the first that can't be read. Nothing is copied where there is a fault.
+/// Returns the records of a message, or its first error. If there is one, no bytes are copied.
 pub fn records(alloc: Global, bytes: &[u8]) -> Result<List<Rec>, WireFault>
     ensures { Gives result (records_of bytes.now) }
 {

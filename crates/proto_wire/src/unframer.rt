@@ -1,4 +1,4 @@
-//! Reading frames out of a stream that comes in pieces.
+//! Reads frames from a stream that arrives in pieces.
 ghost use Rattle.std.specs.Prelude.{◌≡◌, ◌+◌, ◌-◌, ◌≤◌, ◌++◌, ℕ, List, Result, [], length, take, drop, option_map, IfOk, OnOk, IfErr, IfSome, IfNone};
 ghost use Rattle.proto_wire.specs.Wire.{unless_fault};
 ghost use Rattle.proto_wire.specs.Frames.{frame_fault, head_of};
@@ -12,10 +12,10 @@ use std::alloc::{AllocError, Global};
 use std::marker::Model;
 use std::mem;
 
-/// The flag and the length that stand before a message.
+/// The number of bytes before a message: one for the flag, four for the length.
 const HEAD: usize = 5;
 
-// How many bytes the frame takes that begins like this, as far as they tell.
+// Returns the size of the frame that begins like this, or 5 if its length is not complete.
 fn size(limit: u32, part: &[u8]) -> Result<usize, WireFault>
     ensures { IsAs (λ len. len) result
         (unless_fault (frame_fault limit part.now) (frame_size part.now)) }
@@ -34,7 +34,7 @@ fn size(limit: u32, part: &[u8]) -> Result<usize, WireFault>
     }
 }
 
-// Adds bytes of a piece until there are so many, and answers those behind them.
+// Adds bytes of a piece up to the length `len`. Returns the bytes after those.
 fn fill<'a>(part: &mut Vec<u8>, len: usize, piece: &'a [u8]) -> Result<&'a [u8], AllocError>
     ensures part { OnOk result
         (part.new.items ≡ part.old.items ++ take (len - length part.old.items) piece.now) }
@@ -50,8 +50,8 @@ fn fill<'a>(part: &mut Vec<u8>, len: usize, piece: &'a [u8]) -> Result<&'a [u8],
     Ok(rest)
 }
 
-// Takes bytes up to the end of the frame of which a part is there, and gives its message and the bytes behind it; or
-// takes them all where the frame isn't whole with them.
+// Adds bytes up to the end of a frame that has begun. Returns its message and the bytes after it,
+// or None if the piece does not complete the frame.
 fn next<'a>(
     alloc: Global,
     limit: u32,
@@ -76,14 +76,14 @@ fn next<'a>(
     Ok(Some((message, rest)))
 }
 
-/// Reads the messages of a stream of frames that comes in pieces of any length. After a fault, out of memory among
-/// them, it answers that fault forever.
+/// A reader of the messages of a stream of frames that arrives in pieces of any length. After an
+/// error, including out of memory, it always returns that error.
 #[derive(Drop)]
 pub struct Unframer {
     alloc: Global,
     limit: u32,
     fault: Option<WireFault>,
-    /// The bytes behind the last whole frame, while there is no fault.
+    /// The bytes after the last complete frame, unless there is an error.
     part: Vec<u8>,
 }
 
@@ -101,7 +101,7 @@ impl Model for Unframer {
 }
 
 impl Unframer {
-    /// Nothing has come. The limit is the greatest length of a message.
+    /// Creates a reader before any bytes. The limit is the greatest length of a message.
     pub fn new(alloc: Global, limit: u32) -> Unframer
         ensures held { result ≡ record { limit = limit; part = Ok [] } }
         ensures fed { WasFed result [] }
@@ -123,8 +123,8 @@ impl Unframer {
         fault
     }
 
-    /// Takes bytes up to the end of the first frame, and gives its message and the bytes behind it; or takes them all
-    /// where that frame isn't whole with them.
+    /// Reads bytes up to the end of the first frame. Returns its message and the bytes after it, or
+    /// None if the piece does not complete the frame.
     pub fn take<'a>(&mut self, piece: &'a [u8]) -> Result<Option<(Bytes, &'a [u8])>, WireFault>
         ensures first { GivesAs (option_map (λ x. (x.0, x.1.now))) result
             (first_from self.old piece.now) }
@@ -148,8 +148,8 @@ impl Unframer {
         }
     }
 
-    /// Takes a piece of the stream, and gives the messages that are whole with it. Where a fault stands in it, the
-    /// answer is the fault alone.
+    /// Reads a piece of the stream. Returns the messages that it completes, or only the error if
+    /// there is one in the piece.
     pub fn feed(&mut self, piece: &[u8]) -> Result<List<Bytes>, WireFault>
         ensures messages { Gives result (messages_from self.old piece.now) }
         ensures part { OnOk result (self.new.part ≡ part_from self.old piece.now) }
@@ -157,7 +157,7 @@ impl Unframer {
         ensures same { IfErr self.old.part (λ fault. result ≡ Err fault) }
         ensures limit { self.new.limit ≡ self.old.limit }
 
-        // The same by the whole stream, in whatever pieces it has come.
+        // The same, in terms of the whole stream, in whatever pieces it has arrived.
         ensures newly { (stream : List ℕ) → WasFed self.old stream
             → Gives result (newly_whole self.old.limit stream piece.now) }
         ensures fed { (stream : List ℕ) → WasFed self.old stream

@@ -1,5 +1,5 @@
-//! Writing records, in the canonical spelling. A message is written from its last record to its first, each before the
-//! bytes that are there: so its length is known when its head is written, and no message is copied into another.
+//! Writes records in the canonical encoding. A message is written from its last record to its
+//! first. Its length is known when its head is written, and no message is copied.
 ghost use Rattle.std.specs.Prelude.{◌≡◌, ◌+◌, ◌*◌, ◌^◌, ◌<◌, ◌++◌, ℕ, List, length, OnOk};
 ghost use Rattle.proto_wire.specs.Wire.{spelled, varint, varint_up_to};
 ghost use Rattle.proto_wire.specs.declared.record.WireValue.TheVariants.{Varint, Fixed64, Fixed32, Chunk};
@@ -7,7 +7,7 @@ ghost use Rattle.proto_wire.specs.declared.record.WireValue.TheVariants.{Varint,
 use crate::front::FrontBytes;
 use mesh_base::memory::Memory;
 
-/// Puts the shortest varint of a number, of at most so many bytes before its last.
+/// Writes the shortest varint of a number, with at most `more` bytes before its last one.
 #[tactic(auto, using(crate::proofs::Varints::varints))]
 fn put_varint_of(out: &mut FrontBytes, more: u32, number: u64) -> Result<(), Memory>
     requires { number < 2 * 128 ^ more }
@@ -20,14 +20,14 @@ fn put_varint_of(out: &mut FrontBytes, more: u32, number: u64) -> Result<(), Mem
     out.put(&[(number % 128) as u8 + 128])
 }
 
-/// Puts the shortest varint of a number.
+/// Writes the shortest varint of a number.
 pub fn put_varint(out: &mut FrontBytes, number: u64) -> Result<(), Memory>
     ensures { OnOk result (out.new ≡ varint number ++ out.old) }
 {
     put_varint_of(out, 9, number)
 }
 
-/// Puts a field's number and its wire type.
+/// Writes the number of a field and its wire type.
 fn put_tag(out: &mut FrontBytes, field: u32, wire_type: u64) -> Result<(), Memory>
     requires { wire_type < 8 }
     ensures { OnOk result (out.new ≡ varint (field * 8 + wire_type) ++ out.old) }
@@ -35,7 +35,7 @@ fn put_tag(out: &mut FrontBytes, field: u32, wire_type: u64) -> Result<(), Memor
     put_varint(out, field as u64 * 8 + wire_type)
 }
 
-/// Writes a record of a number.
+/// Writes a varint record.
 #[tactic(auto, using(crate::proofs::Spellings::spellings), unfolding(crate::specs::Wire::spelled))]
 pub fn put_number(out: &mut FrontBytes, field: u32, number: u64) -> Result<(), Memory>
     ensures { OnOk result
@@ -45,7 +45,7 @@ pub fn put_number(out: &mut FrontBytes, field: u32, number: u64) -> Result<(), M
     put_tag(out, field, 0)
 }
 
-/// Writes a record of eight bytes.
+/// Writes a record of eight bytes, the lowest first.
 #[tactic(auto, using(crate::proofs::Spellings::spellings), unfolding(crate::specs::Wire::spelled))]
 pub fn put_fixed64(out: &mut FrontBytes, field: u32, number: u64) -> Result<(), Memory>
     ensures { OnOk result
@@ -55,7 +55,7 @@ pub fn put_fixed64(out: &mut FrontBytes, field: u32, number: u64) -> Result<(), 
     put_tag(out, field, 1)
 }
 
-/// Writes a record of four bytes.
+/// Writes a record of four bytes, the lowest first.
 #[tactic(auto, using(crate::proofs::Spellings::spellings), unfolding(crate::specs::Wire::spelled))]
 pub fn put_fixed32(out: &mut FrontBytes, field: u32, number: u32) -> Result<(), Memory>
     ensures { OnOk result
@@ -65,7 +65,7 @@ pub fn put_fixed32(out: &mut FrontBytes, field: u32, number: u32) -> Result<(), 
     put_tag(out, field, 5)
 }
 
-/// Writes a record of a text, bytes or a nested message.
+/// Writes a record of a string, bytes or a nested message.
 #[tactic(auto, using(crate::proofs::Spellings::spellings), unfolding(crate::specs::Wire::spelled))]
 pub fn put_chunk(out: &mut FrontBytes, field: u32, bytes: &[u8]) -> Result<(), Memory>
     ensures { OnOk result
@@ -76,7 +76,7 @@ pub fn put_chunk(out: &mut FrontBytes, field: u32, bytes: &[u8]) -> Result<(), M
     put_tag(out, field, 2)
 }
 
-/// Makes a record of the message that lies before the last so many bytes.
+/// Writes the head of a record for the message before the last `end` bytes.
 pub fn put_head(out: &mut FrontBytes, field: u32, end: usize) -> Result<(), Memory>
     ensures { OnOk result
         ((body rest : List ℕ) → out.old ≡ body ++ rest → length rest ≡ end

@@ -11,7 +11,7 @@ use regex::{Error, Regex};
 use regex_nfa::Nfa;
 use std::alloc::Global;
 
-/// The regular expression that finds the whole texts of a pattern, or None where it is refused.
+/// Builds the regular expression that a pattern has to match as a whole, or None if it is refused.
 pub(crate) fn build(alloc: Global, pattern: &str) -> Result<Option<Regex>, Memory>
     ensures { IfOk result (λ built. IfSome built (IsBuiltOf pattern.now)) }
 {
@@ -19,7 +19,7 @@ pub(crate) fn build(alloc: Global, pattern: &str) -> Result<Option<Regex>, Memor
     read(alloc, source.as_str())
 }
 
-/// The states of the regular expression that matches the whole texts of a pattern, if it is small.
+/// Builds the NFA that matches whole strings of a pattern, or None if it is not small.
 pub(crate) fn build_small(alloc: Global, pattern: &str) -> Result<Option<Nfa>, Memory>
     ensures { IfOk result (λ built. IfSome built (IsSmallOf pattern.now)) }
 {
@@ -27,7 +27,7 @@ pub(crate) fn build_small(alloc: Global, pattern: &str) -> Result<Option<Nfa>, M
     Ok(small(alloc, source.as_str()))
 }
 
-// The regular expression that a text is, or None where it is none.
+// Builds the regular expression of a source, or None if that is refused.
 fn read(alloc: Global, source: &str) -> Result<Option<Regex>, Memory>
     ensures { IfOk result (λ made. IfSome made (IsReadFrom source.now)) }
 {
@@ -38,7 +38,7 @@ fn read(alloc: Global, source: &str) -> Result<Option<Regex>, Memory>
     }
 }
 
-// The pattern, of a whole text.
+// Returns the source that matches a pattern against a whole string: `\A(?:p)\z`.
 fn whole_of(alloc: Global, pattern: &str) -> Result<String, Memory>
     ensures { IfOk result (λ source. string_bytes source ≡ whole pattern.now) }
 {
@@ -48,7 +48,7 @@ fn whole_of(alloc: Global, pattern: &str) -> Result<String, Memory>
     Ok(source)
 }
 
-/// Whether a regular expression is found in a text.
+/// Whether a regular expression is found in a string.
 pub(crate) fn is_found(alloc: Global, regex: &Regex, text: &str) -> Result<bool, Memory>
     ensures { IfOk result (λ found. found ≡ is_some (find_str (regex_pattern regex.now) text.now 0)) }
 {

@@ -1,4 +1,4 @@
-// Patterns that are kept for later calls.
+// A cache of patterns.
 ghost use Rattle.std.specs.Prelude.{◌≡◌, IfOk, IfSome};
 ghost use Rattle.std.proofs.Props.{props};
 ghost use Rattle.regex_patterns.specs.Patterns.{IsBuiltOf, IsExpression, IsSmallOf, regex_tells};
@@ -12,12 +12,12 @@ use regex::Regex;
 use regex_nfa::Nfa;
 use std::alloc::Global;
 
-/// A pattern with what was built of it: a regular expression, or nothing where the pattern was refused.
+/// A pattern and its regular expression, which is None if the pattern was refused.
 #[derive(Drop)]
 pub struct Kept {
     pub(crate) pattern: Text,
     regex: Option<Regex>,
-    /// The same expression, if it is small. A search by it takes a fraction of what a matcher takes to be made.
+    /// The NFA of the expression, if it is small. A search with it is cheaper than a matcher.
     small: Option<Nfa>,
     ghost built: { IfSome regex (IsBuiltOf pattern) } by { Prim.hlevel props },
     ghost built_small: { IfSome small (IsSmallOf pattern) } by { Prim.hlevel props },
@@ -37,7 +37,7 @@ impl Kept {
         })
     }
 
-    /// Whether the pattern matches the whole text.
+    /// Whether the pattern matches the whole string. The error is `Refused` or `Memory`.
     pub(crate) fn whole(&self, alloc: Global, text: &str) -> Result<bool, PatternFault>
         ensures told { IfOk result (λ answer. answer ≡ regex_tells self.now.pattern text.now) }
         ensures reads { IfOk result (λ answer. IsExpression self.now.pattern) }
@@ -48,7 +48,7 @@ impl Kept {
         }
     }
 
-    // Whether the pattern matches the whole text, if it is small and so is the text.
+    // The same, or None unless both the pattern and the string are small.
     fn small_whole(&self, alloc: Global, text: &str) -> Option<bool>
         ensures told { IfSome result (λ answer. answer ≡ regex_tells self.now.pattern text.now) }
         ensures reads { IfSome result (λ answer. IsExpression self.now.pattern) }
@@ -59,7 +59,7 @@ impl Kept {
         }
     }
 
-    // The same for any pattern and text.
+    // The same for patterns and strings of any size.
     fn any_whole(&self, alloc: Global, text: &str) -> Result<bool, PatternFault>
         ensures told { IfOk result (λ answer. answer ≡ regex_tells self.now.pattern text.now) }
         ensures reads { IfOk result (λ answer. IsExpression self.now.pattern) }
@@ -74,7 +74,7 @@ impl Kept {
     }
 }
 
-/// What is kept of a pattern.
+/// Finds a pattern in the cache.
 pub(crate) fn kept_of<'k>(kept: &'k [Kept], pattern: &str) -> Option<&'k Kept>
     ensures { IfSome result (λ known. known.now.pattern ≡ pattern.now) }
 {

@@ -7,23 +7,23 @@ use crate::cache::{Kept, kept_of};
 use mesh_outside::{PatternFault, Patterns};
 use std::alloc::Global;
 
-/// How many patterns are kept.
+/// The greatest number of patterns in the cache.
 const MOST: usize = 64;
 
-/// Regular expressions in the syntax of Rust's regex crate, each matched against a whole text. Those that were built last
-/// are kept, and so are those that were refused: a later call only looks its pattern up and searches. The tables of one
-/// take 10 MiB at most, and those of a small one 16 KiB more. A pattern stands in a group: one that closes it, as
-/// `a)|(?:b`, is built, and isn't anchored; a comment that isn't ended, under the flag `x`, takes in the end of the group,
-/// and is refused.
+/// Regular expressions in the syntax of Rust's regex crate, each matched against a whole string.
+/// The patterns that were built or refused last are cached. The tables of one have at most 10 MiB,
+/// and those of a small one 16 KiB more. A pattern is put into a group. A pattern that closes it,
+/// such as `a)|(?:b`, is built, but is not anchored. A comment without an end, under the flag `x`,
+/// hides the end of the group, and the pattern is refused.
 pub struct RegexPatterns {
-    /// The oldest first.
+    /// The cached patterns, the oldest first.
     kept: Vec<Kept>,
-    /// The refusals so far.
+    /// The number of refusals so far.
     pub count: u64,
     ghost few: { vec_len kept ≤ 64 },
 }
 
-/// Written by hand, so that a crate that drops this needs no proof of what is in it.
+/// Implemented by hand, because a crate that drops this then needs no proof about its fields.
 impl Drop for RegexPatterns {
     fn drop(self) {
         let RegexPatterns {
@@ -34,7 +34,7 @@ impl Drop for RegexPatterns {
 }
 
 impl RegexPatterns {
-    /// Nothing is kept.
+    /// Creates an empty cache.
     pub fn new(alloc: Global) -> RegexPatterns
         ensures kept { result.kept.items ≡ [] }
         ensures count { result.count ≡ 0 }
@@ -45,7 +45,7 @@ impl RegexPatterns {
         }
     }
 
-    // The answer, before it is counted.
+    // Returns the result of a match. Refusals are not counted yet.
     fn answer(&mut self, alloc: Global, pattern: &str, text: &str) -> Result<bool, PatternFault>
         ensures told { IfOk result (λ answer. answer ≡ regex_tells pattern.now text.now) }
         ensures reads { IfOk result (λ answer. IsExpression pattern.now) }
@@ -57,7 +57,7 @@ impl RegexPatterns {
         }
     }
 
-    // The answer of a pattern that isn't kept, and is from now on.
+    // Returns the result for a pattern that is not cached, and caches it.
     fn first_answer(
         &mut self,
         alloc: Global,
@@ -76,7 +76,7 @@ impl RegexPatterns {
         answer
     }
 
-    // Keeps a pattern, if there is memory for it.
+    // Adds a pattern to the cache, unless out of memory.
     fn keep(&mut self, fresh: Kept)
         ensures { self.new.count ≡ self.old.count }
     {
@@ -84,7 +84,7 @@ impl RegexPatterns {
         let _ = self.kept.push(fresh);
     }
 
-    // Drops the oldest pattern where as many are kept as may be.
+    // Removes the oldest pattern from a full cache.
     fn make_room(&mut self)
         ensures room { vec_len self.new.kept < 64 }
         ensures same { self.new.count ≡ self.old.count }
@@ -108,10 +108,10 @@ impl Patterns for RegexPatterns {
         ensures refused { IsErrOf result PatternFault.Refused → Rose self.old.count self.new.count }
         ensures other { result ≢ Err PatternFault.Refused → self.new.count ≡ self.old.count }
 
-        // What is answered at all is an expression.
+        // A result that is not an error means that the pattern is an expression.
         ensures reads { IfOk result (λ answer. IsExpression pattern.now) }
 
-        // Refusals alone are counted.
+        // Only refusals are counted.
         ensures count { self.new.count ≡ counted (is_refused result) self.old.count }
     {
         match self.answer(alloc, pattern, text) {

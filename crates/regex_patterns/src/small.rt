@@ -11,13 +11,13 @@ use regex_syntax::{Config, parse};
 use regex_vm::Backtracker;
 use std::alloc::Global;
 
-/// How many bytes the states of a small expression take at most.
+/// The greatest size of the NFA of a small expression, in bytes.
 const TABLES: usize = 16_384;
 
-/// Through how many pairs of a state and a place in the text a search goes at most.
+/// The greatest number of pairs of an NFA state and an index of the string in a search.
 const PAIRS: usize = 16_384;
 
-/// The states of an expression, if they are few, and each match begins where the text does.
+/// Builds the NFA of an expression, if it is small and all its matches begin at the start.
 pub(crate) fn small(alloc: Global, source: &str) -> Option<Nfa>
     ensures { IfSome result (IsFromStart source.now) }
 {
@@ -28,7 +28,7 @@ pub(crate) fn small(alloc: Global, source: &str) -> Option<Nfa>
     }
 }
 
-// What is read in an expression, and how many groups it has, if each match begins where the text does.
+// Parses an expression. Returns its tree and number of groups, if all matches begin at the start.
 fn from_start(alloc: Global, source: &str) -> Option<(Hir, u32)>
     ensures { IfSome result (λ read. IsOfStart source.now read.0) }
 {
@@ -44,7 +44,7 @@ fn from_start(alloc: Global, source: &str) -> Option<(Hir, u32)>
     }
 }
 
-/// Whether a match begins where the text does, if a search of few steps can tell.
+/// Whether a match begins at the start of a string, or None if the search is too long.
 pub(crate) fn begins(alloc: Global, nfa: &Nfa, text: &str) -> Option<bool>
     ensures told { IfSome result (λ found.
         found ≡ is_some (run nfa.now text.now (length text.now) nfa.now.start 0)) }
@@ -53,7 +53,7 @@ pub(crate) fn begins(alloc: Global, nfa: &Nfa, text: &str) -> Option<bool>
     begins_in(alloc, nfa, text.as_bytes())
 }
 
-// The same in the bytes of a text.
+// The same for the bytes of a string.
 fn begins_in(alloc: Global, nfa: &Nfa, bytes: &[u8]) -> Option<bool>
     ensures { IfSome result (λ found.
         found ≡ is_some (run nfa.now bytes.now (length bytes.now) nfa.now.start 0)) }

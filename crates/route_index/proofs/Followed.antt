@@ -17,7 +17,6 @@ use Rattle.mesh_base.specs.declared.key.ObjKey.{ObjKey}
 use Rattle.view_types.specs.Objects.{AtKeys, ObjectMap}
 use Rattle.view_types.specs.declared.mark.Mark.{Mark}
 use Rattle.view_types.specs.declared.mark.Mark.TheVariants.{Obj}
-use Rattle.view_types.specs.declared.object.Object.{Object}
 use Rattle.view_types.specs.declared.server_view.RouteRow.{RouteRow}
 use Rattle.view_rules.proofs.Attached.{places_exact, route_order_is_total}
 use Rattle.view_rules.proofs.Entries.{equal}

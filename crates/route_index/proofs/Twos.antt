@@ -1,13 +1,13 @@
 -- What is found among the values of a map, where it is found at two keys alone.
-use Rattle.std.proofs.Common.{◌≡◌, ◌⊎◌, inl, inr, Bool, true, false, cond, List, [], ◌∷◌, map, Option, Some, None, refl, sym, ap, subst, ◌∙◌}
+use Rattle.std.proofs.Common.{◌≡◌, Bool, true, false, cond, List, [], ◌∷◌, map, Option, Some, None, refl, sym, ap, ◌∙◌}
 use lib.Dec.{T}
 use Rattle.std.specs.Cmp.{IsTotalOrder, tied_itself}
 use Rattle.std.specs.FinMap.{FinMap, IsAntisymmetric, entries-from_sorted, find, from_sorted, get, get-from_sorted, is_sorted, values}
 use Rattle.std.specs.List.{filter_map}
-use Rattle.std.specs.Option.{is_some, option_and_then}
-use Rattle.std.specs.Ordering.{eq_by_cmp, is_eq, is_lt}
+use Rattle.std.specs.Option.{option_and_then}
+use Rattle.std.specs.Ordering.{eq_by_cmp}
 use Rattle.std.specs.declared.cmp.Ordering.{Ordering}
-use Rattle.std.specs.declared.cmp.Ordering.TheVariants.{Less, Equal, Greater}
+use Rattle.std.specs.declared.cmp.Ordering.TheVariants.{Less}
 use Rattle.view_rules.proofs.Entries.{equal}
 use Rattle.mark_rules.proofs.EqualLists.{found_alike}
 

@@ -1,4 +1,4 @@
--- The routes that are kept of a Server, by their places in the order, and the routes of a name among the objects held.
+-- The kept routes of a Server by their places, and the routes with a name among the objects held.
 use Rattle.std.specs.Prelude.{◌≡◌, ◌&&◌, ℕ, Bool, true, false, List, [], ◌∷◌, filter, filter_map, map}
 use Rattle.std.specs.FinMap.{FinMap, get}
 use Rattle.std.specs.Str.{bytes_eq}
@@ -22,20 +22,20 @@ use Rattle.object_store.specs.Held.{key_with}
 abbrev pub row_place : RouteRow → RoutePlace
 row_place row = record { created = row.created; name = row.name; group = route_group row.kind }
 
--- the places strictly rise
+-- the places are strictly ascending
 abbrev pub Rise : List RouteRow → Type 0
 Rise rows = IsKeyed route_cmp row_place (λ row. row) rows
 
 abbrev pub by_place : List RouteRow → FinMap route_cmp RouteRow
 by_place rows = keyed_map route_cmp row_place (λ row. row) rows
 
--- ---- the routes of a name
+-- ---- the routes with a name
 
 -- the routes among the objects that are attached to the Server
 abbrev pub rows_among : RouteKey → List Object → List RouteRow
 rows_among key objects = map bare_route (in_order_by route_cmp place_of (filter (has_parent key.ns (is_server_parent key.server)) (filter_map as_route objects)))
 
--- the keys of the routes of the name, of both groups
+-- the keys of the routes with the name, of both groups
 abbrev pub keys_named : List ℕ → List ℕ → List ObjKey
 keys_named ns name = key_with kind.LinkerdRoute ns name ∷ key_with kind.GatewayRoute ns name ∷ []
 
@@ -57,19 +57,19 @@ abbrev pub names_route : List ℕ → Mark → Bool
 names_route ns (Obj key) = is_route_in ns key
 names_route ns _ = false
 
--- and of the name
+-- the mark is the key of a route of the namespace with the name
 abbrev pub names : List ℕ → List ℕ → Mark → Bool
 names ns name (Obj key) = is_route_in ns key && bytes_eq key.name name
 names ns name _ = false
 
--- ---- routes that are brought up to the objects held
+-- ---- routes that are updated for the objects held
 
 module _ (held : ObjectMap) (key : RouteKey) where
-  -- at the place stands what stands there among the routes of the Server
+  -- the route at the place is the one there among the routes of the Server
   abbrev pub IsUp : List RouteRow → RoutePlace → Type 0
   IsUp rows place = get (by_place rows) place ≡ get (by_place (server_routes held key)) place
 
-  -- each place is up whose name passes, and each that was up before
+  -- a place is up to date if its name passes, or if it was up to date before
   pub record BringsUp (passes : List ℕ → Bool) (old new : List RouteRow) : Type 0 where
     pub rise : Rise old → Rise new
     pub up : Rise old → (place : RoutePlace) → (passes place.name ≡ false → IsUp old place) → IsUp new place

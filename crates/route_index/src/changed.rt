@@ -6,7 +6,7 @@ use mesh_base::key::{Kind, ObjKey};
 use mesh_base::text::Text;
 use view_types::mark::Mark;
 
-/// Whether the change names at most half as many routes of the namespace as these.
+/// Returns whether the change names at most half as many routes of the namespace as these.
 pub(crate) fn is_in_place(ns: &Text, changed: &[Mark], routes: &[ObjKey]) -> bool
     ensures { IsTrue result → count_by (names_route ns.now) changed.now
         + count_by (names_route ns.now) changed.now ≤ length routes.now }
@@ -15,14 +15,14 @@ pub(crate) fn is_in_place(ns: &Text, changed: &[Mark], routes: &[ObjKey]) -> boo
     named <= routes.len().saturating_sub(named)
 }
 
-/// Returns how many marks are keys of routes of the namespace.
+/// Returns the number of marks that are keys of routes of the namespace.
 fn count_routes(ns: &Text, marks: &[Mark]) -> usize
     ensures { result ≡ count_by (names_route ns.now) marks.now }
 {
     marks.iter().filter(|mark| names_route(ns, mark)).count()
 }
 
-/// Whether a mark is the key of a route of the namespace.
+/// Returns whether a mark is the key of a route of the namespace.
 fn names_route(ns: &Text, mark: &Mark) -> bool
     ensures { result ≡ names_route ns.now mark.now }
 {
@@ -32,7 +32,7 @@ fn names_route(ns: &Text, mark: &Mark) -> bool
     }
 }
 
-/// Whether a key is that of a route of the namespace.
+/// Returns whether a key is that of a route of the namespace.
 pub(crate) fn is_route_in(key: &ObjKey, ns: &Text) -> bool
     ensures { result ≡ is_route_in ns.now key.now }
 {

@@ -38,7 +38,7 @@ pub(crate) fn server_routes<L>(
     bare_routes(alloc, routes.as_slice())
 }
 
-/// Returns those with this name, at most one of each group.
+/// Returns the attached routes with this name, at most one of each group.
 pub(crate) fn rows_named<L>(
     server: &Server,
     name: &Text,
@@ -93,7 +93,7 @@ fn bare_routes(alloc: Global, routes: &[&Route]) -> Result<List<RouteRow>, Memor
     Ok(rows)
 }
 
-/// Returns what is shown of a route without its authorizations.
+/// Returns the row of a route, without its authorizations.
 fn bare_route(alloc: Global, route: &Route) -> Result<RouteRow, Memory>
     ensures { IfOk result (λ row. row ≡ bare_route route.now) }
 {

@@ -10,10 +10,10 @@ use row_table::row_index::RowIndex;
 use row_table::table::RowTable;
 use std::alloc::Global;
 
-/// The routes of Servers by their keys.
+/// An index of the routes of Servers by their keys.
 pub type RouteIndex = RowTable<RouteRule>;
 
-/// An index without users. It stands for all objects.
+/// Returns an index without users, which is current for any objects held.
 pub fn new_index(alloc: Global) -> RouteIndex
     ensures filter { ⟦<RowTable<RouteRule> as RowIndex>⟧.filter result
         ≡ record { row_of = server_routes; reads = λ held. route_reads } }

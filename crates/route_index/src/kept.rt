@@ -1,4 +1,4 @@
-// Routes that are kept, brought up to a change.
+// Updates of kept routes for a change.
 ghost use Rattle.std.specs.Prelude.{◌≡◌, ◌≤◌, ◌+◌, ◌||◌, false, if◌then◌else◌, IfOk, OnOk, count_by};
 ghost use Rattle.std.specs.List.{list_any};
 ghost use Rattle.std.specs.Str.{bytes_eq};
@@ -23,9 +23,9 @@ use view_types::mark::Mark;
 use view_types::route::ParentKind;
 use view_types::server_view::RouteRow;
 
-/// Brings the routes of a Server up to a change with these marks. Only routes with the names of changed ones are
-/// looked up, unless the change has more than half as many as the Server has after it. Returns whether any may
-/// differ.
+/// Updates the routes of a Server for a change with these marks. If the change names at most half
+/// as many routes as the Server has after it, only routes with these names are looked up, and
+/// otherwise all are found again. Returns whether any may differ.
 pub(crate) fn follow<L>(
     server: &Server,
     changed: &[Mark],
@@ -49,7 +49,7 @@ pub(crate) fn follow<L>(
     follow_in_place(server, changed, rows, steps)
 }
 
-/// Brings the routes up to a change with these marks. Returns whether any may differ.
+/// Updates the routes for a change with these marks. Returns whether any may differ.
 fn follow_in_place<L>(
     server: &Server,
     changed: &[Mark],
@@ -98,7 +98,7 @@ fn either(one: bool, other: bool) -> bool
     one || other
 }
 
-/// Brings the routes up to what the mark of a change says.
+/// Updates the routes for one mark of a change. Returns whether any may differ.
 fn follow_mark<L>(
     server: &Server,
     mark: &Mark,
@@ -136,7 +136,7 @@ fn follow_key<L>(
     follow_name(server, &key.name, rows, steps)
 }
 
-/// Replaces the kept routes with a name by those that are attached.
+/// Replaces the kept routes with a name by those attached. Returns whether any may differ.
 fn follow_name<L>(
     server: &Server,
     name: &Text,

@@ -1,11 +1,11 @@
 //! The routes of Servers, kept in rows for the ports that they are joined into.
 //!
-//! Stands on row_table for the rows, on mark_rules for what a row is and which mark it reads, on object_store, on policy_rows
-//! for the routes that are attached to a Server, and on view_scratch for their rules. `RouteIndex` is the table of row_table
-//! over `RouteRule`, so its contract is that of `RowIndex`, with `server_routes` and `route_reads` of mark_rules as its filter.
-//! A row has no authorizations: those of each route are a row of their own. Of a change, the routes of the names that it has are
-//! looked up, and put in the place of those that a row keeps of these names (`specs/Placed`); if they are many, all routes of the
-//! Server are found again.
+//! Depends on row_table for the rows, on mark_rules for the value and the mark of a row, on
+//! object_store, on policy_rows for the routes attached to a Server, and on view_scratch for their
+//! rules. `RouteIndex` is the `RowTable` of `RouteRule`: its contract is that of `RowIndex`, with
+//! `server_routes` and `route_reads` of mark_rules as its filter. A row has no authorizations,
+//! which are rows of their own. A change replaces the routes with the names that it has
+//! (`specs/Placed`), or all if it has many.
 #![tactic(auto)]
 
 mod changed;

@@ -1,4 +1,4 @@
-// Edits of routes in the order of their places.
+// Edits of lists of routes in the order of their places.
 ghost use Rattle.std.specs.Prelude.{◌≡◌, false, not, IfErr, IfOk, OnOk, filter, length};
 ghost use Rattle.std.specs.Cmp.Lexicographic.{slice_cmp};
 ghost use Rattle.std.specs.FinMap.{insert};
@@ -17,7 +17,7 @@ use mesh_base::text::Text;
 use std::cmp::Ordering;
 use view_types::server_view::RouteRow;
 
-/// Takes out the routes with a name. Returns whether there was any.
+/// Removes the routes with a name. Returns whether there was any.
 pub(crate) fn take_named(rows: &mut Vec<RouteRow>, name: &Text) -> bool
     ensures gone { rows.new.items
         ≡ filter (λ row. not (bytes_eq name.now row.name)) rows.old.items }
@@ -36,7 +36,7 @@ fn has_named(rows: &[RouteRow], name: &Text) -> bool
     rows.iter().any(|row| *name == row.name)
 }
 
-/// Puts each route at its place. Returns whether there was any.
+/// Inserts each route at its place. Returns whether there was any.
 pub(crate) fn put_rows(rows: &mut Vec<RouteRow>, added: Vec<RouteRow>) -> Result<bool, Memory>
     ensures put { OnOk result (Rise rows.old.items
         → by_place rows.new.items ≡ put_all route_cmp row_place added.items (by_place rows.old.items)) }
@@ -52,7 +52,7 @@ pub(crate) fn put_rows(rows: &mut Vec<RouteRow>, added: Vec<RouteRow>) -> Result
     Ok(true)
 }
 
-/// Puts a route at its place, instead of one that stands there.
+/// Inserts a route at its place, or replaces the route that is there.
 fn put_row(rows: &mut Vec<RouteRow>, row: RouteRow) -> Result<(), Memory>
     ensures put { OnOk result (Rise rows.old.items
         → by_place rows.new.items ≡ insert (by_place rows.old.items) (row_place row) row) }
@@ -67,7 +67,7 @@ fn put_row(rows: &mut Vec<RouteRow>, row: RouteRow) -> Result<(), Memory>
     }
 }
 
-/// Returns where the route with the place of this one stands, or where this one would go.
+/// Returns the index of the route at the same place as `Ok`, or where to insert this one as `Err`.
 fn place(rows: &[RouteRow], one: &RouteRow) -> Result<usize, usize>
     ensures within { IsSearchInRange result (length rows.now) }
     ensures hit { Rise rows.now → IfOk result
@@ -78,7 +78,7 @@ fn place(rows: &[RouteRow], one: &RouteRow) -> Result<usize, usize>
     rows.binary_search_by(|row| compare_rows(row, one))
 }
 
-/// Compares the creation times, of which none is the last; then the names, then the groups.
+/// Compares the creation times, of which none is the last, then the names, and then the groups.
 fn compare_rows(a: &RouteRow, b: &RouteRow) -> Ordering
     ensures { result ≡ route_cmp (row_place a.now) (row_place b.now) }
 {

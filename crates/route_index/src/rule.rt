@@ -1,4 +1,4 @@
-// How the routes of Servers are found and kept.
+// The rule by which the routes of Servers are found and kept.
 ghost use Rattle.std.specs.Prelude.{◌≡◌};
 ghost use Rattle.mark_rules.proofs.Servers.{routes_stay};
 ghost use Rattle.mark_rules.specs.Reads.{route_reads};
@@ -23,7 +23,7 @@ use std::alloc::Global;
 use view_types::mark::Mark;
 use view_types::server_view::RouteRow;
 
-/// Finds and keeps the routes that are attached to a Server, by creation time, name and group, without their authorizations.
+/// A rule for the routes of a Server, by creation time, name and group, without authorizations.
 #[derive(Drop)]
 pub struct RouteRule;
 

@@ -3,7 +3,7 @@ use mark_rules::keys::RouteKey;
 use object_store::store::Store;
 use std::alloc::Global;
 
-/// The key of a row, and what the row is found from.
+/// The key of a row, and the store in which the row is found.
 #[derive(Clone, Copy)]
 pub(crate) struct Server<'a> {
     pub(crate) alloc: Global,

@@ -6,7 +6,7 @@ use Rattle.std.specs.declared.cmp.Ordering.{Ordering}
 use Rattle.row_table.specs.declared.key_numbers.KeyNumbers.{KeyNumbers}
 use Rattle.row_table.specs.declared.key_numbers.UsedKey.{UsedKey}
 
--- no key has no users
+-- the number of users, which is zero without a key
 abbrev pub users_in : Option UsedKey → ℕ
 users_in None = 0
 users_in (Some u) = u.users
@@ -14,16 +14,16 @@ users_in (Some u) = u.users
 abbrev pub number_in : Option UsedKey → Option ℕ
 number_in used = option_map (λ u. u.number) used
 
--- with one user more
+-- the key with one user more
 abbrev pub one_more : UsedKey → UsedKey
 one_more u = record u { users = u.users + 1 }
 
--- with one user less, and gone with the last
+-- the key with one user fewer, and no key without users
 abbrev pub one_less : Option UsedKey → Option UsedKey
 one_less None = None
 one_less (Some u) = if nat_lt 1 u.users then Some (record u { users = u.users - 1 }) else None
 
--- one user is counted less, unless it is the last of the key, which has this number
+-- one user is removed, unless it is the last one of the key, which has this number
 abbrev pub TakesOne : UsedKey → Option ℕ → UsedKey → Type 0
 TakesOne old None new = (one_less (Some old) ≡ Some new) × (new.number ≡ old.number)
 TakesOne old (Some n) new = (new ≡ old) × (n ≡ old.number) × (one_less (Some old) ≡ None)
@@ -37,13 +37,13 @@ module _ {Key : Type 0} (cmp : Key → Key → Ordering) where
   abbrev pub number_at : KeyNumbers Key → Key → Option ℕ
   number_at used key = number_in (used_at used key)
 
-  -- ---- what its calls do
+  -- ---- the effects of its calls
 
-  -- this stands at the key, and at each other key what stood there
+  -- the value is at the key, and every other key is unchanged
   abbrev pub PutsAt : {X : Type 0} → Key → X → (Key → X) → (Key → X) → Type 0
   PutsAt key x old new = (k : Key) → new k ≡ (if eq_by_cmp cmp k key then x else old k)
 
-  -- one user of the key is counted less, unless it is the last of the key with this number
+  -- one user of the key is removed, unless it is the last one of the key with this number
   abbrev pub TakesUser : Key → KeyNumbers Key → Option ℕ → KeyNumbers Key → Type 0
   TakesUser key old None new = PutsAt key (one_less (used_at old key)) (used_at old) (used_at new) × (number_in (one_less (used_at old key)) ≡ number_at old key)
   TakesUser key old (Some n) new = PutsAt key (used_at old key) (used_at old) (used_at new) × (number_at old key ≡ Some n) × (one_less (used_at old key) ≡ None)

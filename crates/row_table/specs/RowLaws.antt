@@ -1,4 +1,4 @@
--- The laws of a table and of a rule that finds its rows anew.
+-- The laws of a table, and of a rule that finds its rows again for each change.
 use Rattle.std.specs.Prelude.{is_some, nat_lt}
 use Rattle.std.proofs.Common.{◌≡◌, ◌<◌, ℕ, List, Option, Some, None, refl, sym, ap, subst, ◌∙◌}
 use Rattle.std.specs.BTreeMap as tree
@@ -20,13 +20,13 @@ use Rattle.row_table.specs.declared.key_numbers.UsedKey.{UsedKey}
 use Rattle.row_table.specs.declared.table_rows.KeptRow.{KeptRow}
 
 module _ {Key Kept : Type 0} (keeps : ObjectMap → Key → Kept → Type 0) (held : ObjectMap) (key : Key) where
-  -- a key has a number where it has users
+  -- a key has a number exactly if it has users
   numbered : (used : Option UsedKey) (row : Option (KeptRow Key Kept)) → StandsAt keeps held key used row → is_some (number_in used) ≡ nat_lt 0 (users_in used)
   numbered None row stands = refl
   numbered (Some u) None stands = absurd stands
   numbered (Some u) (Some r) stands = sym (lt-ltb 0 u.users stands.0)
 
-  -- the row of its number is its own
+  -- the row at the number of a key is that of the key
   pub own_row : (used : Option UsedKey) (rows : BTreeMap ℕ (KeptRow Key Kept)) → StandsAt keeps held key used (row_of rows (number_in used)) → (n : ℕ) → number_in used ≡ Some n → key_in (tree.get nat_cmp rows n) ≡ Some key
   own_row None rows stands n e = absurd (none-some n e)
   own_row (Some u) rows stands n e = ap (λ n. key_in (tree.get nat_cmp rows n)) (sym (same_Some u.number n e)) ∙ by (tree.get nat_cmp rows u.number) stands
@@ -35,7 +35,7 @@ module _ {Key Kept : Type 0} (keeps : ObjectMap → Key → Kept → Type 0) (he
       by None stands = absurd stands
       by (Some r) stands = ap Some stands.1
 
--- rows that stand have numbers
+-- current rows have numbers
 pub numbered_rows : {Key Kept : Type 0} (cmp : Key → Key → Ordering) (keeps : ObjectMap → Key → Kept → Type 0) (held : ObjectMap) (used : KeyNumbers Key) (rows : BTreeMap ℕ (KeptRow Key Kept)) → AllStand keeps cmp held used rows
     → AreNumbered (λ key. users_in (used_at cmp used key)) (number_at cmp used)
 numbered_rows cmp keeps held used rows stands = record {
@@ -44,7 +44,7 @@ numbered_rows cmp keeps held used rows stands = record {
 }
 
 module _ {Key Row Kept : Type 0} (filter : Filter Key Row) (row_in : Kept → Row) (marks_in : Kept → List Mark) where
-  -- a row and its marks stay where the filter and its reads do
+  -- a row and its marks are unchanged if the filter and its reads are
   pub found_stays : Stays filter.row_of filter.reads → KeptStays filter (λ held key kept. IsRow filter held key (row_in kept) (marks_in kept))
   found_stays stays key kept changed before after leads misses is =
       let same = stays key changed before after leads misses in
@@ -53,7 +53,7 @@ module _ {Key Row Kept : Type 0} (filter : Filter Key Row) (row_in : Kept → Ro
         are_read = λ mark. is.are_read mark ∙ ap (λ marks. has_mark marks mark) (sym same.1);
       }
 
-  -- what is kept of a row that stands is current
+  -- the kept value of a row is current if it is valid
   pub current_row : (keeps : ObjectMap → Key → Kept → Type 0) → KeptShows filter keeps row_in marks_in → (held : ObjectMap) (key : Key) (used : Option UsedKey) (row : Option (KeptRow Key Kept)) → StandsAt keeps held key used row
       → IsCurrent filter held key (users_in used) (shown_in row_in row) (marks_of marks_in row)
   current_row keeps shows held key None row stands = record { unused = λ e. (ap (shown_in row_in) stands, ap (marks_of marks_in) stands); used = λ lt. absurd (below_irrefl 0 lt) }

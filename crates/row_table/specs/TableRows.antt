@@ -1,4 +1,4 @@
--- What a table keeps: the number of each key, the row of each number, and the marks that the graph watches there.
+-- The parts of a table: the number of each key, the row of each number, and its watched marks.
 use Rattle.std.specs.Prelude.{◌≡◌, ◌<◌, ◌≤◌, ℕ, Bool, true, false, List, [], Option, Some, None, option_map}
 use Rattle.std.specs.BTreeMap as tree
 use Rattle.std.specs.BTreeMap.{BTreeMap}
@@ -23,7 +23,7 @@ abbrev pub is_among : List ℕ → Option ℕ → Bool
 is_among numbers None = false
 is_among numbers (Some n) = has_row n numbers
 
--- the number watches these marks, if they may be others than it watched before
+-- the number watches these marks, unless they are reported as the same
 abbrev pub Rewatched : MarksAfter → List Mark → ℕ → BTreeMap ℕ (BTreeSet Mark) → BTreeMap ℕ (BTreeSet Mark) → Type 0
 Rewatched Same marks n old new = new ≡ old
 Rewatched (Moved moves) marks n old new = Rewatches mark_cmp (has_after mark_cmp moves (watches mark_cmp old n)) n old new
@@ -36,11 +36,11 @@ module _ {Key Kept : Type 0} where
   abbrev pub kept_in : Option (KeptRow Key Kept) → Option Kept
   kept_in row = option_map (λ r. r.kept) row
 
-  -- the row in what is kept, if it is
+  -- the row in the kept value, if there is one
   abbrev pub shown_in : {Row : Type 0} → (Kept → Row) → Option (KeptRow Key Kept) → Option Row
   shown_in row_in row = option_map (λ r. row_in r.kept) row
 
-  -- the marks of a row that is kept, and none of one that isn't
+  -- the marks of a kept row, or none if no row is kept
   abbrev pub marks_of : (Kept → List Mark) → Option (KeptRow Key Kept) → List Mark
   marks_of marks_in None = []
   marks_of marks_in (Some r) = marks_in r.kept
@@ -55,8 +55,8 @@ module _ {Key : Type 0} (cmp : Key → Key → Ordering) where
   abbrev pub row_at : {Kept : Type 0} → KeyNumbers Key → BTreeMap ℕ (KeptRow Key Kept) → Key → Option (KeptRow Key Kept)
   row_at used rows key = row_of rows (number_at cmp used key)
 
-  -- Each key with users has a number of its own, below the next one, each row stands at the number of its key, and there the graph
-  -- watches the marks of the row.
+  -- Each key with users has its own number, below the next one. The row of a key is at its number,
+  -- for which the graph watches the marks of the row.
   pub record AreTied {Kept : Type 0} (marks_in : Kept → List Mark) (used : KeyNumbers Key) (rows : BTreeMap ℕ (KeptRow Key Kept)) (watched : BTreeMap ℕ (BTreeSet Mark)) (next : ℕ) : Type 0 where
     pub rows_of : (key : Key) (n : ℕ) → number_at cmp used key ≡ Some n → key_in (tree.get nat_cmp rows n) ≡ Some key
     pub numbers : (n : ℕ) (key : Key) → key_in (tree.get nat_cmp rows n) ≡ Some key → number_at cmp used key ≡ Some n
@@ -64,7 +64,7 @@ module _ {Key : Type 0} (cmp : Key → Key → Ordering) where
     pub below : (n : ℕ) → next ≤ n → tree.get nat_cmp rows n ≡ None
 
 module _ {Key Kept : Type 0} (keeps : ObjectMap → Key → Kept → Type 0) where
-  -- a key with users has a row of its own, which stands for the objects held
+  -- a key with users has its own row, which is valid for the objects held
   abbrev pub StandsAt : ObjectMap → Key → Option UsedKey → Option (KeptRow Key Kept) → Type 0
   StandsAt held key None row = row ≡ None
   StandsAt held key (Some u) None = ⊥
@@ -74,16 +74,16 @@ module _ {Key Kept : Type 0} (keeps : ObjectMap → Key → Kept → Type 0) whe
   AllStand cmp held used rows = (key : Key) → StandsAt held key (used_at cmp used key) (row_at cmp used rows key)
 
   module _ (tells : Kept → Kept → Type 0) (changed : List Mark) (after : ObjectMap) where
-    -- what was kept for the key is brought up to the change
+    -- the kept value of the key is updated for the change
     abbrev pub KeptFollows : Key → Kept → Kept → Type 0
     KeptFollows key old new = (held : ObjectMap) → keeps held key old → Leads changed held after → keeps after key new × tells old new
 
-    -- the row is of the same key, with the kept brought up to the change
+    -- the row has the same key, and its kept value is updated for the change
     pub record RowFollows (key : Key) (old new : KeptRow Key Kept) : Type 0 where
       pub same_key : new.key ≡ old.key
       pub kept : KeptFollows key old.kept new.kept
 
-    -- the row of the key, if there is one, follows the change, or it stays
+    -- the row of the key, if there is one, is updated for the change, or it is unchanged
     abbrev pub RowAfter : Bool → Key → Option (KeptRow Key Kept) → Option (KeptRow Key Kept) → Type 0
     RowAfter false key old new = new ≡ old
     RowAfter true key None None = Unit {0}
@@ -91,6 +91,6 @@ module _ {Key Kept : Type 0} (keeps : ObjectMap → Key → Kept → Type 0) whe
     RowAfter true key (Some old) None = ⊥
     RowAfter true key (Some old) (Some new) = RowFollows key old new
 
-    -- the rows of these keys follow the change, and all others stay
+    -- the rows of these keys are updated for the change, and all others are unchanged
     abbrev pub Follow : (Key → Bool) → (Key → Option (KeptRow Key Kept)) → (Key → Option (KeptRow Key Kept)) → Type 0
     Follow some old new = (key : Key) → RowAfter (some key) key (old key) (new key)

@@ -8,22 +8,22 @@ use std::alloc::Global;
 use std::collections::HashMap;
 use std::hash::{BuildHasherDefault, FoldHasher, Hash};
 
-/// A key that has users.
+/// The number and the users of a key.
 #[derive(Drop)]
 pub struct UsedKey {
-    /// The graph knows the row of the key by this.
+    /// The number of the key's row in the graph.
     pub number: u64,
     pub users: u64,
 }
 
-/// The keys that have users. Each is found by its hash, and nothing reads the order of the map.
+/// The keys that have users, in a hash map. Nothing depends on the order of the map.
 #[derive(Drop)]
 pub struct KeyNumbers<K: Ord + Hash> {
     by_hash: HashMap<K, UsedKey, BuildHasherDefault<FoldHasher>, Global>,
 }
 
 impl<K: Ord + Hash + Drop> KeyNumbers<K> {
-    /// No key has users.
+    /// Returns a map without keys.
     pub fn new(alloc: Global) -> KeyNumbers<K>
         ensures { (key : K) → used_at K.cmp result key ≡ None }
     {
@@ -32,14 +32,14 @@ impl<K: Ord + Hash + Drop> KeyNumbers<K> {
         }
     }
 
-    /// The number and the users of a key that has users.
+    /// Returns the number and the users of a key that has users.
     pub fn get(&self, key: &K) -> Option<&UsedKey>
         ensures { option_copied result ≡ used_at K.cmp self.now key.now }
     {
         self.by_hash.get(key)
     }
 
-    /// Gives the key this number and one user.
+    /// Inserts the key with this number and one user.
     pub fn insert(&mut self, key: K, number: u64) -> Result<(), Memory>
         ensures { OnOk result (PutsAt K.cmp key (Some (record { number = number; users = 1 }))
             (used_at K.cmp self.old) (used_at K.cmp self.new)) }
@@ -48,14 +48,14 @@ impl<K: Ord + Hash + Drop> KeyNumbers<K> {
         Ok(())
     }
 
-    /// Lets the key go.
+    /// Removes the key.
     pub fn remove(&mut self, key: &K)
         ensures { PutsAt K.cmp key.now None (used_at K.cmp self.old) (used_at K.cmp self.new) }
     {
         self.by_hash.remove(key);
     }
 
-    /// Counts one user more of the key, if it has users. Returns whether it has.
+    /// Adds a user to the key, if it has users. Returns whether it has.
     pub fn add_user(&mut self, key: &K) -> Result<bool, Memory>
         ensures there { IfOk result (λ there. there ≡ is_some (used_at K.cmp self.old key.now)) }
         ensures put { OnOk result (PutsAt K.cmp key.now
@@ -71,7 +71,7 @@ impl<K: Ord + Hash + Drop> KeyNumbers<K> {
         }
     }
 
-    /// Counts one user less of the key, unless it is the last. For that it returns the number of the key, which stays.
+    /// Removes a user of the key. For the last user it only returns the number of the key.
     pub fn take_user(&mut self, key: &K) -> Option<u64>
         ensures { TakesUser K.cmp key.now self.old result self.new }
     {

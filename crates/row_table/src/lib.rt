@@ -1,9 +1,9 @@
-//! Rows kept by their keys, each equal to its filter over the objects held while it has users, and brought up to a change by
-//! the marks that it reads.
+//! Tables of rows by their keys. While a key has users, its row equals its filter over the objects
+//! held, and is updated for each change with a mark that the row reads.
 //!
-//! Stands on mark_rules for marks and for changes that lead from one map of objects to another, on object_store for the store
-//! and its changes, and on mark_graph. The contract of the trait `RowIndex`, which `RowTable` implements for any `RowRule`,
-//! cites `specs/IndexRows`. `specs/TableRows` says how the parts of a table are tied.
+//! Depends on mark_rules for marks and for what a change leads to, on object_store, and on
+//! mark_graph. `specs/IndexRows` defines the contract of the trait `RowIndex`, which `RowTable`
+//! implements for any `RowRule`, and `specs/TableRows` how the parts of a table are tied.
 #![tactic(auto)]
 
 pub mod key_numbers;

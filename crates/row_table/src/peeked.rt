@@ -1,4 +1,4 @@
-// A row that is peeked at.
+// The row that a peek returns.
 ghost use Rattle.std.specs.Prelude.{◌≡◌, IfOk};
 ghost use Rattle.row_table.specs.PeekedRow.{peeked_row};
 
@@ -6,7 +6,7 @@ use mesh_base::copied::Copied;
 use mesh_base::memory::Memory;
 use std::alloc::Global;
 
-/// A row that is lent where it is kept, or that was made for one call.
+/// A row, either borrowed from the index that keeps it, or made for one call.
 #[derive(Drop)]
 pub enum Peeked<'a, R> {
     Kept(&'a R),
@@ -25,7 +25,7 @@ impl<R> Peeked<'_, R> {
 }
 
 impl<R: Copied> Peeked<'_, R> {
-    /// The row by itself. One that is kept is copied.
+    /// Returns the row by value. A kept row is copied.
     pub fn into_row(self, alloc: Global) -> Result<R, Memory>
         ensures { IfOk result (λ row. row ≡ peeked_row self.entry) }
     {

@@ -1,4 +1,4 @@
-// Rows that are found anew at each change.
+// Rows that are found again for each change.
 ghost use Rattle.std.specs.Prelude.{◌≡◌, ◌≤◌, ◌+◌, false, IfOk};
 ghost use Rattle.std.specs.FinMap.{IsAntisymmetric};
 ghost use Rattle.mark_rules.specs.Laws.{Stays};
@@ -23,13 +23,13 @@ pub struct PlainRow<R> {
     pub marks: List<Mark>,
 }
 
-/// How a row is found.
+/// A rule by which rows are found.
 pub trait RowFinder: Drop {
     type Key: Ord + Hash + Copied;
 
     type Row: Drop;
 
-    /// The row of each key as a filter over the objects held, and the marks that this reads.
+    /// The filter: the row of each key over the objects held, and the marks that the row reads.
     ghost filter: { Self → Filter Self.Key Self.Row };
 
     /// Finds the row of a key and its marks.
@@ -53,7 +53,7 @@ pub trait RowFinder: Drop {
     ghost exact: { IsAntisymmetric Self.Key.Ord.cmp };
 }
 
-/// A rule by which each row is found anew at a change of which it reads a mark.
+/// A rule that finds a row again for each change with a mark that the row reads.
 #[derive(Drop)]
 pub struct FindAnew<F: RowFinder> {
     pub finder: F,

@@ -1,4 +1,4 @@
-// Rows by keys: what every index promises.
+// The contract of an index of rows by keys.
 ghost use Rattle.std.specs.Prelude.{◌≡◌, ◌≤◌, ◌+◌, if◌then◌else◌, nat_lt, ℕ, Bool, true, false, List, Option, Some, IsErr, IfOk, OnOk};
 ghost use Rattle.std.specs.FinMap.{IsAntisymmetric};
 ghost use Rattle.std.specs.List.{sum_by};
@@ -22,29 +22,29 @@ use object_store::store::Store;
 use std::hash::Hash;
 use view_types::mark::Mark;
 
-/// Rows by keys, each equal to its filter over the objects held while its key has users. After Memory an index is spent: no row
-/// can be entered or brought up to a change any more.
+/// An index of rows by keys. While a key has users, its row equals its filter over the objects
+/// held. After `Memory` the index is spent: `enter`, `on_change` and `peek` return `Memory`.
 pub trait RowIndex {
     type Key: Ord + Hash + Copied;
 
     type Row;
 
-    /// The row of each key as a filter over the objects held, and the marks that this reads.
+    /// The filter: the row of each key over the objects held, and the marks that the row reads.
     ghost filter: { Self → Filter Self.Key Self.Row };
 
-    /// How many users a key has.
+    /// The number of users of a key.
     ghost users: { Self → Self.Key → ℕ };
 
     /// The row that is kept for a key.
     ghost row_at: { Self → Self.Key → Option Self.Row };
 
-    /// The marks that are kept for it.
+    /// The marks that are kept for a key.
     ghost marks_at: { Self → Self.Key → List Mark };
 
-    /// The number that the row of a key with users is known by.
+    /// The number of the row of a key, if the key has users.
     ghost number_at: { Self → Self.Key → Option ℕ };
 
-    /// The keys whose rows may be others than before the last change.
+    /// The keys whose rows may differ from those before the last change.
     ghost differing: { Self → List Self.Key };
 
     /// The numbers of the rows that read a mark of the last change, ascending.
@@ -52,10 +52,10 @@ pub trait RowIndex {
 
     ghost is_spent: { Self → Bool };
 
-    /// The rows stand for these objects.
+    /// The rows are current for these objects.
     ghost stands: { Self → ObjectMap → Type 0 };
 
-    /// Counts one user more of the key. A key that had none gets its row over the objects held.
+    /// Adds a user to the key. For the first user, finds the row over the objects held.
     fn enter<L>(
         &mut self,
         store: &Store,
@@ -75,7 +75,7 @@ pub trait RowIndex {
         ensures spent { IsErr result → is_spent self.new ≡ true }
         ensures was_spent { is_spent self.old ≡ true → IsErr result };
 
-    /// Counts one user less of the key. Its row goes with the last.
+    /// Removes a user of the key. The row is removed with the last user.
     fn leave(&mut self, key: &Self::Key)
         ensures users { OneLess Self.Key.Ord.cmp key.now (users self.old) (users self.new) }
         ensures stands { (held : ObjectMap) → stands self.old held → stands self.new held }
@@ -85,7 +85,7 @@ pub trait RowIndex {
         ensures filter { filter self.new ≡ filter self.old }
         ensures spent { is_spent self.new ≡ is_spent self.old };
 
-    /// Brings the rows up to a change of the store, and gives the keys whose rows read a mark of it.
+    /// Updates the rows that read a mark of a change of the store, and returns their keys.
     fn on_change<L>(
         &mut self,
         store: &Store,
@@ -110,11 +110,11 @@ pub trait RowIndex {
         ensures spent { IsErr result → is_spent self.new ≡ true }
         ensures was_spent { is_spent self.old ≡ true → IsErr result };
 
-    /// The keys whose rows may be others than before the last change. All others that have users have the rows that they had.
+    /// Returns the keys whose rows may differ since the last change. All other rows are the same.
     fn differing(&self) -> &[Self::Key]
         ensures { result.now ≡ differing self.now };
 
-    /// The number of the row of a key that has users.
+    /// Returns the number of the row of a key that has users.
     fn number(&self, key: &Self::Key) -> Option<u64>
         ensures { result ≡ number_at self.now key.now };
 
@@ -122,11 +122,11 @@ pub trait RowIndex {
     fn met(&self) -> &[u64]
         ensures { result.now ≡ met self.now };
 
-    /// The row of a key that has users.
+    /// Returns the row of a key that has users.
     fn row(&self, key: &Self::Key) -> Option<&Self::Row>
         ensures { option_copied result ≡ row_at self.now key.now };
 
-    /// The row of a key: that which is kept, or one that is made for this call. Nothing more is kept.
+    /// Returns the row of a key: the kept one, or one that is found for this call and not kept.
     fn peek<L>(
         &self,
         store: &Store,
@@ -139,16 +139,16 @@ pub trait RowIndex {
             else cost store.now.objects ((filter self.now).reads store.now.objects key.now)) }
         ensures was_spent { is_spent self.now ≡ true → IsErr result };
 
-    /// The marks that the row of a key reads, if it has users. Each may stand more than once.
+    /// Returns the marks that the row of a key with users reads. A mark may occur more than once.
     fn marks(&self, key: &Self::Key) -> Result<List<Mark>, Memory>
         ensures { IfOk result (λ marks. marks ≡ marks_at self.now key.now) };
 
-    /// An index that stands for the objects held has for each key with users its row and its marks, and for no other.
+    /// A current index has the row and the marks of each key with users, and of no other key.
     ghost current: { (index : Self) (held : ObjectMap) → stands index held → (key : Self.Key)
         → IsCurrent (filter index) held key (users index key) (row_at index key)
         (marks_at index key) };
 
-    /// A key has a number exactly while it has users, and no two keys have the same one.
+    /// A key has a number exactly while it has users, and no two keys have the same number.
     ghost numbered: { (index : Self) (held : ObjectMap) → stands index held
         → AreNumbered (users index) (number_at index) };
 

@@ -1,4 +1,4 @@
-// What one sort of rows is: its filter, what is kept of a row, and how this follows a change.
+// A sort of rows: its filter, the kept value of a row, and its update for a change.
 ghost use Rattle.std.specs.Prelude.{◌≡◌, ◌≤◌, ◌+◌, false, List, IfOk, OnOk};
 ghost use Rattle.std.specs.FinMap.{IsAntisymmetric};
 ghost use Rattle.view_types.specs.Objects.{ObjectMap};
@@ -20,7 +20,7 @@ use std::alloc::Global;
 use std::hash::Hash;
 use view_types::mark::Mark;
 
-/// A store, and what the last call changed of it.
+/// A store, and the change that the last call made to it.
 #[derive(Clone, Copy)]
 pub struct StoreChange<'a> {
     pub alloc: Global,
@@ -31,50 +31,50 @@ pub struct StoreChange<'a> {
 /// The marks that a row reads after a change.
 #[derive(Drop)]
 pub enum MarksAfter {
-    /// Those that it read before.
+    /// The same marks as before.
     Same,
-    /// Those that it read before, but for these.
+    /// The marks of before, with these removed and added.
     Moved(MarkMoves<Mark>),
-    /// They may be others.
+    /// Possibly other marks.
     Other,
 }
 
-/// What is told of a row that was brought up to a change.
+/// The result of the update of a row for a change.
 #[derive(Drop)]
 pub struct Followed {
-    /// Whether the row may be another than before.
+    /// Whether the row may differ from the row before.
     pub differs: bool,
     pub marks: MarksAfter,
 }
 
-/// How the rows of one sort are found and kept.
+/// A rule by which the rows of one sort are found and kept.
 pub trait RowRule: Drop {
     type Key: Ord + Hash + Copied;
 
     type Row;
 
-    /// What is kept of a row: at least the row and its marks, and whatever helps to bring it up to a change.
+    /// The kept value of a row: the row, its marks, and whatever helps to update it for a change.
     type Kept: Drop;
 
-    /// What is noted of one change while the rows follow it, so that an object is fetched once for all of them.
+    /// The notes on one change, which its rows share: an object is fetched once for all of them.
     type Notes: Drop;
 
-    /// The row of each key as a filter over the objects held, and the marks that this reads.
+    /// The filter: the row of each key over the objects held, and the marks that the row reads.
     ghost filter: { Self → Filter Self.Key Self.Row };
 
-    /// What is kept stands for the row of the key over these objects.
+    /// The kept value is valid for the row of the key over these objects.
     ghost keeps: { Self → ObjectMap → Self.Key → Self.Kept → Type 0 };
 
-    /// The row in what is kept.
+    /// The row in a kept value.
     ghost row_in: { Self.Kept → Self.Row };
 
-    /// The marks in what is kept.
+    /// The marks in a kept value.
     ghost marks_in: { Self.Kept → List Mark };
 
-    /// The notes are right of this change, which led to these objects.
+    /// The notes are correct for this change, which led to these objects.
     ghost notes_hold: { Self → ObjectMap → Change → Self.Notes → Type 0 };
 
-    /// What is kept after a change tells of what was kept before it.
+    /// The relation of the kept value before a change to the kept value after it.
     ghost tells: { Self.Kept → Self.Kept → Type 0 };
 
     /// Finds the row of a key and its marks.
@@ -90,11 +90,11 @@ pub trait RowRule: Drop {
         ensures steps { steps.new ≤ steps.old
             + cost store.now.objects ((filter self.now).reads store.now.objects key.now) };
 
-    /// The notes before any row has followed a change.
+    /// Returns the notes on a change that no row has followed yet.
     fn no_notes(&self, alloc: Global) -> Self::Notes
         ensures { (held : ObjectMap) (change : Change) → notes_hold self.now held change result };
 
-    /// Brings what is kept of a row up to a change, of which the row reads a mark.
+    /// Updates the kept value of a row for a change with a mark that the row reads.
     fn follow<L>(
         &self,
         after: &StoreChange,
@@ -127,14 +127,14 @@ pub trait RowRule: Drop {
     fn into_row(kept: Self::Kept) -> Self::Row
         ensures { result ≡ row_in kept };
 
-    /// Makes a list of the marks. This is asked for only where no move of marks is told.
+    /// Returns the marks in a kept value as a list.
     fn marks(alloc: Global, kept: &Self::Kept) -> Result<List<Mark>, Memory>
         ensures { IfOk result (λ marks. marks ≡ marks_in kept.now) };
 
-    /// What is kept gives the row and its marks.
+    /// A valid kept value has the row of its key and the marks that the row reads.
     ghost shows: { (rule : Self) → KeptShows (filter rule) (keeps rule) row_in marks_in };
 
-    /// What is kept of a row that reads no mark of a change stands after it.
+    /// The kept value of a row that reads no mark of a change stays valid after it.
     ghost stays: { (rule : Self) → KeptStays (filter rule) (keeps rule) };
 
     /// Equal keys are the same key.

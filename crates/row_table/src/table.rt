@@ -1,4 +1,4 @@
-// One table for all indexes.
+// The table behind all indexes.
 ghost use Rattle.std.specs.Prelude.{◌≡◌, ◌≤◌, ◌+◌, ℕ, false, true, None, Some, IsErr, IfOk, OnOk};
 ghost use Rattle.std.specs.List.{sum_by};
 ghost use Rattle.std.specs.Option.{option_copied};
@@ -22,7 +22,7 @@ use object_store::store::Store;
 use std::alloc::Global;
 use view_types::mark::Mark;
 
-/// The rows of one rule, each brought up to a change where it reads a mark of it.
+/// The rows of one rule by their keys. A change updates the rows that read one of its marks.
 #[derive(Drop)]
 pub struct RowTable<F: RowRule> {
     rule: F,
@@ -34,7 +34,7 @@ pub struct RowTable<F: RowRule> {
 }
 
 impl<F: RowRule> RowTable<F> {
-    /// A table without users. It stands for all objects.
+    /// Returns a table without users, which is current for any objects held.
     pub fn new(alloc: Global, rule: F) -> RowTable<F>
         ensures rule { result.rule ≡ rule }
         ensures none { (key : F.Key) → used_at F.Key.Ord.cmp result.table.used key ≡ None }
@@ -50,7 +50,7 @@ impl<F: RowRule> RowTable<F> {
         }
     }
 
-    /// What is kept of the row of a key that has users.
+    /// Returns the kept value of the row of a key that has users.
     pub fn kept(&self, key: &F::Key) -> Option<&F::Kept>
         ensures { option_copied result
             ≡ kept_in (row_at F.Key.Ord.cmp self.now.table.used self.now.table.rows key.now) }
@@ -62,8 +62,8 @@ impl<F: RowRule> RowTable<F> {
         }
     }
 
-    /// Brings the rows up to a change of the store that read a mark of it, and gives their keys. What is kept of each tells
-    /// what was kept before.
+    /// Updates the rows that read a mark of a change of the store, and returns their keys. The
+    /// relation `tells` holds between the old and the new kept value of each row.
     pub fn follow_change<L>(
         &mut self,
         store: &Store,

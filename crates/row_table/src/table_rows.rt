@@ -1,4 +1,4 @@
-// The rows of a table, each with a number by which the graph knows it.
+// The rows of a table, each with its number in the graph.
 ghost use Rattle.std.specs.Prelude.{◌≡◌, ◌≤◌, ◌+◌, ◌++◌, ◌∷◌, ℕ, Option, [], false, Some, None, IfOk, OnOk, if◌then◌else◌, is_some, nat_lt, option_map};
 ghost use Rattle.std.specs.BTreeMap as tree;
 ghost use Rattle.std.specs.List.{sum_by};
@@ -24,21 +24,21 @@ use std::alloc::Global;
 use std::collections::BTreeMap;
 use view_types::mark::Mark;
 
-/// A row that is kept while its key has users.
+/// A row and its key, kept while the key has users.
 #[derive(Drop)]
 pub struct KeptRow<K, T> {
     pub key: K,
     pub kept: T,
 }
 
-/// The keys that have users, the row of each by its number, and the marks that each number watches. A change finds its rows by
-/// their numbers, without a search for a key.
+/// The keys that have users, the row of each key by its number, and the marks that each number
+/// watches. A change finds its rows by number, without a search by key.
 #[derive(Drop)]
 pub struct TableRows<F: RowRule> {
     pub used: KeyNumbers<F::Key>,
     pub rows: BTreeMap<u64, KeptRow<F::Key, F::Kept>>,
     pub graph: Graph<Mark>,
-    /// The keys whose rows may be others than before the last change.
+    /// The keys whose rows may differ from those before the last change.
     pub differing: List<F::Key>,
     /// The numbers of the rows that read a mark of the last change, ascending.
     pub met: List<u64>,
@@ -47,14 +47,14 @@ pub struct TableRows<F: RowRule> {
     pub alloc: Global,
 }
 
-/// A rule, and a change that its rows follow.
+/// A rule, and a change for which its rows are updated.
 #[derive(Drop)]
 pub struct RuleChange<'a, F: RowRule> {
     pub rule: &'a F,
     pub after: StoreChange<'a>,
 }
 
-/// The keys whose rows have followed a change so far, and what was noted of it.
+/// The keys whose rows were updated for a change so far, and the notes on the change.
 #[derive(Drop)]
 pub struct Pass<F: RowRule> {
     pub keys: List<F::Key>,
@@ -78,7 +78,7 @@ impl<F: RowRule> TableRows<F> {
         }
     }
 
-    /// Counts one user more of the key. A key that had none gets its row over the objects held.
+    /// Adds a user to the key. For the first user, finds the row over the objects held.
     pub fn enter<L>(
         &mut self,
         rule: &F,
@@ -110,7 +110,7 @@ impl<F: RowRule> TableRows<F> {
         self.add_row(key, kept)
     }
 
-    // Counts one user more of the key, if it has users. Returns whether it has.
+    // Adds a user to the key, if it has users. Returns whether it has.
     fn add_user(&mut self, key: &F::Key) -> Result<bool, Memory>
         ensures there { IfOk result (λ there.
             there ≡ is_some (used_at F.Key.Ord.cmp self.old.used key.now)) }
@@ -125,7 +125,7 @@ impl<F: RowRule> TableRows<F> {
         self.used.add_user(key)
     }
 
-    // Keeps a row for a key that has none.
+    // Adds the row of a key that has no users, which gets one user and the next number.
     fn add_row(&mut self, key: F::Key, kept: F::Kept) -> Result<(), Memory>
         requires none { used_at F.Key.Ord.cmp self.old.used key ≡ None }
         requires tied { AreTied F.Key.Ord.cmp F.marks_in self.old.used self.old.rows
@@ -149,7 +149,7 @@ impl<F: RowRule> TableRows<F> {
         self.used.insert(key, number)
     }
 
-    /// Counts one user less of the key, if it has users. Its row goes with the last.
+    /// Removes a user of the key, if it has any. The row is removed with the last user.
     pub fn drop_user(&mut self, key: &F::Key)
         ensures put { PutsAt F.Key.Ord.cmp key.now
             (one_less (used_at F.Key.Ord.cmp self.old.used key.now))
@@ -166,7 +166,7 @@ impl<F: RowRule> TableRows<F> {
         }
     }
 
-    // Lets a key go, and its row, which has this number.
+    // Removes a key and its row, which has this number.
     fn remove_row(&mut self, key: &F::Key, number: u64)
         requires { number_at F.Key.Ord.cmp self.old.used key.now ≡ Some number }
         ensures put { PutsAt F.Key.Ord.cmp key.now None (used_at F.Key.Ord.cmp self.old.used)
@@ -182,7 +182,7 @@ impl<F: RowRule> TableRows<F> {
         unwatch(&mut self.graph, number);
     }
 
-    /// Brings the rows up to a change that read a mark of it, and gives their keys.
+    /// Updates the rows that read a mark of a change, and returns their keys.
     pub fn follow<L>(
         &mut self,
         by: &RuleChange<F>,
@@ -224,7 +224,7 @@ impl<F: RowRule> TableRows<F> {
         Ok(keys)
     }
 
-    // Brings the row of a number up to a change, and adds its key to the pass, and to those that differ if the row may.
+    // Updates the row of a number. Adds its key to the pass, and to `differing` if it may differ.
     fn follow_number<L>(
         &mut self,
         by: &RuleChange<F>,
@@ -283,7 +283,7 @@ impl<F: RowRule> TableRows<F> {
     }
 }
 
-// Lets the number of a row watch the row's marks, if they may be others than before.
+// Updates the marks that the number of a row watches, unless they are the same.
 fn rewatch<F: RowRule>(
     alloc: Global,
     graph: &mut Graph<Mark>,
@@ -301,7 +301,7 @@ fn rewatch<F: RowRule>(
     }
 }
 
-// Puts the key at the end if its row may differ.
+// Appends the key if its row may differ.
 fn note_differing<K: Copied>(
     alloc: Global,
     differing: &mut List<K>,

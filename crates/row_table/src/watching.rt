@@ -1,4 +1,4 @@
-// Which marks each number watches, in the order of marks.
+// The graph of the marks that each number watches, in the order of marks.
 ghost use Rattle.std.specs.Prelude.{◌≡◌, ℕ, false, IfOk, OnOk};
 ghost use Rattle.std.specs.List.{list_any};
 ghost use Rattle.std.specs.List.Sorted.{IsStrictlySortedBy};
@@ -15,7 +15,7 @@ use mesh_base::memory::Memory;
 use std::alloc::Global;
 use view_types::mark::Mark;
 
-/// A graph in which nothing is watched.
+/// Returns a graph in which nothing is watched.
 pub fn new_graph(alloc: Global) -> Graph<Mark>
     ensures none { (n : ℕ) (mark : TheMark) → watches mark_cmp result.rows n mark ≡ false }
     ensures going { result.spent ≡ false }
@@ -23,7 +23,7 @@ pub fn new_graph(alloc: Global) -> Graph<Mark>
     Graph::new(alloc)
 }
 
-/// Lets the number watch these marks, and no others.
+/// Replaces the marks that the number watches by these.
 pub fn watch(graph: &mut Graph<Mark>, number: u64, marks: List<Mark>) -> Result<(), Memory>
     ensures watched { OnOk result
         (Rewatches mark_cmp (has_mark marks) number graph.old.rows graph.new.rows) }
@@ -32,7 +32,7 @@ pub fn watch(graph: &mut Graph<Mark>, number: u64, marks: List<Mark>) -> Result<
     graph.watch(number, marks)
 }
 
-/// Lets the number watch some marks more, and some no more.
+/// Adds some marks to those that the number watches, and removes others.
 pub fn move_marks(
     graph: &mut Graph<Mark>,
     number: u64,
@@ -46,7 +46,7 @@ pub fn move_marks(
     graph.move_marks(number, moves)
 }
 
-/// Lets the number watch nothing.
+/// Removes all marks that the number watches.
 pub fn unwatch(graph: &mut Graph<Mark>, number: u64)
     ensures watched { Rewatches mark_cmp (λ mark. false) number graph.old.rows graph.new.rows }
     ensures going { graph.new.spent ≡ graph.old.spent }
@@ -54,7 +54,7 @@ pub fn unwatch(graph: &mut Graph<Mark>, number: u64)
     graph.unwatch(number);
 }
 
-/// The numbers that watch one of these marks, ascending.
+/// Returns the numbers that watch one of these marks, ascending.
 pub fn due(graph: &mut Graph<Mark>, marks: &[Mark]) -> Result<List<u64>, Memory>
     ensures due { IfOk result (λ numbers. (n : ℕ)
         → has_row n numbers ≡ list_any (λ mark. watches mark_cmp graph.old.rows n mark) marks.now) }

@@ -1,4 +1,4 @@
--- What is counted of the bytes that were written.
+-- The counts of the bytes that were written.
 use Rattle.std.specs.Prelude.{◌≡◌, ◌++◌, ◌==◌, ◌&&◌, ◌||◌, ◌<◌, ◌≤◌, ℕ, Bool, true, false, List, [], ◌∷◌, length, take, count_by, codes, bytes_eq, if◌then◌else◌}
 use Rattle.line_run.specs.Joined.{Unbroken, ended_lines}
 use Rattle.line_run.specs.Rows.{NoBreak}
@@ -9,15 +9,15 @@ use Rattle.run_report.specs.declared.output.Place.TheVariants as places
 use Rattle.run_report.specs.declared.output.Word.{Word}
 use Rattle.run_report.specs.declared.output.Word.TheVariants as words
 
--- ---- what a line says
+-- ---- the content of a line
 
--- the line begins with the word
+-- whether the line begins with the word
 abbrev pub begins : List ℕ → List ℕ → Bool
 begins [] line = true
 begins (byte ∷ word) [] = false
 begins (byte ∷ word) (first ∷ line) = (byte == first) && begins word line
 
--- what stands behind the first space
+-- the bytes after the first space
 abbrev pub behind_space : List ℕ → List ℕ
 behind_space [] = []
 behind_space (byte ∷ line) = if byte == 32 then line else behind_space line
@@ -25,14 +25,14 @@ behind_space (byte ∷ line) = if byte == 32 then line else behind_space line
 abbrev pub says_refused : List ℕ → Bool
 says_refused line = begins (codes "refused ") line
 
--- `NotJson` alone stands behind the number of the line that was refused
+-- whether exactly `NotJson` follows the number of the refused line
 abbrev pub says_not_json : List ℕ → Bool
 says_not_json line = says_refused line && bytes_eq (codes "NotJson") (behind_space (behind_space line))
 
 abbrev pub has_frame : List ℕ → Bool
 has_frame line = begins (codes "frame ") line || begins (codes "view ") line
 
--- ---- where the last line has come
+-- ---- the position in the last line
 
 unfoldable pub word_text : Word → List ℕ
 word_text words.Refused = codes "refused "
@@ -44,13 +44,13 @@ abbrev pub NoSpace : List ℕ → Type 0
 NoSpace [] = Unit {0}
 NoSpace (byte ∷ bytes) = ((byte == 32) ≡ false) × NoSpace bytes
 
--- whatever follows in the line, it says that a line was refused, or has a frame, as these tell; the fault isn't `NotJson`
+-- for any continuation the line reports a refusal, or has a frame, as given, and never `NotJson`
 pub record Stays (is_refused is_frame : Bool) (line : List ℕ) : Type 0 where
   pub refused : (more : List ℕ) → says_refused (line ++ more) ≡ is_refused
   pub frame : (more : List ℕ) → has_frame (line ++ more) ≡ is_frame
   pub not_json : (more : List ℕ) → says_not_json (line ++ more) ≡ false
 
--- a front of the word, neither empty nor whole
+-- a prefix of the word, neither empty nor complete
 pub record IsWithin (word : List ℕ) (matched : ℕ) (line : List ℕ) : Type 0 where
   pub some : 0 < matched
   pub part : matched < length word
@@ -76,8 +76,8 @@ IsAt places.OtherFault line = Stays true false line
 IsAt places.Frame line = Stays false true line
 IsAt places.Other line = Stays false false line
 
--- The text is these lines, with an LF behind each, and a last one without. Of the lines with LF those are counted that say
--- that a line was refused, or why, or have a frame.
+-- The bytes are these lines, each with an LF, and a last one without. Each count is that of the
+-- lines with LF that report a refused line, or report `NotJson`, or have a frame.
 pub record AreWritten (counts : OutputCounts) (written : List ℕ) : Type 0 where
   pub lines : List (List ℕ)
   pub last : List ℕ

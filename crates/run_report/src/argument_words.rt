@@ -1,4 +1,4 @@
-// Finds what is wrong with the words after the name of a command.
+// Finds the error in the words after the name of a command.
 use crate::command::{Command, value_of};
 use crate::options::{ARGUMENTS, Argument};
 use crate::words::{CommandReader, Wrong};
@@ -6,7 +6,7 @@ use mesh_base::memory::Memory;
 use mesh_base::text::Text;
 use std::alloc::Global;
 
-// What was read of the words so far.
+// The state after some of the words.
 #[derive(Drop)]
 struct Walk<'a> {
     command: Command,
@@ -18,7 +18,7 @@ struct Walk<'a> {
 }
 
 impl<'a> Walk<'a> {
-    // Reads the next word, and returns what is wrong with it.
+    // Reads the next word. Returns its error and the word to report, if it is wrong.
     fn step(&mut self, word: &'a str) -> Option<(Wrong, &'a str)> {
         let is_hyphened = word.len() > 1 && word.starts_with("-");
         if let Some(option) = self.pending.take() {
@@ -63,7 +63,7 @@ impl<'a> Walk<'a> {
     }
 }
 
-// The words of a command that has all their options, each with a value.
+// The words of a command. The command has all the options, and each has a value.
 #[derive(Clone, Copy)]
 struct ArgumentWords<'a> {
     command: Command,
@@ -71,7 +71,7 @@ struct ArgumentWords<'a> {
     number: Option<&'a str>,
 }
 
-// Reads the options and the number, and not yet their values.
+// Checks the options and the number, but not the values of options.
 fn read_form<'a>(
     command: Command,
     words: &'a [Text],
@@ -104,7 +104,7 @@ fn is_option(word: &str, name: &str) -> bool {
     }
 }
 
-// The words of a command line to which an argument with this value is added.
+// Returns the words of a command line with one more argument of this value.
 fn probe_words(
     alloc: Global,
     probe: &str,
@@ -154,7 +154,7 @@ impl<'a> ArgumentWords<'a> {
         argument.is_needed(self.command, self.method()) && self.value(argument).is_none()
     }
 
-    // The reader refuses a command line because of the value alone.
+    // Whether the reader refuses a command line because of the value of the argument alone.
     fn is_refused<R: CommandReader>(&self, alloc: Global, argument: Argument, reader: &R) -> bool {
         let (Some(value), Some(probe)) = (self.value(argument), argument.probe()) else {
             return false;
@@ -168,7 +168,7 @@ impl<'a> ArgumentWords<'a> {
         }
     }
 
-    // What is wrong with the options and their values.
+    // Returns the error in the options and their values.
     fn wrong<R: CommandReader>(&self, alloc: Global, reader: &R) -> (Wrong, &'a str) {
         for argument in &ARGUMENTS {
             if self.is_twice(*argument) {
@@ -182,7 +182,7 @@ impl<'a> ArgumentWords<'a> {
         self.missing_or_path()
     }
 
-    // If no option is missing, only the target can be what is refused.
+    // Returns the first missing option. If none is missing, only the target can be wrong.
     fn missing_or_path(&self) -> (Wrong, &'a str) {
         for argument in &ARGUMENTS {
             if self.is_missing(*argument) {
@@ -198,7 +198,7 @@ impl<'a> ArgumentWords<'a> {
     }
 }
 
-/// What is wrong with the words after the name of a command, and the word that is wrong.
+/// Finds the error in the words after the name of a command, and the word that is wrong.
 pub(crate) fn wrong_after<'a, R: CommandReader>(
     alloc: Global,
     command: Command,

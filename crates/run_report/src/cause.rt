@@ -1,4 +1,4 @@
-// What a line is that is not part of a feed, and how to make a feed of it.
+// Finds out why a line is not part of a feed, and how to convert it to a feed.
 use crate::front::Front;
 use crate::json::{after_space, eat, string};
 use crate::printable::JsonString;
@@ -6,22 +6,22 @@ use memchr::memmem;
 use std::fmt;
 use std::fmt::{Display, Formatter};
 
-/// What was recorded in place of a line of a feed.
+/// The kind of data that was recorded instead of a line of a feed.
 #[derive(Clone, Copy, PartialEq, Eq)]
 pub(crate) enum Cause {
     Gzip,
     ByteOrderMark,
     Utf16,
     Yaml,
-    /// A JSON value over several lines.
+    /// A JSON value that spans several lines.
     Indented,
     /// Several JSON values on one line.
     Joined,
     /// A `List` of mixed kinds, as kubectl prints it.
     MixedList,
-    /// An object without a watch event around it.
+    /// An object that is not in a watch event.
     Bare,
-    /// A Status, which an API server sends when a request fails.
+    /// A Status, which an API server returns for a failed request.
     Answer,
 }
 
@@ -33,7 +33,7 @@ fn is_yaml(text: &[u8]) -> bool {
         .any(|front| text.starts_with(front.as_bytes()))
 }
 
-// The line is an opening brace or bracket alone.
+// Whether the line is only an opening brace or bracket.
 fn opens_alone(text: &[u8]) -> bool {
     match text {
         [b'{' | b'[', after @ ..] => after_space(after).is_empty(),
@@ -42,7 +42,7 @@ fn opens_alone(text: &[u8]) -> bool {
 }
 
 impl Cause {
-    /// The cause that the first bytes of a line show.
+    /// Returns the cause, if the first bytes of a line show it.
     pub(crate) fn of_bytes(first: &[u8]) -> Option<Cause> {
         match first {
             [0x1f, 0x8b, ..] => return Some(Cause::Gzip),
@@ -60,7 +60,7 @@ impl Cause {
         }
     }
 
-    /// The cause that the members of a line show.
+    /// Returns the cause, if the members of a line show it.
     pub(crate) fn of_front(front: &Front<'_>) -> Option<Cause> {
         let kind = front.kind?;
         if kind == b"Status".as_slice() {
@@ -96,7 +96,7 @@ impl Cause {
     }
 }
 
-// The message of a Status, if it is complete in the first bytes.
+// Returns the message of a Status, if it is complete in the first bytes.
 fn message_of<'a>(first: &'a [u8]) -> Option<&'a [u8]> {
     let at = memmem::find(first, b"\"message\"")?;
     let (_, after) = string(first.get(at..)?)?;
@@ -104,7 +104,7 @@ fn message_of<'a>(first: &'a [u8]) -> Option<&'a [u8]> {
     Some(message)
 }
 
-/// A hint on a line that was refused: what it is, and a command that makes a feed of it.
+/// A hint on a refused line: its cause, and a command that converts it to a feed.
 #[derive(Clone, Copy, Drop)]
 pub(crate) struct Hint<'a> {
     pub(crate) number: u64,

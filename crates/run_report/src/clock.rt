@@ -1,6 +1,6 @@
 use std::time::{Clock, Duration, Instant};
 
-/// When a run began, where the clock told it.
+/// The start of a run, or None if the clock failed.
 #[derive(Clone, Copy)]
 pub struct StartTime {
     instant: Option<Instant>,
@@ -13,18 +13,18 @@ impl StartTime {
         }
     }
 
-    /// The time since then.
+    /// Returns the time since the start, or None if the clock failed.
     pub fn elapsed<C: Clock>(self, clock: &C) -> Option<Duration> {
         self.instant?.elapsed(clock).ok()
     }
 }
 
-/// Tells when something is due that is shown at most once in each second after the first.
+/// A timer that is due at most once in each second after the first.
 #[derive(Drop)]
 pub struct EachSecond<C> {
     clock: C,
     start: StartTime,
-    // The seconds that had passed when it was last due.
+    // The number of seconds since the start when the timer was last due.
     seconds: u64,
 }
 
@@ -37,7 +37,7 @@ impl<C: Clock> EachSecond<C> {
         }
     }
 
-    /// Whether it is due now. It is not due again in the same second.
+    /// Whether the timer is due. It is then not due again in the same second.
     pub fn is_due(&mut self) -> bool {
         let Some(elapsed) = self.start.elapsed(&self.clock) else {
             return false;
@@ -50,7 +50,7 @@ impl<C: Clock> EachSecond<C> {
         true
     }
 
-    /// Whether it was ever due.
+    /// Whether the timer was ever due.
     pub fn was_due(&self) -> bool {
         self.seconds > 0
     }

@@ -13,7 +13,7 @@ pub enum Command {
 pub(crate) static COMMANDS: [&str; 5] = ["replay", "diagnose", "fold", "sample", "serve"];
 
 impl Command {
-    /// The command that a word names.
+    /// Returns the command with a name.
     pub fn named(word: &str) -> Option<Command> {
         match word {
             "replay" => Some(Command::Replay),
@@ -35,13 +35,13 @@ impl Command {
         }
     }
 
-    /// The input of the command is a feed.
+    /// Whether the input of the command is a feed.
     pub(crate) fn reads_feed(self) -> bool {
         self == Command::Replay || self == Command::Diagnose
     }
 }
 
-/// The value of an option among words in which each option has one, as `--name VALUE` or `--name=VALUE`.
+/// Returns the value of an option, written `--name VALUE` or `--name=VALUE`. Each option has one.
 pub(crate) fn value_of<'a>(words: &'a [Text], option: &str) -> Option<&'a str> {
     let mut is_next = false;
     for word in words {
@@ -58,7 +58,7 @@ pub(crate) fn value_of<'a>(words: &'a [Text], option: &str) -> Option<&'a str> {
     None
 }
 
-/// What a command line asks for.
+/// The command, the method and the path of a command line.
 #[derive(Clone, Copy)]
 pub struct CommandLine<'a> {
     pub(crate) command: Command,
@@ -67,7 +67,7 @@ pub struct CommandLine<'a> {
 }
 
 impl<'a> CommandLine<'a> {
-    /// Reads a command line that is accepted. None if its first word is not a command.
+    /// Reads an accepted command line, or returns None if its first word is not a command.
     pub fn of(words: &'a [Text]) -> Option<CommandLine<'a>> {
         let (first, options) = words.split_first()?;
         Some(CommandLine {

@@ -1,12 +1,12 @@
-// Keeps the last error of a reader or a writer. A source and a sink do not tell it.
+// Records the last error of a reader or a writer, which a source or a sink does not return.
 use std::cell::Cell;
 use std::io;
 use std::io::{Read, Write};
 
-/// The last error, if there was one.
+/// The last error, or None if there was none.
 pub type LastError = Cell<Option<io::Error>>;
 
-/// A reader or a writer that passes every call on to another, and keeps its last error.
+/// A reader or a writer that passes each call on to another, and records its last error.
 #[derive(Drop)]
 pub struct ErrorKeeper<'a, T> {
     inner: T,

@@ -1,4 +1,4 @@
-// Notes what the lines of a feed are from their first and last bytes: which kinds occur, and what was recorded wrongly.
+// Records the kinds and the mistakes of a feed, from the first and last bytes of its lines.
 use crate::cause::{Cause, Hint};
 use crate::front::Front;
 use crate::json::after_space;
@@ -12,12 +12,12 @@ use std::alloc::{AllocError, Global};
 use std::fmt;
 use std::fmt::{Display, Formatter};
 
-/// Why a list that is accepted may remove objects by mistake.
+/// The reason why an accepted list may remove objects by mistake.
 #[derive(Clone, Copy)]
 pub(crate) enum ListFault {
-    /// It is one page of a list.
+    /// The list is one page of a longer list.
     Page,
-    /// The line with this number is a list of the same kind, and there is no event of the kind between them.
+    /// The line with this number lists the same kind, and no event of the kind is between them.
     Again(u64),
 }
 
@@ -54,21 +54,21 @@ struct OddLine {
     first: Vec<u8>,
 }
 
-/// What is known of the lines so far.
+/// The state after the lines so far.
 #[derive(Drop)]
 pub(crate) struct FeedLines {
     alloc: Global,
     number: u64,
     pub(crate) kinds: KindTable,
-    /// A line subscribes or simulates.
+    /// Whether a line subscribes or simulates.
     pub(crate) has_request: bool,
-    /// For some line it is not known what it is. It may have been accepted.
+    /// Whether the form of some line is unknown. The line may have been accepted.
     pub(crate) is_unsure: bool,
-    // The first line has `}{`, as several values on one line have.
+    // Whether the first line has `}{`, as several values on one line do.
     is_joined: bool,
-    // The part of the first line that was read ends with `}`.
+    // Whether the part of the first line that was read ends with `}`.
     is_closed: bool,
-    /// The first such list.
+    /// The first list that may remove objects by mistake.
     pub(crate) list: Option<ListNote>,
     odd: Option<OddLine>,
 }
@@ -88,7 +88,7 @@ impl FeedLines {
         }
     }
 
-    // Looks for several values on the first line. An input without line feeds is one line.
+    // Looks for several values on the first line. An input without LF is one line.
     fn look_for_joined(&mut self, part: &[u8]) {
         if self.number > 0 || self.is_joined {
             return;
@@ -158,7 +158,7 @@ impl FeedLines {
         Ok(())
     }
 
-    /// The hint on a line that was refused.
+    /// Returns the hint on a refused line, if there is one.
     pub(crate) fn hint(&self, refused: &RefusedLine<'_>) -> Option<Hint<'_>> {
         let number = refused.number;
         match &self.odd {
@@ -188,7 +188,7 @@ fn is_request(control: &[u8]) -> bool {
     control == b"subscribe".as_slice() || control == b"simulate".as_slice()
 }
 
-// The kind of the objects of an event or a list.
+// Returns the kind of the objects of an event or a list.
 fn kind_of<'a>(front: &Front<'a>) -> Option<&'a [u8]> {
     let kind = front.kind?;
     if front.is_event {
@@ -198,7 +198,7 @@ fn kind_of<'a>(front: &Front<'a>) -> Option<&'a [u8]> {
     }
 }
 
-/// What is noted of a feed. However long the feed is, it keeps a bounded number of bytes.
+/// The record of a feed. Its size is bounded for a feed of any length.
 #[derive(Drop)]
 pub struct FeedNotes {
     open: OpenLine,
@@ -217,7 +217,7 @@ impl FeedNotes {
         take_parts(self, piece);
     }
 
-    /// The input has ended. A last line without LF counts.
+    /// Ends the input. A last line without LF counts.
     pub(crate) fn end(&mut self) {
         if !self.open.is_empty {
             self.note_open();

@@ -1,24 +1,24 @@
-// Reads what a line of a feed is from its first bytes. A list that has its kind after its items is read from its last bytes.
+// Reads the first members of a line of a feed. A `kind` after `items` is read from the last bytes.
 use crate::json::{after_empty_list, after_scalar, eat, key, next_member, string};
 use memchr::{memchr, memmem};
 
-// How many members of a line are read. API servers and jq write the members that are looked for before longer ones.
+// The greatest number of members to read. API servers and jq write the short members first.
 const MAX_MEMBERS: usize = 12;
 
-/// What a line is, as far as its first and last bytes show it.
+/// The members of a line, as far as its first and last bytes show them.
 #[derive(Clone, Copy)]
 pub(crate) struct Front<'a> {
     /// The value of `control`.
     pub(crate) control: Option<&'a [u8]>,
     /// The kind of the object of a watch event, or of the line itself.
     pub(crate) kind: Option<&'a [u8]>,
-    /// The group of the last `apiVersion`. The empty group is that of `v1`.
+    /// The API group of the last `apiVersion`, which is empty for `v1`.
     pub(crate) group: &'a [u8],
-    /// The line has the member `object`, as watch events have.
+    /// Whether the line has the member `object`, as watch events do.
     pub(crate) is_event: bool,
-    /// The line is one page of a list: `metadata.continue` is not empty.
+    /// Whether the line is one page of a list: `metadata.continue` is not empty.
     pub(crate) is_page: bool,
-    // The line has `items`. The members after them were not read.
+    // Whether the line has `items`. The members after them were not read.
     has_items: bool,
 }
 
@@ -41,7 +41,7 @@ impl<'a> Front<'a> {
         }
     }
 
-    /// Reads a line, of which these are the first and the last bytes.
+    /// Reads a line from its first and its last bytes.
     pub(crate) fn read(first: &'a [u8], last: &'a [u8]) -> Front<'a> {
         let Some(members) = eat(first, b'{') else {
             return Front::none();
@@ -56,7 +56,7 @@ impl<'a> Front<'a> {
         }
     }
 
-    // The members that were not read do not matter.
+    // Whether the other members of the line do not matter.
     fn is_whole(&self) -> bool {
         self.control.is_some() || self.is_event && self.kind.is_some()
     }
@@ -76,8 +76,8 @@ impl<'a> Front<'a> {
         front
     }
 
-    // Reads one member, and returns the bytes of the next one. The members of `object` and of a list's `metadata` are read as
-    // if they were members of the line.
+    // Reads one member. Returns the bytes of the next one. The members of `object` and of the
+    // `metadata` of a list are read like members of the line.
     fn take_member(&mut self, bytes: &'a [u8]) -> Option<&'a [u8]> {
         let (name, value) = key(bytes)?;
         if let Some(inside) = eat(value, b'{') {

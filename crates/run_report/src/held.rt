@@ -1,11 +1,11 @@
-// How many objects are held, by their kinds.
+// The number of held objects, by kind.
 use mesh_base::key::Kind;
 use std::fmt;
 use std::fmt::{Display, Formatter};
 
 const KINDS: usize = 11;
 
-// The kinds, with the names that Kubernetes has for them.
+// The kinds, with their names in Kubernetes.
 static NAMES: [(Kind, &str); KINDS] = [
     (Kind::Pod, "Pod"),
     (Kind::Service, "Service"),
@@ -27,17 +27,17 @@ fn name_at(place: usize) -> &'static str {
     }
 }
 
-/// How many objects of each kind are held.
+/// The number of held objects of each kind.
 #[derive(Clone, Copy)]
 pub struct HeldObjects {
     counts: [u64; KINDS],
 }
 
 impl HeldObjects {
-    /// Nothing is held.
+    /// No objects.
     pub const NONE: HeldObjects = HeldObjects { counts: [0; KINDS] };
 
-    /// Counts an object of this kind.
+    /// Counts an object of a kind.
     pub fn add(&mut self, kind: Kind) {
         for (place, (named, _)) in NAMES.iter().enumerate() {
             if *named == kind {
@@ -46,7 +46,7 @@ impl HeldObjects {
         }
     }
 
-    /// How many objects are held.
+    /// Returns the number of held objects.
     pub fn total(&self) -> u64 {
         let mut total: u64 = 0;
         for count in &self.counts {
@@ -56,7 +56,7 @@ impl HeldObjects {
     }
 }
 
-/// The kinds that are held, with their numbers of objects: `Pod (1), Service (2)`.
+/// Formats the kinds that are held with their numbers of objects, such as `Pod (1), Service (2)`.
 impl Display for HeldObjects {
     fn fmt<W: fmt::Write>(&self, f: &mut Formatter<W>) -> fmt::Result {
         let mut before = "";

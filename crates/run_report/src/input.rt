@@ -1,4 +1,4 @@
-// Counts what is read.
+// Counts the input.
 ghost use Rattle.std.specs.Prelude.{◌≡◌, ◌++◌, ℕ, List, [], take, false, true, IfOk, OnErr};
 ghost use Rattle.std.specs.Io.{ReadsAtMost};
 ghost use Rattle.std.specs.Io.KnownBytes.{ReadConsumes};
@@ -13,17 +13,17 @@ use std::alloc::Global;
 use std::io::Write;
 use std::time::Clock;
 
-/// How much was read.
+/// The counts of the input.
 #[derive(Clone, Copy)]
 pub struct InputCounts {
-    /// Something was asked for.
+    /// Whether a read has succeeded.
     pub was_asked: bool,
     pub bytes: u64,
     pub lines: LineCount,
 }
 
 impl InputCounts {
-    /// Nothing was read.
+    /// No input.
     pub const NONE: InputCounts = InputCounts {
         was_asked: false,
         bytes: 0,
@@ -48,12 +48,12 @@ impl InputCounts {
     }
 }
 
-/// A source that passes all on from another, counts it, and shows it where there is a line for it.
+/// A source that passes on the bytes of another, counts them, and shows progress on a screen.
 #[derive(Drop)]
 pub struct InputTally<S, C, W> {
     source: S,
     counts: InputCounts,
-    /// What is noted of the input if it is a feed.
+    /// The record of the input as a feed.
     pub feed: FeedNotes,
     pub progress: Option<Progress<C, W>>,
 }
@@ -72,7 +72,7 @@ impl<S: Source, C: Clock, W: Write> InputTally<S, C, W> {
         }
     }
 
-    /// What was read. No progress stands on the screen then.
+    /// Ends the input and clears the progress. Returns the counts.
     pub fn end(&mut self) -> InputCounts
         ensures source { self.new.source ≡ self.old.source }
         ensures counts { result ≡ self.old.counts }
@@ -102,7 +102,7 @@ impl<S: Source, C: Clock, W: Write> Source for InputTally<S, C, W> {
             (S.left self.new.source) result buf.new }
         ensures cause { HasCause (S.faults self.old.source) (S.faults self.new.source) result }
 
-        // What is given is counted.
+        // The bytes that are returned are counted.
         ensures counts { (bytes : List ℕ) → AreCounts self.old.counts bytes
             → IfOk result (λ n. AreCounts self.new.counts (bytes ++ take n buf.new)) }
         ensures asked { IfOk result (λ n. self.new.counts.was_asked ≡ true) }

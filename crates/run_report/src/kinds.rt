@@ -1,7 +1,7 @@
 // The kinds of the objects of a feed.
 use std::alloc::{AllocError, Global};
 
-// How many kinds are noted. The program reads 11.
+// The greatest number of kinds that are recorded. The program reads 11.
 const MAX_KINDS: usize = 24;
 
 const MAX_NAME_LENGTH: usize = 64;
@@ -10,8 +10,8 @@ const MAX_NAME_LENGTH: usize = 64;
 #[derive(Drop)]
 pub(crate) struct KindLines {
     name: Vec<u8>,
-    // The number of the kind's last line, if that is a list, and the group of the list. Two kinds of different groups may have
-    // the same name.
+    // The number of the last line of the kind, if it is a list, and the group of the list. Kinds of
+    // different groups may have the same name.
     list: Option<u64>,
     group: Vec<u8>,
 }
@@ -21,8 +21,8 @@ impl KindLines {
         self.list = None;
     }
 
-    /// Notes a list at the line with this number. Returns the number of the list of the same group before it, if there is no event
-    /// between them.
+    /// Records a list at the line with this number. Returns the number of the list of the same
+    /// group before it, if there is no event between them.
     pub(crate) fn note_list(&mut self, number: u64, group: &[u8]) -> Option<u64> {
         let before = if self.group.as_slice() == group {
             self.list
@@ -57,7 +57,7 @@ impl KindTable {
         self.place_of(name).is_some()
     }
 
-    /// The entry of this kind, which is added if it is new. None if there is no room for another kind.
+    /// Returns the entry of a kind, which is added if it is new. None if it cannot be added.
     pub(crate) fn with_line(&mut self, name: &[u8]) -> Option<&mut KindLines> {
         let at = match self.place_of(name) {
             Some(at) => at,

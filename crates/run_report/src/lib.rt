@@ -1,9 +1,9 @@
-//! What standard error is told of a run: what is wrong with the command line, what failed, what is missing in a feed or was recorded
-//! wrongly, and on a terminal what was read and written and how far the run has come.
+//! Messages on standard error: errors of the command line, failures, mistakes in a feed, and on a
+//! terminal the progress and the counts of a run.
 //!
-//! Stands on line_run for the statuses, and on mesh_outside for the source and the sink that it counts on. That
-//! `InputTally` and `OutputTally` pass all on is the contract of `Source` and `Sink`; what was read is counted as in
-//! `specs/Counts`, and what was written as in `specs/Written`.
+//! Depends on line_run for the statuses, and on mesh_outside for the source and the sink whose
+//! bytes are counted. `InputTally` and `OutputTally` meet the contracts of `Source` and `Sink`.
+//! `specs/Counts` defines the counts of the input, and `specs/Written` those of the output.
 #![tactic(auto)]
 
 mod argument_words;

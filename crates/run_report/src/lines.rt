@@ -6,7 +6,7 @@ use memchr::memchr;
 
 const LINE_FEED: u8 = b'\n';
 
-// Where the first LF stands.
+// Returns the index of the first LF.
 pub(crate) fn first_break(bytes: &[u8]) -> Option<usize>
     ensures within { IfSome result (λ at. at < length bytes.now) }
     ensures cut { IfSome result
@@ -17,23 +17,23 @@ pub(crate) fn first_break(bytes: &[u8]) -> Option<usize>
     memchr(LINE_FEED, bytes)
 }
 
-/// How many lines came.
+/// The count of lines.
 #[derive(Clone, Copy)]
 pub struct LineCount {
-    /// A last one without LF counts.
+    /// The number of lines. A last one without LF counts.
     pub count: u64,
-    // The last line has no LF yet.
+    // Whether the last line has no LF yet.
     is_open: bool,
 }
 
 impl LineCount {
-    /// No line.
+    /// No lines.
     pub const NONE: LineCount = LineCount {
         count: 0,
         is_open: false,
     };
 
-    // Adds bytes of one line, which may go on behind them.
+    // Adds bytes of one line, which may continue after them.
     #[tactic(auto, using(crate::proofs::Growth::part_begins, crate::proofs::Growth::part_goes_on, crate::proofs::Growth::ends_open_part))]
     fn take_part(&mut self, part: &[u8])
         requires { NoBreak part.now }
@@ -76,9 +76,9 @@ impl LineCount {
     }
 }
 
-/// Reads lines that come in parts.
+/// A reader of lines that arrive in parts.
 pub(crate) trait LineParts {
-    /// Adds bytes of a line that goes on behind them.
+    /// Adds bytes of a line that continues after them.
     fn take_part(&mut self, part: &[u8]);
 
     /// Adds the last bytes of a line, which may be none.

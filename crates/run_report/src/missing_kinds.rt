@@ -1,4 +1,4 @@
-// The kinds of objects that the view of a query is made from.
+// The kinds of objects that the view of a query depends on.
 use crate::command::CommandLine;
 use crate::kinds::KindTable;
 use std::fmt;
@@ -27,7 +27,7 @@ fn kinds_of(method: &str) -> &'static [&'static str] {
     }
 }
 
-// How many of the kinds, from the first, the query needs. The others may be absent from a cluster.
+// Returns how many of the kinds, from the first, a query needs. A cluster may lack the others.
 fn needed_of(line: &CommandLine<'_>) -> usize {
     if line.method == "Get" { 2 } else { 1 }
 }
@@ -39,7 +39,7 @@ fn is_address(path: &str) -> bool {
     }
 }
 
-/// The kinds that a query asks for and a feed does not have.
+/// The kinds that a query depends on and a feed lacks.
 #[derive(Clone, Copy, Drop)]
 pub(crate) struct MissingKinds<'a> {
     line: CommandLine<'a>,
@@ -51,7 +51,7 @@ impl<'a> MissingKinds<'a> {
         MissingKinds { line, kinds }
     }
 
-    /// The feed lacks a kind that the query needs. An address may be that of a Pod, without any Service.
+    /// Whether the feed lacks a kind that the query needs. A Pod alone is enough for an address.
     pub(crate) fn is_some(&self) -> bool {
         if is_address(self.line.path) && self.kinds.has(b"Pod") {
             return false;

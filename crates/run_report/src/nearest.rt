@@ -1,12 +1,12 @@
 use std::alloc::Global;
 use strsim::osa_distance;
 
-// A word with more typing errors than these has no nearest name.
+// The greatest number of typing errors of a word that has a nearest name.
 const MAX_EDITS: usize = 2;
 
 const MAX_WORD_LENGTH: usize = 64;
 
-/// Finds the name that is nearest to a word, among those that are offered.
+/// The name that is nearest to a word, among those that are offered.
 #[derive(Clone, Copy)]
 pub(crate) struct Nearest<'w> {
     alloc: Global,

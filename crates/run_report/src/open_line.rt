@@ -4,27 +4,27 @@ ghost use Rattle.std.specs.Prelude.{◌≤◌, length};
 use crate::lines::LineParts;
 use std::alloc::Global;
 
-// How many of the first bytes are kept, and how many of the last.
+// The number of first bytes that are kept, and of last bytes.
 const KEPT: usize = 1024;
 
-/// The first bytes, as many as are kept.
+/// Returns the first bytes, up to the number that is kept.
 pub(crate) fn first_of<'a>(bytes: &'a [u8]) -> &'a [u8] {
     bytes.get(..KEPT).unwrap_or(bytes)
 }
 
-/// The last bytes, as many as are kept.
+/// Returns the last bytes, up to the number that is kept.
 pub(crate) fn last_of<'a>(bytes: &'a [u8]) -> &'a [u8]
     ensures { length result.now ≤ 1024 }
 {
     &bytes[bytes.len().saturating_sub(KEPT)..]
 }
 
-/// The first and the last bytes of a line of which a part was read.
+/// The first and the last bytes of a line that was read in part.
 #[derive(Drop)]
 pub(crate) struct OpenLine {
     pub(crate) first: Vec<u8>,
     pub(crate) last: Vec<u8>,
-    /// No byte of the line was read.
+    /// Whether no byte of the line was read.
     pub(crate) is_empty: bool,
 }
 
@@ -37,7 +37,7 @@ impl OpenLine {
         }
     }
 
-    /// Adds bytes of the line. Those for which there is no memory are left out.
+    /// Adds bytes of the line. If out of memory, they are left out.
     pub(crate) fn add(&mut self, part: &[u8]) {
         if part.is_empty() {
             return;

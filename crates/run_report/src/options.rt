@@ -47,13 +47,13 @@ pub(crate) static POLICIES: [&str; 6] = [
     "audit",
 ];
 
-// Whether a method asks for a port of a Pod.
+// Whether a method is about a port of a Pod.
 fn is_of_port(method: &str) -> bool {
     method == "WatchPort" || method == "WatchPort2"
 }
 
 impl Argument {
-    /// The option of this name.
+    /// Returns the option with a name.
     pub(crate) fn named(name: &str) -> Option<Argument> {
         ARGUMENTS
             .iter()
@@ -79,7 +79,7 @@ impl Argument {
         }
     }
 
-    /// The values that are accepted.
+    /// Describes the accepted values.
     pub(crate) fn value(self) -> &'static str {
         match self {
             Argument::ClusterDomain | Argument::TrustDomain | Argument::ControlPlaneNamespace => {
@@ -106,7 +106,7 @@ impl Argument {
         }
     }
 
-    /// The values that are accepted, if they are words that can be listed.
+    /// Returns the accepted values, if they are words that can be listed.
     pub(crate) fn choices(self) -> &'static [&'static str] {
         match self {
             Argument::Method => &METHODS,
@@ -129,7 +129,7 @@ impl Argument {
         }
     }
 
-    /// The names of the commands that have it.
+    /// Returns the names of the commands that have the option.
     pub(crate) fn commands(self) -> &'static str {
         match self {
             Argument::Id | Argument::Method => "diagnose and fold",
@@ -140,7 +140,7 @@ impl Argument {
         }
     }
 
-    /// The argument is read for some methods only.
+    /// Whether the argument is read for some methods only.
     pub(crate) fn is_of_method(self) -> bool {
         match self {
             Argument::Path | Argument::Workload | Argument::Port => true,
@@ -148,7 +148,7 @@ impl Argument {
         }
     }
 
-    /// The command needs the argument for this method.
+    /// Whether the command needs the argument for this method.
     pub(crate) fn is_needed(self, command: Command, method: &str) -> bool {
         match self {
             Argument::Id | Argument::Method => self.is_of(command),
@@ -162,8 +162,8 @@ impl Argument {
         }
     }
 
-    /// A command line that is accepted if the argument is added with an accepted value. There is none if the values depend on other
-    /// options, or if every value is accepted.
+    /// Returns a command line that is accepted if the argument is added with an accepted value.
+    /// None if the values depend on other options, or if every value is accepted.
     pub(crate) fn probe(self) -> Option<&'static str> {
         match self {
             Argument::Id => Some("fold --method=Get"),

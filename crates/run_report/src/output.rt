@@ -1,4 +1,4 @@
-// Counts the lines of the output that are frames, or say that a line was refused.
+// Counts the lines of the output that have a frame, or report a refused line.
 ghost use Rattle.std.specs.Prelude.{◌≡◌, ◌+◌, ◌++◌, ◌∷◌, ◌<◌, ◌≤◌, ◌==◌, ℕ, List, [], count_by, get_or, length, take, true, IfOk, IsErrOf, OnErr, if◌then◌else◌};
 ghost use Rattle.std.specs.Io.{WritesAtMost};
 ghost use Rattle.std.specs.Io.KnownBytes.{WriteAppends};
@@ -22,17 +22,17 @@ pub(crate) enum Word {
     View,
 }
 
-// Where a line of the output has come.
+// The position in a line of the output.
 #[derive(Clone, Copy)]
 pub(crate) enum Place {
     Start,
-    // So many bytes of a word, not all.
+    // This number of bytes of a word, but not all.
     Word(Word, usize),
-    // The number behind `refused `.
+    // The number after `refused `.
     Number,
-    // So many bytes of `NotJson`.
+    // This number of bytes of `NotJson`.
     Fault(usize),
-    // A refused line whose fault is another.
+    // A refused line with another error.
     OtherFault,
     Frame,
     Other,
@@ -62,7 +62,7 @@ impl Word {
         }
     }
 
-    // Where a line is that is the word.
+    // Returns the position after the whole word.
     #[tactic(auto, using(crate::proofs::Places::whole_refused, crate::proofs::Places::whole_frame, crate::proofs::Places::whole_view))]
     fn end(self) -> Place
         ensures { IsAt result (word_text self) }
@@ -74,7 +74,7 @@ impl Word {
         }
     }
 
-    // Where a line is that is so many bytes of the word.
+    // Returns the position after this number of bytes of the word.
     fn front(self, matched: usize) -> Place
         ensures { 0 < matched → matched ≤ length (word_text self)
             → IsAt result (take matched (word_text self)) }
@@ -137,7 +137,7 @@ fn after_fault(matched: usize, byte: u8) -> Place
 }
 
 impl Place {
-    // Nothing more is counted of the line.
+    // Whether the rest of the line does not matter for the counts.
     #[tactic(auto, using(crate::proofs::Places::other_fault_more, crate::proofs::Places::frame_more, crate::proofs::Places::other_more))]
     fn is_passing(self) -> bool
         ensures { result ≡ true → (line more : List ℕ) → IsAt self line → IsAt self (line ++ more) }
@@ -229,7 +229,7 @@ impl Place {
     }
 }
 
-// A count with one more, where there is one.
+// Returns the count, plus one if `is_one`. It saturates.
 fn count_with(count: u64, is_one: bool) -> u64
     ensures { (n : ℕ) → count ≡ counted n → result ≡ counted (n + (if is_one then 1 else 0)) }
 {
@@ -240,19 +240,19 @@ fn count_with(count: u64, is_one: bool) -> u64
     }
 }
 
-/// What was written.
+/// The counts of the output.
 #[derive(Clone, Copy)]
 pub struct OutputCounts {
     place: Place,
-    // Of the lines with LF.
+    // The counts of the lines with LF.
     ended_refused: u64,
     ended_frames: u64,
-    /// The lines that say that a line was refused which wasn't JSON. A last one without LF doesn't count.
+    /// The number of lines with LF that report a refused line with the error `NotJson`.
     pub not_json: u64,
 }
 
 impl OutputCounts {
-    /// Nothing was written.
+    /// No output.
     pub const NONE: OutputCounts = OutputCounts {
         place: Place::Start,
         ended_refused: 0,
@@ -267,7 +267,7 @@ impl OutputCounts {
         OutputCounts::NONE
     }
 
-    /// The lines that say that a line was refused. A last one without LF counts.
+    /// Returns the number of lines that report a refused line. A last one without LF counts.
     pub fn refused(&self) -> u64
         ensures { (written : List ℕ) → AreWritten self.now written
             → result ≡ counted (count_by says_refused (lines_of written)) }
@@ -275,7 +275,7 @@ impl OutputCounts {
         count_with(self.ended_refused, self.place.is_refused())
     }
 
-    /// The lines with a frame. A last one without LF counts.
+    /// Returns the number of lines with a frame or a view. A last one without LF counts.
     pub fn frames(&self) -> u64
         ensures { (written : List ℕ) → AreWritten self.now written
             → result ≡ counted (count_by has_frame (lines_of written)) }
@@ -283,7 +283,7 @@ impl OutputCounts {
         count_with(self.ended_frames, self.place.is_frame())
     }
 
-    // Adds bytes of one line, which may go on behind them.
+    // Adds bytes of one line, which may continue after them.
     #[tactic(auto, using(crate::proofs::Written::part_written))]
     fn take_part(&mut self, part: &[u8])
         requires { NoBreak part.now }
@@ -321,8 +321,8 @@ impl OutputCounts {
     }
 }
 
-/// A sink that passes all on to another, and counts what was written. Where the other is a screen on which progress is shown,
-/// that line is cleared before a line is written there.
+/// A sink that passes on the bytes to another, and counts those it accepts. If there is a screen,
+/// the line of progress is cleared before a line is written.
 #[derive(Drop)]
 pub struct OutputTally<K, W> {
     sink: K,
@@ -365,7 +365,7 @@ impl<K: Sink, W: Write> Sink for OutputTally<K, W> {
         ensures memory { IsErrOf result SinkFault.Memory
             → K.held self.new.sink ≡ K.held self.old.sink }
 
-        // What the sink accepts is counted.
+        // The bytes that the sink accepts are counted.
         ensures counts { (written : List ℕ) → AreWritten self.old.counts written
             → IfOk result (λ n. AreWritten self.new.counts (written ++ take n piece.now)) }
         ensures same { OnErr result (self.new.counts ≡ self.old.counts) }

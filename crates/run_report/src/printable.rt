@@ -1,4 +1,4 @@
-// Shows bytes from outside so that a terminal can print them.
+// Formats bytes of the input for a terminal.
 use std::fmt;
 use std::fmt::{Display, Formatter};
 
@@ -10,7 +10,7 @@ fn shown(byte: u8) -> char {
     }
 }
 
-/// Bytes, with `?` in place of each one that is not printable ASCII.
+/// Bytes, with `?` in place of each that is not printable ASCII.
 #[derive(Clone, Copy, Drop)]
 pub(crate) struct Printable<'a>(pub(crate) &'a [u8]);
 
@@ -23,7 +23,7 @@ impl Display for Printable<'_> {
     }
 }
 
-/// A JSON string as it is written between its quotes. The backslashes of escapes are left out.
+/// A JSON string as it is between its quotes, formatted without the backslashes of escapes.
 #[derive(Clone, Copy, Drop)]
 pub(crate) struct JsonString<'a>(pub(crate) &'a [u8]);
 

@@ -1,4 +1,4 @@
-// How much was read, shown in one line of a terminal that is written again and again.
+// The progress of a run, on a line of a terminal that is overwritten.
 use crate::clock::{EachSecond, StartTime};
 use crate::command::Command;
 use std::fmt;
@@ -6,15 +6,15 @@ use std::fmt::{Display, Formatter};
 use std::io::{Cursor, Write};
 use std::time::Clock;
 
-// Spaces over the whole of the longest line, between two carriage returns.
+// Spaces that overwrite the longest line, between two carriage returns.
 const CLEARED: &[u8] = b"\r                                     \r";
 
-// Leaves the line of a terminal empty.
+// Clears the line of a terminal.
 pub(crate) fn clear_line<W: Write>(screen: &mut W) {
     let _ = screen.write_all(CLEARED);
 }
 
-// Shows how much was read, with one write.
+// Writes the line for a number of bytes read, with one write.
 fn show_line<W: Write>(screen: &mut W, command: Command, bytes: u64) {
     let mut line = [0; 64];
     let mut cursor = Cursor::new(line.as_mut_slice());
@@ -26,7 +26,7 @@ fn show_line<W: Write>(screen: &mut W, command: Command, bytes: u64) {
     let _ = screen.write_all(line.get(..len).unwrap_or(b""));
 }
 
-/// A line of a terminal that shows, at most once in each second after the first, how much was read.
+/// A line of a terminal with the bytes read, updated at most once in each second after the first.
 #[derive(Drop)]
 pub struct Progress<C, W> {
     due: EachSecond<C>,
@@ -43,14 +43,14 @@ impl<C: Clock, W: Write> Progress<C, W> {
         }
     }
 
-    /// So many bytes have been read.
+    /// Shows the number of bytes read, if an update is due.
     pub fn show(&mut self, bytes: u64) {
         if self.due.is_due() {
             show_line(&mut self.screen, self.command, bytes);
         }
     }
 
-    /// Leaves the line empty.
+    /// Clears the line.
     pub fn clear(&mut self) {
         if self.due.was_due() {
             clear_line(&mut self.screen);
@@ -58,7 +58,7 @@ impl<C: Clock, W: Write> Progress<C, W> {
     }
 }
 
-// Bytes in megabytes, with the tenths that are whole.
+// A number of bytes in megabytes (10^6 bytes), rounded down to tenths.
 #[derive(Clone, Copy, Drop)]
 pub(crate) struct Megabytes(pub(crate) u64);
 

@@ -1,11 +1,11 @@
-// Notes the first line that was refused, and counts the verdicts, from the lines of the output.
+// Records the first refused line, and counts the verdicts, from the lines of the output.
 use crate::lines::{LineParts, take_parts};
 use crate::printable::Printable;
 use std::alloc::Global;
 use std::fmt;
 use std::fmt::{Display, Formatter};
 
-// How many bytes of a line are kept.
+// The number of bytes of a line that are kept.
 const KEPT: usize = 256;
 
 const REFUSED: &[u8] = b"refused ";
@@ -15,14 +15,14 @@ fn add_front(kept: &mut Vec<u8>, part: &[u8]) {
     let _ = kept.extend_from_slice(part.get(..room).unwrap_or(part));
 }
 
-/// What is noted of an output. However long the output is, it keeps a bounded number of bytes.
+/// The record of an output. Its size is bounded for an output of any length.
 #[derive(Drop)]
 pub struct OutputNotes {
-    // The first bytes of a line of which a part was written.
+    // The first bytes of a line that was written in part.
     open: Vec<u8>,
-    // The first bytes of the first line that says that a line was refused.
+    // The first bytes of the first line that reports a refused line.
     refused: Vec<u8>,
-    /// The `verdict` lines that were written whole.
+    /// The number of complete `verdict` lines.
     pub verdicts: u64,
 }
 
@@ -39,7 +39,7 @@ impl OutputNotes {
         take_parts(self, piece);
     }
 
-    /// The first line that was refused.
+    /// Returns the first line that was refused.
     pub(crate) fn first_refused(&self) -> Option<RefusedLine<'_>> {
         let after = self.refused.strip_prefix(REFUSED)?;
         RefusedLine::read(after)
@@ -70,7 +70,7 @@ pub(crate) struct RefusedLine<'a> {
 }
 
 impl<'a> RefusedLine<'a> {
-    // Reads the number of the line and the fault, with a space between them.
+    // Reads the number of the line and the error, with a space between them.
     fn read(bytes: &'a [u8]) -> Option<RefusedLine<'a>> {
         let at = bytes.iter().position(|byte| *byte == b' ')?;
         let digits = std::str::from_utf8(&bytes[..at]).ok()?;
@@ -82,7 +82,7 @@ impl<'a> RefusedLine<'a> {
 }
 
 impl RefusedLine<'_> {
-    /// The line was not read as JSON.
+    /// Whether the line was not read as JSON.
     pub(crate) fn is_unread(&self) -> bool {
         self.fault == b"NotJson".as_slice() || self.fault == b"TooLong".as_slice()
     }

@@ -1,4 +1,4 @@
-// What standard error is told at the end.
+// The report at the end of a run.
 use crate::cause::Hint;
 use crate::command::{Command, CommandLine};
 use crate::feed::FeedNotes;
@@ -14,7 +14,7 @@ use std::io::ErrorKind;
 use std::time::Duration;
 use std::{fmt, io};
 
-/// What a run has read and written, and how long it took.
+/// The counts, the records and the duration of a run.
 #[derive(Clone, Copy)]
 pub struct Run<'a> {
     pub command_line: CommandLine<'a>,
@@ -22,26 +22,26 @@ pub struct Run<'a> {
     pub feed: &'a FeedNotes,
     pub written: OutputCounts,
     pub output: &'a OutputNotes,
-    /// What a replay holds at its end.
+    /// The objects that a replay holds at its end.
     pub held: HeldObjects,
-    /// None where the clock told nothing.
+    /// None if the clock failed.
     pub elapsed: Option<Duration>,
 }
 
-/// What standard error is told at the end: what failed, warnings, and on a terminal one line of counts.
+/// The report at the end: failures, warnings, and on a terminal one line of counts.
 #[derive(Clone, Copy, Drop)]
 pub struct Report<'a> {
     pub status: Status,
-    /// The system's reason, if reading or writing failed.
+    /// The error of the system, if reading or writing failed.
     pub error: Option<io::Error>,
     /// None if no command was run.
     pub run: Option<Run<'a>>,
-    /// Standard error is a terminal.
+    /// Whether standard error is a terminal.
     pub is_terminal: bool,
 }
 
 impl Report<'_> {
-    // The reader of standard output has closed it.
+    // Whether the reader of standard output has closed it.
     fn is_closed(&self) -> bool {
         match self.error {
             Some(error) => {
@@ -115,13 +115,13 @@ impl Run<'_> {
         write!(f, ", the first is {first}\n")
     }
 
-    // The hint on the first line that was refused.
+    // Returns the hint on the first refused line.
     fn hint(&self) -> Option<Hint<'_>> {
         let first = self.output.first_refused()?;
         self.feed.lines.hint(&first)
     }
 
-    // Warns of what is missing in a feed or was recorded wrongly.
+    // Writes warnings about missing kinds and mistakes in a feed.
     fn write_feed<W: fmt::Write>(&self, status: Status, f: &mut Formatter<W>) -> fmt::Result {
         if !self.command_line.command.reads_feed() {
             return Ok(());
@@ -143,7 +143,7 @@ impl Run<'_> {
         }
     }
 
-    // Says that a feed has no subscriptions and no simulations.
+    // Reports that a feed has no subscriptions and no simulations.
     fn write_unsubscribed<W: fmt::Write>(&self, f: &mut Formatter<W>) -> fmt::Result {
         if self.feed.lines.has_request {
             return Ok(());
@@ -200,7 +200,7 @@ impl Run<'_> {
     }
 }
 
-/// Writes a number of things by the name of one, as "1 line" or "2 lines".
+/// Writes a number and the name of a thing, as "1 line" or "2 lines".
 pub fn write_number<W: fmt::Write>(f: &mut Formatter<W>, number: u64, thing: &str) -> fmt::Result {
     if number == 1 {
         write!(f, "1 {thing}")

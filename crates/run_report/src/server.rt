@@ -1,8 +1,8 @@
-// What standard error is told of a server.
+// The messages of a server on standard error.
 use std::fmt::{Display, Formatter};
 use std::{fmt, io};
 
-/// What standard error is told of a server: where it listens, and how it ended.
+/// A message of a server on standard error: where it listens, or how it ended.
 #[derive(Clone, Copy, Drop)]
 pub enum ServerNote<'a> {
     Listening {
@@ -10,13 +10,13 @@ pub enum ServerNote<'a> {
     },
     CannotListen {
         address: &'a str,
-        /// The system's reason, if it told one.
+        /// The error of the system, if there is one.
         error: Option<io::Error>,
     },
     /// A feed sent a `stop` line.
     Stopped,
     OutOfMemory,
-    /// The system no longer tells which links are ready.
+    /// The system failed to report which links are ready.
     PollFailed,
 }
 

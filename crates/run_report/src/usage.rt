@@ -1,4 +1,4 @@
-/// The first line of the message for a command line that is refused.
+/// The first line of the message for a refused command line.
 pub const USAGE_LINE: &str = "usage: linkerd_cli replay|diagnose|fold|sample|serve\n";
 
 /// The rest of the usage, which is written if there are no words or they ask for help.

@@ -1,4 +1,4 @@
-// Says what is wrong with a command line that is refused.
+// Reports the error in a refused command line.
 use crate::argument_words::wrong_after;
 use crate::command::{COMMANDS, Command};
 use crate::nearest::Nearest;
@@ -9,16 +9,16 @@ use std::alloc::Global;
 use std::fmt;
 use std::fmt::{Display, Formatter};
 
-/// Reads command lines.
+/// A reader of command lines.
 pub trait CommandReader {
-    /// The words are not a command. It answers false if there is no memory to read them.
+    /// Whether the words are not an accepted command line. Returns false if out of memory.
     fn refuses(&self, words: &[Text]) -> bool;
 }
 
-/// What is wrong with a command line.
+/// The error in a command line.
 #[derive(Clone, Copy, PartialEq, Eq)]
 pub(crate) enum Wrong {
-    /// Nothing, or it is not known: there are no words, or they ask for help.
+    /// No error, or an unknown one: there are no words, or they ask for help.
     Unknown,
     NotUtf8,
     Command,
@@ -26,25 +26,25 @@ pub(crate) enum Wrong {
     Option,
     Twice(Argument),
     NoValue(Argument),
-    /// Neither an option nor a value.
+    /// A word that is neither an option nor a value.
     Extra,
     Missing(Argument),
     Value(Argument),
 }
 
-/// The message for a command line that is refused: the first line of the usage and what is wrong, or else the whole usage.
+/// The message for a refused command line: a line of usage and the error, or else the whole usage.
 #[derive(Clone, Copy, Drop)]
 pub struct WrongWords<'a> {
     pub(crate) wrong: Wrong,
     command: Option<Command>,
     /// The word that is wrong, if there is one.
     word: &'a str,
-    /// The name that was probably meant.
+    /// The name that was probably intended, if there is one.
     near: Option<&'static str>,
 }
 
 impl<'a> WrongWords<'a> {
-    // No single word is wrong.
+    // Creates a message without a wrong word.
     fn as_whole(wrong: Wrong) -> WrongWords<'a> {
         WrongWords {
             wrong,
@@ -54,12 +54,12 @@ impl<'a> WrongWords<'a> {
         }
     }
 
-    /// The message if a word is not UTF-8, so that the words cannot be read.
+    /// Creates the message for a word that is not UTF-8.
     pub fn not_utf8() -> WrongWords<'a> {
         WrongWords::as_whole(Wrong::NotUtf8)
     }
 
-    /// Finds what is wrong with words that the reader refuses.
+    /// Finds the error in words that the reader refuses.
     pub fn of<R: CommandReader>(alloc: Global, words: &'a [Text], reader: &R) -> WrongWords<'a> {
         let Some((first, rest)) = words.split_first() else {
             return WrongWords::as_whole(Wrong::Unknown);
@@ -85,7 +85,7 @@ fn is_help(word: &str) -> bool {
     word == "--help" || word == "-h"
 }
 
-// The name that was probably meant.
+// Returns the name that was probably intended.
 fn near_of(alloc: Global, command: Command, wrong: Wrong, word: &str) -> Option<&'static str> {
     let mut near = Nearest::to(alloc, word);
     match wrong {
@@ -105,7 +105,7 @@ fn offer_options(near: &mut Nearest<'_>, command: Command) {
     }
 }
 
-// Where the input of a command is, for those who name a file.
+// Describes the input of a command, for users who name a file.
 fn input_of(command: Command) -> &'static str {
     match command {
         Command::Serve => "",
@@ -113,7 +113,7 @@ fn input_of(command: Command) -> &'static str {
     }
 }
 
-// The names of the options of a command, with commas between them.
+// The names of the options of a command, separated by commas.
 #[derive(Clone, Copy, Drop)]
 struct OptionNames(Command);
 

@@ -1,4 +1,4 @@
-// The Pod of a row, looked for where it stood.
+// The Pod of a row, looked up first at the place where it was found before.
 ghost use Rattle.std.specs.Prelude.{◌≡◌, ◌≤◌, ◌+◌, Some, IfSome};
 ghost use Rattle.std.specs.FinMap.{get};
 ghost use Rattle.std.specs.Option.{option_copied};
@@ -17,7 +17,7 @@ use view_scratch::pod::pod_named;
 use view_types::object::Object;
 use view_types::pod::Pod;
 
-/// The Pod of the key, looked for at this place among the Pods held first. The place is set again where the Pod isn't there.
+/// Returns the Pod of the key. Tries `place` among the Pods held first, and updates it on a miss.
 pub(crate) fn pod_near<'a, L>(
     store: &'a Store,
     key: &ServerKey,
@@ -38,7 +38,7 @@ pub(crate) fn pod_near<'a, L>(
     }
 }
 
-/// The same for a Pod that isn't at the place.
+/// Does the same for a Pod that isn't at the place.
 fn pod_sought<'a, L>(
     store: &'a Store,
     key: &ServerKey,
@@ -60,7 +60,7 @@ fn pod_sought<'a, L>(
     }
 }
 
-/// Where the Pod of the key stands among the Pods held, or would stand. A caller tries the place, so that nothing rests on it.
+/// Returns the index of the Pod of the key among the Pods held, or where it would be inserted.
 fn place_of(store: &Store, key: &ServerKey) -> usize {
     match store
         .of_kind(Kind::Pod)
@@ -70,7 +70,7 @@ fn place_of(store: &Store, key: &ServerKey) -> usize {
     }
 }
 
-/// The object at this place among the Pods held, if it is at the key of the Pod.
+/// Returns the object at this index of the Pods held, if it is at the key of the Pod.
 fn object_at<'a>(store: &'a Store, key: &ServerKey, place: usize) -> Option<&'a Object>
     ensures value { IfSome result (λ o.
         get store.now.objects (pod_key key.now.ns key.now.pod) ≡ Some o.now) }
@@ -84,7 +84,7 @@ fn object_at<'a>(store: &'a Store, key: &ServerKey, place: usize) -> Option<&'a 
     }
 }
 
-/// How the object's key compares with that of the Pod, which need not be put together.
+/// Compares the key of the object with that of the Pod, without building the latter.
 fn compare_key(object: &Object, key: &ServerKey) -> Ordering
     ensures { result ≡ key_cmp (key_of object.now) (pod_key key.now.ns key.now.pod) }
 {

@@ -1,4 +1,4 @@
--- How a `Boxed` holds its value, so that a type may lead back to itself through one.
+-- How a `Boxed` holds its value, which lets a type contain itself through a box.
 use mathlib.Core.Path.{refl}
 use mathlib.Core.Former.{Former, this, const, pair, via}
 use base.Stored.{gnil}
@@ -22,7 +22,7 @@ use Rattle.mesh_base.specs.declared.boxed.Boxed.TheView.{view, invariant}
 use Rattle.mesh_base.specs.contracts.boxed.Boxed as contract
 use Rattle.mesh_base.specs.contracts.boxed.Boxed.TheInside as inside
 
--- a `Boxed` is seen as its value, and holds just that
+-- the model of a `Boxed` is its value, and it holds just that
 abbrev pub the_former : Former {0} → Former {0}
 the_former held = held
 

@@ -1,4 +1,4 @@
--- How a `List` holds its items, so that a type may lead back to itself through one.
+-- How a `List` holds its items, which lets a type contain itself through a list.
 use mathlib.Core.Path.{◌≡◌, refl, sym}
 use mathlib.Core.List as core
 use mathlib.Core.Former.{Former, this, list, via, children}
@@ -19,7 +19,7 @@ use Rattle.mesh_base.specs.declared.list.List.TheView.{view, invariant}
 use Rattle.mesh_base.specs.contracts.list.List as contract
 use Rattle.mesh_base.specs.contracts.list.List.TheInside as inside
 
--- a list's shape is its length, and it holds its items
+-- the shape of a list is its length, and it holds its items
 abbrev pub the_former : Former {0} → Former {0}
 the_former held = list held
 

@@ -1,5 +1,4 @@
 use Rattle.std.proofs.Common.{Bor, map, ap, ◌∙◌}
-use Rattle.std.specs.List.{filter, filter_map}
 use Rattle.std.proofs.lemmas.Result.{IfOk-weaker}
 use Rattle.view_types.specs.declared.object.Object.{Object}
 use Rattle.view_types.specs.declared.route.Route.{Route}
