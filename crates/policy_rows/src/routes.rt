@@ -132,7 +132,8 @@ pub fn compare_routes(a: &Route, b: &Route) -> Ordering
     }
 }
 
-fn compare_created(a: &Option<Text>, b: &Option<Text>) -> Ordering
+/// Compares creation times. An absent one comes last.
+pub fn compare_created(a: &Option<Text>, b: &Option<Text>) -> Ordering
     ensures { result ≡ created_cmp a.now b.now }
 {
     match (a, b) {
@@ -143,7 +144,8 @@ fn compare_created(a: &Option<Text>, b: &Option<Text>) -> Ordering
     }
 }
 
-fn compare_groups(a: Kind, b: Kind) -> Ordering
+/// Compares the API groups of two kinds of routes, by bytes.
+pub fn compare_groups(a: Kind, b: Kind) -> Ordering
     ensures { result ≡ slice_cmp nat_cmp (route_group a) (route_group b) }
 {
     route_group(a).as_bytes().cmp(route_group(b).as_bytes())

@@ -1,19 +1,17 @@
 // Edits of lists of routes in the order of their places.
 ghost use Rattle.std.specs.Prelude.{◌≡◌, false, not, IfErr, IfOk, OnOk, filter, length};
-ghost use Rattle.std.specs.Cmp.Lexicographic.{slice_cmp};
 ghost use Rattle.std.specs.FinMap.{insert};
 ghost use Rattle.std.specs.List.{list_any};
 ghost use Rattle.std.specs.List.Sorted.{IsSearchInRange};
-ghost use Rattle.std.specs.Ordering.{nat_cmp};
 ghost use Rattle.std.specs.Str.{bytes_eq};
 ghost use Rattle.mesh_base.specs.Places.{IsGap, IsHit};
 ghost use Rattle.view_rules.specs.ByKey.{put_all};
-ghost use Rattle.view_rules.specs.Routes.{created_cmp, route_cmp, route_group};
+ghost use Rattle.view_rules.specs.Routes.{route_cmp};
 ghost use Rattle.route_index.specs.Placed.{Rise, by_place, row_place};
 
-use mesh_base::key::Kind;
 use mesh_base::memory::Memory;
 use mesh_base::text::Text;
+use policy_rows::routes::{compare_created, compare_groups};
 use std::cmp::Ordering;
 use view_types::server_view::RouteRow;
 
@@ -88,31 +86,5 @@ fn compare_rows(a: &RouteRow, b: &RouteRow) -> Ordering
             other => other,
         },
         other => other,
-    }
-}
-
-fn compare_created(a: &Option<Text>, b: &Option<Text>) -> Ordering
-    ensures { result ≡ created_cmp a.now b.now }
-{
-    match (a, b) {
-        (None, None) => Ordering::Equal,
-        (None, Some(_)) => Ordering::Greater,
-        (Some(_), None) => Ordering::Less,
-        (Some(time), Some(other)) => time.cmp(other),
-    }
-}
-
-fn compare_groups(a: Kind, b: Kind) -> Ordering
-    ensures { result ≡ slice_cmp nat_cmp (route_group a) (route_group b) }
-{
-    route_group(a).as_bytes().cmp(route_group(b).as_bytes())
-}
-
-fn route_group(kind: Kind) -> &'static str
-    ensures { result.now ≡ route_group kind }
-{
-    match kind {
-        Kind::GatewayRoute => "gateway.networking.k8s.io",
-        _ => "policy.linkerd.io",
     }
 }
