@@ -71,7 +71,8 @@ impl EndpointIndex {
         })
     }
 
-    /// Does as `on_change`, and notes the old rows where the endpoints of a key differ.
+    /// Does as `on_change`, and returns the keys of the rows that read a mark of the change. `before`
+    /// then has the old rows where the endpoints of a key differ.
     pub fn follow_change<L>(
         &mut self,
         store: &Store,
@@ -164,6 +165,8 @@ impl RowIndex for EndpointIndex {
 
     ghost met = { λ s. ⟦<RowTable<EndpointRule> as RowIndex>⟧.met s.rows };
 
+    ghost met_keys = { λ s. ⟦<RowTable<EndpointRule> as RowIndex>⟧.met_keys s.rows };
+
     ghost is_spent = { λ s. s.spent };
 
     ghost stands = { λ s. ⟦<RowTable<EndpointRule> as RowIndex>⟧.stands s.rows };
@@ -192,8 +195,15 @@ impl RowIndex for EndpointIndex {
         store: &Store,
         change: &Change,
         steps: &mut Steps<L>,
-    ) -> Result<List<EndpointKey>, Memory> {
-        self.follow_change(store, change, steps)
+    ) -> Result<(), Memory> {
+        if self.spent {
+            return Err(Memory);
+        }
+        self.spent = true;
+        self.rows.on_change(store, change, steps)?;
+        self.touched = set_of(self.alloc, self.rows.met_keys()?)?;
+        self.spent = false;
+        Ok(())
     }
 
     fn differing(&self) -> &[EndpointKey] {
@@ -206,6 +216,10 @@ impl RowIndex for EndpointIndex {
 
     fn met(&self) -> &[u64] {
         self.rows.met()
+    }
+
+    fn met_keys(&self) -> Result<List<EndpointKey>, Memory> {
+        self.rows.met_keys()
     }
 
     fn row(&self, key: &EndpointKey) -> Option<&EndpointView> {

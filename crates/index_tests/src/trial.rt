@@ -121,7 +121,8 @@ where
         shown: &mut String,
     ) -> Result<(), Fail> {
         let change = self.change(verb, name)?;
-        let keys = self.index.on_change(&self.store, &change, &mut self.steps)?;
+        self.index.on_change(&self.store, &change, &mut self.steps)?;
+        let keys = self.index.met_keys()?;
         if keys.len() == 0 {
             shown.push_str("-")?;
         }

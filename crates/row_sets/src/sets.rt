@@ -125,7 +125,8 @@ impl<I: RowIndex + Drop> RowSets<I> {
         ensures filter { I.filter self.new.used.index ≡ I.filter self.old.used.index }
         ensures keys { self.new.by_id ≡ self.old.by_id }
     {
-        let keys = self.used.index.on_change(store, change, steps)?;
+        self.used.index.on_change(store, change, steps)?;
+        let keys = self.used.index.met_keys()?;
         rows_at(self.alloc, &self.used.by_key, keys.as_slice())
     }
 

@@ -21,10 +21,11 @@ use Rattle.mark_rules.specs.Changes.{Leads}
 use Rattle.mark_rules.specs.Marks.{has_mark, mark_cmp, meets}
 use Rattle.row_table.specs.IndexRows.{AreMet, Filter, KeptShows, KeptStays, has_key}
 use Rattle.row_table.specs.KeyNumbers.{PutsAt, number_at, used_at}
-use Rattle.row_table.specs.TableRows.{AllStand, AreTied, Follow, KeptFollows, RowAfter, StandsAt, is_among, key_in, marks_of, row_at, row_of}
+use Rattle.row_table.specs.TableRows.{AllStand, AreTied, Follow, KeptFollows, RowAfter, StandsAt, is_among, key_in, keys_of, marks_of, row_at, row_of}
 use Rattle.row_table.specs.declared.key_numbers.KeyNumbers.{KeyNumbers}
 use Rattle.row_table.specs.declared.key_numbers.UsedKey.{UsedKey}
 use Rattle.row_table.specs.declared.table_rows.KeptRow.{KeptRow}
+use Rattle.row_table.proofs.Gathered.{alike}
 use Rattle.row_table.proofs.Keys.{distinct_more, has_more, is_itself, tells}
 use Rattle.row_table.proofs.MarkLists.{meets_back, meets_same, same_any}
 use Rattle.row_table.proofs.Puts.{none_is_not_some, put_here, put_other, some_is}
@@ -173,6 +174,10 @@ module _ {Key Kept : Type 0} (cmp : Key → Key → Ordering) (total : IsTotalOr
         by (Some n) =
             due_is n ∙ same_any (λ mark. watches mark_cmp watched n mark) (has_mark (marks_of marks_in (tree.get nat_cmp rows n))) (tied.watch n) changed
             ∙ meets_back (marks_of marks_in (tree.get nat_cmp rows n)) changed
+
+-- the keys of numbers are those of before, where each row has its old key
+pub found_all : {Key Kept : Type 0} (old new : BTreeMap ℕ (KeptRow Key Kept)) → ((n : ℕ) → key_in (tree.get nat_cmp new n) ≡ key_in (tree.get nat_cmp old n)) → (numbers others : List ℕ) → numbers ≡ others → keys_of old numbers ≡ keys_of new others
+found_all old new same numbers others is = ap (keys_of old) is ∙ sym (alike (λ n. key_in (tree.get nat_cmp new n)) (λ n. key_in (tree.get nat_cmp old n)) same others)
 
 -- ---- numbers that rise
 

@@ -1,6 +1,7 @@
 mod ByCmp
 mod Differing
 pub mod Followed
+pub mod Gathered
 mod KeyNumbers
 pub mod Keys
 pub mod MarkLists

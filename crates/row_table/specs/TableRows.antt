@@ -3,6 +3,7 @@ use Rattle.std.specs.Prelude.{◌≡◌, ◌<◌, ◌≤◌, ℕ, Bool, true, fa
 use Rattle.std.specs.BTreeMap as tree
 use Rattle.std.specs.BTreeMap.{BTreeMap}
 use Rattle.std.specs.BTreeSet.{BTreeSet}
+use Rattle.std.specs.List.{filter_map}
 use Rattle.std.specs.Ordering.{nat_cmp}
 use Rattle.std.specs.declared.cmp.Ordering.{Ordering}
 use Rattle.view_types.specs.Objects.{ObjectMap}
@@ -49,6 +50,10 @@ module _ {Key Kept : Type 0} where
   abbrev pub row_of : BTreeMap ℕ (KeptRow Key Kept) → Option ℕ → Option (KeptRow Key Kept)
   row_of rows None = None
   row_of rows (Some n) = tree.get nat_cmp rows n
+
+  -- the keys of the rows with these numbers
+  abbrev pub keys_of : BTreeMap ℕ (KeptRow Key Kept) → List ℕ → List Key
+  keys_of rows numbers = filter_map (λ n. key_in (tree.get nat_cmp rows n)) numbers
 
 module _ {Key : Type 0} (cmp : Key → Key → Ordering) where
   -- the row of the key's number

@@ -50,6 +50,9 @@ pub trait RowIndex {
     /// The numbers of the rows that read a mark of the last change, ascending.
     ghost met: { Self → List ℕ };
 
+    /// The keys of the rows that read a mark of the last change.
+    ghost met_keys: { Self → List Self.Key };
+
     ghost is_spent: { Self → Bool };
 
     /// The rows are current for these objects.
@@ -85,26 +88,27 @@ pub trait RowIndex {
         ensures filter { filter self.new ≡ filter self.old }
         ensures spent { is_spent self.new ≡ is_spent self.old };
 
-    /// Updates the rows that read a mark of a change of the store, and returns their keys.
+    /// Updates the rows that read a mark of a change of the store. `met_keys` returns their keys.
     fn on_change<L>(
         &mut self,
         store: &Store,
         change: &Change,
         steps: &mut Steps<L>,
-    ) -> Result<List<Self::Key>, Memory>
-        ensures keys { IfOk result (AreMet Self.Key.Ord.cmp change.now.marks (marks_at self.old)) }
-        ensures differ { IfOk result (λ keys. DifferAmong Self.Key.Ord.cmp keys
+    ) -> Result<(), Memory>
+        ensures keys { OnOk result (AreMet Self.Key.Ord.cmp change.now.marks (marks_at self.old)
+            (met_keys self.new)) }
+        ensures differ { OnOk result (DifferAmong Self.Key.Ord.cmp (met_keys self.new)
             (differing self.new) (row_at self.old) (row_at self.new)) }
         ensures users { OnOk result ((key : Self.Key) → users self.new key ≡ users self.old key) }
         ensures stands { OnOk result ((held : ObjectMap) → stands self.old held
             → Leads change.now.marks held store.now.objects → stands self.new store.now.objects) }
         ensures numbers { OnOk result ((held : ObjectMap) → stands self.old held → (k : Self.Key)
             → number_at self.new k ≡ number_at self.old k) }
-        ensures met { IfOk result (λ keys. (held : ObjectMap) → stands self.old held
+        ensures met { OnOk result ((held : ObjectMap) → stands self.old held
             → (k : Self.Key) (n : ℕ) → number_at self.old k ≡ Some n
-            → has_row n (met self.new) ≡ has_key Self.Key.Ord.cmp keys k) }
-        ensures steps { IfOk result (λ keys. steps.new ≤ steps.old + sum_by (λ key.
-            cost store.now.objects ((filter self.old).reads store.now.objects key)) keys) }
+            → has_row n (met self.new) ≡ has_key Self.Key.Ord.cmp (met_keys self.new) k) }
+        ensures steps { OnOk result (steps.new ≤ steps.old + sum_by (λ key. cost store.now.objects
+            ((filter self.old).reads store.now.objects key)) (met_keys self.new)) }
         ensures filter { filter self.new ≡ filter self.old }
         ensures going { OnOk result (is_spent self.new ≡ false) }
         ensures spent { IsErr result → is_spent self.new ≡ true }
@@ -121,6 +125,10 @@ pub trait RowIndex {
     /// The numbers of the rows that read a mark of the last change, ascending.
     fn met(&self) -> &[u64]
         ensures { result.now ≡ met self.now };
+
+    /// Returns a copy of the keys of the rows that read a mark of the last change.
+    fn met_keys(&self) -> Result<List<Self::Key>, Memory>
+        ensures { IfOk result (λ keys. keys ≡ met_keys self.now) };
 
     /// Returns the row of a key that has users.
     fn row(&self, key: &Self::Key) -> Option<&Self::Row>

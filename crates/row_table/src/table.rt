@@ -7,7 +7,7 @@ ghost use Rattle.mark_rules.specs.Reads.{cost};
 ghost use Rattle.view_types.specs.Objects.{ObjectMap};
 ghost use Rattle.row_table.specs.IndexRows.{AreMet, DifferAmong, has_key};
 ghost use Rattle.row_table.specs.KeyNumbers.{number_at, used_at, users_in};
-ghost use Rattle.row_table.specs.TableRows.{AllStand, AreTied, Follow, kept_in, marks_of, row_at, shown_in};
+ghost use Rattle.row_table.specs.TableRows.{AllStand, AreTied, Follow, kept_in, keys_of, marks_of, row_at, shown_in};
 ghost use Rattle.row_table.specs.RowLaws.{current_row, numbered_rows};
 
 use crate::peeked::Peeked;
@@ -108,7 +108,8 @@ impl<F: RowRule> RowTable<F> {
                 change,
             },
         };
-        let keys = self.table.follow(&by, steps)?;
+        self.table.follow(&by, steps)?;
+        let keys = self.table.met_keys()?;
         self.spent = false;
         Ok(keys)
     }
@@ -134,6 +135,8 @@ impl<F: RowRule> RowIndex for RowTable<F> {
     ghost differing = { λ s. s.table.differing };
 
     ghost met = { λ s. s.table.met };
+
+    ghost met_keys = { λ s. keys_of s.table.rows s.table.met };
 
     ghost is_spent = { λ s. s.spent };
 
@@ -162,8 +165,25 @@ impl<F: RowRule> RowIndex for RowTable<F> {
         store: &Store,
         change: &Change,
         steps: &mut Steps<L>,
-    ) -> Result<List<F::Key>, Memory> {
-        self.follow_change(store, change, steps)
+    ) -> Result<(), Memory> {
+        if self.spent {
+            return Err(Memory);
+        }
+        self.spent = true;
+        if store.is_spent() {
+            return Err(Memory);
+        }
+        let by = RuleChange {
+            rule: &self.rule,
+            after: StoreChange {
+                alloc: self.alloc,
+                store,
+                change,
+            },
+        };
+        self.table.follow(&by, steps)?;
+        self.spent = false;
+        Ok(())
     }
 
     fn differing(&self) -> &[F::Key] {
@@ -179,6 +199,10 @@ impl<F: RowRule> RowIndex for RowTable<F> {
 
     fn met(&self) -> &[u64] {
         self.table.met.as_slice()
+    }
+
+    fn met_keys(&self) -> Result<List<F::Key>, Memory> {
+        self.table.met_keys()
     }
 
     fn row(&self, key: &F::Key) -> Option<&F::Row> {

@@ -1,15 +1,15 @@
 // The rows of a table, each with its number in the graph.
-ghost use Rattle.std.specs.Prelude.{◌≡◌, ◌≤◌, ◌+◌, ◌++◌, ◌∷◌, ℕ, Option, [], false, Some, None, IfOk, OnOk, if◌then◌else◌, is_some, nat_lt, option_map};
+ghost use Rattle.std.specs.Prelude.{◌≡◌, ◌≤◌, ◌+◌, ◌++◌, ◌∷◌, ℕ, List, Option, [], false, Some, None, IfOk, OnOk, if◌then◌else◌, is_some, nat_lt, option_map};
 ghost use Rattle.std.specs.BTreeMap as tree;
 ghost use Rattle.std.specs.List.{sum_by};
-ghost use Rattle.std.specs.Option.{option_to_list};
+ghost use Rattle.std.specs.Option.{option_copied, option_to_list};
 ghost use Rattle.std.specs.Ordering.{nat_cmp};
 ghost use Rattle.view_types.specs.Objects.{ObjectMap};
 ghost use Rattle.mark_graph.specs.RowMarks.{has_row};
 ghost use Rattle.mark_rules.specs.Reads.{cost};
 ghost use Rattle.row_table.specs.IndexRows.{AreMet, DifferAmong, KeepNumbers, OneMore, has_key};
 ghost use Rattle.row_table.specs.KeyNumbers.{PutsAt, number_at, one_less, one_more, used_at, users_in};
-ghost use Rattle.row_table.specs.TableRows.{AllStand, AreTied, Follow, Rewatched, key_in, marks_of, row_at, shown_in};
+ghost use Rattle.row_table.specs.TableRows.{AllStand, AreTied, Follow, Rewatched, key_in, keys_of, marks_of, row_at, shown_in};
 
 use crate::key_numbers::KeyNumbers;
 use crate::row_rule::{Followed, MarksAfter, RowRule, StoreChange};
@@ -52,13 +52,6 @@ pub struct TableRows<F: RowRule> {
 pub struct RuleChange<'a, F: RowRule> {
     pub rule: &'a F,
     pub after: StoreChange<'a>,
-}
-
-/// The keys whose rows were updated for a change so far, and the notes on the change.
-#[derive(Drop)]
-pub struct Pass<F: RowRule> {
-    pub keys: List<F::Key>,
-    pub notes: F::Notes,
 }
 
 impl<F: RowRule> TableRows<F> {
@@ -182,75 +175,71 @@ impl<F: RowRule> TableRows<F> {
         unwatch(&mut self.graph, number);
     }
 
-    /// Updates the rows that read a mark of a change, and returns their keys.
-    pub fn follow<L>(
-        &mut self,
-        by: &RuleChange<F>,
-        steps: &mut Steps<L>,
-    ) -> Result<List<F::Key>, Memory>
+    /// Updates the rows that read a mark of a change. `met_keys` returns their keys.
+    pub fn follow<L>(&mut self, by: &RuleChange<F>, steps: &mut Steps<L>) -> Result<(), Memory>
         requires going { by.now.after.store.now.spent ≡ false }
         requires tied { AreTied F.Key.Ord.cmp F.marks_in self.old.used self.old.rows
             self.old.graph.rows self.old.next }
-        ensures keys { IfOk result (AreMet F.Key.Ord.cmp by.now.after.change.now.marks
-            (λ key. marks_of F.marks_in (row_at F.Key.Ord.cmp self.old.used self.old.rows key))) }
-        ensures rows { IfOk result (λ keys. Follow (F.keeps by.now.rule.now) F.tells
+        ensures keys { OnOk result (AreMet F.Key.Ord.cmp by.now.after.change.now.marks
+            (λ key. marks_of F.marks_in (row_at F.Key.Ord.cmp self.old.used self.old.rows key))
+            (keys_of self.new.rows self.new.met)) }
+        ensures rows { OnOk result (Follow (F.keeps by.now.rule.now) F.tells
             by.now.after.change.now.marks by.now.after.store.now.objects
-            (has_key F.Key.Ord.cmp keys) (row_at F.Key.Ord.cmp self.old.used self.old.rows)
+            (has_key F.Key.Ord.cmp (keys_of self.new.rows self.new.met))
+            (row_at F.Key.Ord.cmp self.old.used self.old.rows)
             (row_at F.Key.Ord.cmp self.new.used self.new.rows)) }
         ensures used { self.new.used ≡ self.old.used }
-        ensures differ { IfOk result (λ keys. DifferAmong F.Key.Ord.cmp keys self.new.differing
+        ensures differ { OnOk result (DifferAmong F.Key.Ord.cmp
+            (keys_of self.new.rows self.new.met) self.new.differing
             (λ key. shown_in F.row_in (row_at F.Key.Ord.cmp self.old.used self.old.rows key))
             (λ key. shown_in F.row_in (row_at F.Key.Ord.cmp self.new.used self.new.rows key))) }
-        ensures met { IfOk result (λ keys. (k : F.Key) (n : ℕ)
-            → number_at F.Key.Ord.cmp self.old.used k ≡ Some n
-            → has_row n self.new.met ≡ has_key F.Key.Ord.cmp keys k) }
+        ensures met { OnOk result ((k : F.Key) (n : ℕ)
+            → number_at F.Key.Ord.cmp self.old.used k ≡ Some n → has_row n self.new.met
+            ≡ has_key F.Key.Ord.cmp (keys_of self.new.rows self.new.met) k) }
         ensures tied { OnOk result (AreTied F.Key.Ord.cmp F.marks_in self.new.used self.new.rows
             self.new.graph.rows self.new.next) }
-        ensures steps { IfOk result (λ keys. steps.new ≤ steps.old + sum_by
+        ensures steps { OnOk result (steps.new ≤ steps.old + sum_by
             (λ key. cost by.now.after.store.now.objects
-            ((F.filter by.now.rule.now).reads by.now.after.store.now.objects key)) keys) }
+            ((F.filter by.now.rule.now).reads by.now.after.store.now.objects key))
+            (keys_of self.new.rows self.new.met)) }
     {
         let numbers = due(&mut self.graph, by.after.change.marks.as_slice())?;
-        let mut pass = Pass {
-            keys: List::new(self.alloc),
-            notes: by.rule.no_notes(self.alloc),
-        };
+        let mut notes = by.rule.no_notes(self.alloc);
         self.differing = List::new(self.alloc);
         for number in numbers.as_slice() {
-            self.follow_number(by, *number, &mut pass, steps)?;
+            self.follow_number(by, *number, &mut notes, steps)?;
         }
         self.met = numbers;
-        let Pass { keys, notes: _ } = pass;
-        Ok(keys)
+        Ok(())
     }
 
-    // Updates the row of a number. Adds its key to the pass, and to `differing` if it may differ.
+    // Updates the row of a number. Adds its key to `differing` if it may differ.
     fn follow_number<L>(
         &mut self,
         by: &RuleChange<F>,
         number: u64,
-        pass: &mut Pass<F>,
+        notes: &mut F::Notes,
         steps: &mut Steps<L>,
     ) -> Result<(), Memory>
         requires going { by.now.after.store.now.spent ≡ false }
         requires notes { F.notes_hold by.now.rule.now by.now.after.store.now.objects
-            by.now.after.change.now pass.old.notes }
+            by.now.after.change.now notes.old }
         requires tied { AreTied F.Key.Ord.cmp F.marks_in self.old.used self.old.rows
             self.old.graph.rows self.old.next }
-        ensures keys { OnOk result (pass.new.keys ≡ pass.old.keys
-            ++ option_to_list (key_in (tree.get nat_cmp self.old.rows number))) }
         ensures rows { OnOk result (Follow (F.keeps by.now.rule.now) F.tells
             by.now.after.change.now.marks by.now.after.store.now.objects (has_key F.Key.Ord.cmp
             (option_to_list (key_in (tree.get nat_cmp self.old.rows number))))
             (row_at F.Key.Ord.cmp self.old.used self.old.rows)
             (row_at F.Key.Ord.cmp self.new.used self.new.rows)) }
-        ensures differ { OnOk result ((first : F.Key → Option F.Row) → DifferAmong F.Key.Ord.cmp
-            pass.old.keys self.old.differing first
+        ensures differ { OnOk result ((first : F.Key → Option F.Row) (found : List F.Key)
+            → DifferAmong F.Key.Ord.cmp found self.old.differing first
             (λ key. shown_in F.row_in (row_at F.Key.Ord.cmp self.old.used self.old.rows key))
-            → DifferAmong F.Key.Ord.cmp pass.new.keys self.new.differing first
+            → DifferAmong F.Key.Ord.cmp
+            (found ++ option_to_list (key_in (tree.get nat_cmp self.old.rows number)))
+            self.new.differing first
             (λ key. shown_in F.row_in (row_at F.Key.Ord.cmp self.new.used self.new.rows key))) }
         ensures notes { OnOk result (F.notes_hold by.now.rule.now by.now.after.store.now.objects
-            by.now.after.change.now pass.new.notes) }
+            by.now.after.change.now notes.new) }
         ensures tied { OnOk result (AreTied F.Key.Ord.cmp F.marks_in self.new.used self.new.rows
             self.new.graph.rows self.new.next) }
         ensures used { self.new.used ≡ self.old.used }
@@ -263,7 +252,6 @@ impl<F: RowRule> TableRows<F> {
     {
         match self.rows.get_mut(&number) {
             Some(row) => {
-                let notes = &mut pass.notes;
                 let followed = by
                     .rule
                     .follow(&by.after, &row.key, &mut row.kept, notes, steps)?;
@@ -274,12 +262,36 @@ impl<F: RowRule> TableRows<F> {
                     followed.marks,
                     &row.kept,
                 )?;
-                note_differing(self.alloc, &mut self.differing, &row.key, followed.differs)?;
-                let key = row.key.copy(self.alloc)?;
-                pass.keys.add(key)
+                note_differing(self.alloc, &mut self.differing, &row.key, followed.differs)
             }
             None => Ok(()),
         }
+    }
+
+    /// Returns the keys of the rows that read a mark of the last change.
+    pub fn met_keys(&self) -> Result<List<F::Key>, Memory>
+        ensures { IfOk result (λ keys. keys ≡ keys_of self.now.rows self.now.met) }
+    {
+        let mut keys = List::new(self.alloc);
+        for number in self.met.as_slice() {
+            add_key(self.alloc, &mut keys, self.rows.get(number))?;
+        }
+        Ok(keys)
+    }
+}
+
+// Appends the key of a row, if there is one.
+fn add_key<K: Copied, T>(
+    alloc: Global,
+    keys: &mut List<K>,
+    row: Option<&KeptRow<K, T>>,
+) -> Result<(), Memory>
+    ensures { OnOk result
+        (keys.new ≡ keys.old ++ option_to_list (key_in (option_copied row.entry))) }
+{
+    match row {
+        Some(row) => keys.add(row.key.copy(alloc)?),
+        None => Ok(()),
     }
 }
 

@@ -1,10 +1,8 @@
 -- The ids of rows that have numbers: what becomes of them as an id is opened or closed.
-use Rattle.std.proofs.Common.{◌≡◌, ◌⊎◌, inl, inr, ℕ, ◌+◌, ◌<◌, ◌&&◌, ◌||◌, not, Bool, true, false, cond, nat_eq, List, [], ◌∷◌, ◌++◌, length, get_or, take, Option, Some, None, option_to_list, refl, sym, ap, subst, ◌∙◌}
+use Rattle.std.proofs.Common.{◌≡◌, ◌⊎◌, inl, inr, ℕ, ◌&&◌, ◌||◌, not, Bool, true, false, cond, nat_eq, List, [], ◌∷◌, Option, Some, None, refl, sym, ap, subst, ◌∙◌}
 use Rattle.std.proofs.lemmas.Bool.{and_parts, false≢true}
 use Rattle.std.proofs.lemmas.Bool.Decides.{eqb_tells}
 use Rattle.std.proofs.lemmas.Cmp.{nat_cmp_total}
-use Rattle.std.proofs.lemmas.List.{take_more}
-use Rattle.std.proofs.lemmas.List.Elements.{filter_map-append}
 use Rattle.std.specs.BTreeMap.{BTreeMap}
 use Rattle.std.specs.BTreeSet.{BTreeSet}
 use Rattle.std.specs.Cmp.{IsTotalOrder}
@@ -65,19 +63,6 @@ any_number by_number number_at id (key ∷ keys) = by (number_at key) ∙ ap (λ
     by : (o : Option ℕ) → list_any (λ n. row_at nat_cmp by_number n id) (cons_option o (filter_map number_at keys)) ≡ (id_at by_number o id || list_any (λ n. row_at nat_cmp by_number n id) (filter_map number_at keys))
     by None = refl
     by (Some n) = refl
-
--- what the items so far give, and one more
-one_more : {A B : Type 0} (f : A → Option B) (xs : List A) (i : ℕ) (d : A) → i < length xs → filter_map f (take (i + 1) xs) ≡ filter_map f (take i xs) ++ option_to_list (f (get_or xs i d))
-one_more {B} f xs i d lt = ap (filter_map f) (take_more xs i d lt) ∙ filter_map-append f (take i xs) (get_or xs i d ∷ []) ∙ ap (λ ys. filter_map f (take i xs) ++ ys) (one (f (get_or xs i d)))
-  where
-    one : (found : Option B) → cons_option found [] ≡ option_to_list found
-    one None = refl
-    one (Some y) = refl
-
-pub gathers : {A B : Type 0} (f : A → Option B) (xs : List A) (i : ℕ) (x : A) (so_far new : List B) (given : Option B) → i < length xs → x ≡ get_or xs i x
-    → so_far ≡ filter_map f (take i xs) → given ≡ f x → new ≡ so_far ++ option_to_list given → new ≡ filter_map f (take (i + 1) xs)
-gathers f xs i x so_far new given lt at before is adds =
-    adds ∙ ap (λ ys. ys ++ option_to_list given) before ∙ ap (λ found. filter_map f (take i xs) ++ option_to_list found) (is ∙ ap f at) ∙ sym (one_more f xs i x lt)
 
 no_number : (numbers : List ℕ) → list_any (λ (n : ℕ). false) numbers ≡ false
 no_number [] = refl

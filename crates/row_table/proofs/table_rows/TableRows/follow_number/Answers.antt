@@ -1,4 +1,4 @@
-use Rattle.std.proofs.Common.{◌≡◌, ◌∷◌, ◌++◌, ◌&&◌, [], false, List, Some, IsSome, refl, sym, ap, subst, ◌∙◌}
+use Rattle.std.proofs.Common.{◌≡◌, ◌∷◌, ◌++◌, ◌&&◌, [], false, List, Some, IsSome, refl, sym, ap, subst}
 use Rattle.std.specs.BTreeMap as tree
 use Rattle.std.specs.FinMap.{nat_cmp-IsAntisymmetric}
 use Rattle.std.specs.Option.{option_to_list}
@@ -15,8 +15,8 @@ use Rattle.row_table.proofs.Tied.{keys_stay, row_put, row_there, tied_followed}
 use Rattle.row_table.proofs.Users.{ok_then}
 use Rattle.row_table.proofs.table_rows.TableRows.follow_number.Goals as goal
 
-pub returns-in_ok-key-in-Some-clause-tied : goal.returns-in_ok-key-in-Some-clause-tied
-returns-in_ok-key-in-Some-clause-tied g c =
+pub returns-in_ok-rewatch-in-Some-clause-tied : goal.returns-in_ok-rewatch-in-Some-clause-tied
+returns-in_ok-rewatch-in-Some-clause-tied g c =
     let cmp = g.F.Key.Ord.cmp in
     let self = c.args.self.now in
     let n = c.args.number in
@@ -26,12 +26,12 @@ returns-in_ok-key-in-Some-clause-tied g c =
     let there : tree.get nat_cmp self.rows n ≡ Some before = sym c.in-Some.ensures.value in
     let put : PutsAt nat_cmp n (Some after) (tree.get nat_cmp self.rows) (tree.get nat_cmp new) =
     updated nat_cmp nat_cmp_total nat_cmp-IsAntisymmetric n (Some after) self.rows new ((c.get_mut.follows.holds after).3 (subst IsSome c.in-Some.ensures.value refl)) in
-    ok_then c.add.result c.add.ensures.ok (λ added.
+    ok_then c.note_differing.result c.note_differing.ensures (λ noted.
     tied_followed cmp g.met.F.Key.Ord.total g.met.F.RowRule.exact g.F.RowRule.marks_in self.used self.rows new self.graph.rows c.rewatch.new.graph.rows self.next n before after c.requires.tied there refl put
     c.in_ok-followed-in-Some.followed.marks c.in_ok-followed-in-Some.ensures.marks c.in_ok-rewatch-in-Some.ensures)
 
-pub returns-in_ok-key-in-Some-clause-same : goal.returns-in_ok-key-in-Some-clause-same
-returns-in_ok-key-in-Some-clause-same g c =
+pub returns-in_ok-rewatch-in-Some-clause-same : goal.returns-in_ok-rewatch-in-Some-clause-same
+returns-in_ok-rewatch-in-Some-clause-same g c =
     let cmp = g.F.Key.Ord.cmp in
     let self = c.args.self.now in
     let n = c.args.number in
@@ -41,11 +41,11 @@ returns-in_ok-key-in-Some-clause-same g c =
     let there : tree.get nat_cmp self.rows n ≡ Some before = sym c.in-Some.ensures.value in
     let put : PutsAt nat_cmp n (Some after) (tree.get nat_cmp self.rows) (tree.get nat_cmp new) =
     updated nat_cmp nat_cmp_total nat_cmp-IsAntisymmetric n (Some after) self.rows new ((c.get_mut.follows.holds after).3 (subst IsSome c.in-Some.ensures.value refl)) in
-    ok_then c.add.result c.add.ensures.ok (λ added.
+    ok_then c.note_differing.result c.note_differing.ensures (λ noted.
     keys_stay cmp g.met.F.Key.Ord.total g.met.F.RowRule.exact g.F.RowRule.marks_in self.used self.rows new self.graph.rows c.rewatch.new.graph.rows self.next n before after c.requires.tied there refl put)
 
-pub returns-in_ok-key-in-Some-clause-rows : goal.returns-in_ok-key-in-Some-clause-rows
-returns-in_ok-key-in-Some-clause-rows g c =
+pub returns-in_ok-rewatch-in-Some-clause-rows : goal.returns-in_ok-rewatch-in-Some-clause-rows
+returns-in_ok-rewatch-in-Some-clause-rows g c =
     let cmp = g.F.Key.Ord.cmp in
     let total = g.met.F.Key.Ord.total in
     let exact = g.met.F.RowRule.exact in
@@ -61,22 +61,21 @@ returns-in_ok-key-in-Some-clause-rows g c =
     updated nat_cmp nat_cmp_total nat_cmp-IsAntisymmetric n (Some after) self.rows new ((c.get_mut.follows.holds after).3 (subst IsSome c.in-Some.ensures.value refl)) in
     let start = row_at cmp self.used self.rows in
     let end = row_at cmp self.used new in
-    ok_then c.add.result c.add.ensures.ok (λ added.
+    ok_then c.note_differing.result c.note_differing.ensures (λ noted.
     subst (λ (keys : List g.row.F-Key.Denot). Follow (g.F.RowRule.keeps by.rule.now) g.F.RowRule.tells by.after.change.now.marks by.after.store.now.objects (has_key cmp keys) start end) (ap (λ row. option_to_list (key_in row)) (sym there))
     (follow_put cmp total exact (g.F.RowRule.keeps by.rule.now) g.F.RowRule.tells by.after.change.now.marks by.after.store.now.objects before.key before after start end
     (row_there cmp total exact marks_in self.used self.rows new self.graph.rows c.rewatch.new.graph.rows self.next n before after c.requires.tied there refl put)
     (row_put cmp total exact marks_in self.used self.rows new self.graph.rows c.rewatch.new.graph.rows self.next n before after c.requires.tied there refl put)
     refl (λ held keeps leads. (c.in_ok-followed-in-Some.ensures.kept held keeps leads, c.in_ok-followed-in-Some.ensures.tells held keeps leads))))
 
-pub returns-in_ok-key-in-Some-clause-differ : goal.returns-in_ok-key-in-Some-clause-differ
-returns-in_ok-key-in-Some-clause-differ g c =
+pub returns-in_ok-rewatch-in-Some-clause-differ : goal.returns-in_ok-rewatch-in-Some-clause-differ
+returns-in_ok-rewatch-in-Some-clause-differ g c =
     let cmp = g.F.Key.Ord.cmp in
     let total = g.met.F.Key.Ord.total in
     let exact = g.met.F.RowRule.exact in
     let marks_in = g.F.RowRule.marks_in in
     let row_in = g.F.RowRule.row_in in
     let self = c.args.self.now in
-    let pass = c.args.pass.now in
     let n = c.args.number in
     let before = c.in-Some.row.now in
     let after : KeptRow g.row.F-Key.Denot g.row.F-Kept.Denot = record { key = before.key; kept = c.follow.new.kept } in
@@ -94,7 +93,7 @@ returns-in_ok-key-in-Some-clause-differ g c =
     (row_put cmp total exact marks_in self.used self.rows new self.graph.rows c.rewatch.new.graph.rows self.next n before after c.requires.tied there refl put)
     (row_there cmp total exact marks_in self.used self.rows new self.graph.rows c.rewatch.new.graph.rows self.next n before after c.requires.tied there refl put)
     differs c.in_ok-followed-in-Some.ensures.row in
-    ok_then c.add.result c.add.ensures.ok (λ added first so_far.
-    subst (λ (keys : List g.row.F-Key.Denot). DifferAmong cmp keys c.note_differing.new.differing first shown) (sym (added ∙ ap (λ key. pass.keys ++ key ∷ []) c.in_ok-key-in-Some.ensures))
-    (subst (λ (keys : List g.row.F-Key.Denot). DifferAmong cmp (pass.keys ++ key ∷ []) keys first shown) (sym c.in_ok-note_differing-in-Some.ensures)
-    (differ_more cmp key differs pass.keys self.differing first (λ k. shown_in row_in (start k)) shown stays so_far)))
+    ok_then c.note_differing.result c.note_differing.ensures (λ noted first found so_far.
+    subst (λ (keys : List g.row.F-Key.Denot). DifferAmong cmp keys c.note_differing.new.differing first shown) (ap (λ row. found ++ option_to_list (key_in row)) (sym there))
+    (subst (λ (keys : List g.row.F-Key.Denot). DifferAmong cmp (found ++ key ∷ []) keys first shown) (sym noted)
+    (differ_more cmp key differs found self.differing first (λ k. shown_in row_in (start k)) shown stays so_far)))

@@ -13,7 +13,7 @@ returns-clause-touched g c =
     let numbers = g.I.RowIndex.met c.on_change.new.self in
     if_then c.rows_at.result c.rows_at.ensures.rows (λ ids are held st.
     ids_touched g.I.Key.Ord.cmp g.met.I.Key.Ord.total g.met.I.RowIndex.exact g.I.RowIndex.users g.I.RowIndex.number_at g.I.RowIndex.stands (g.I.RowIndex.filter self.index) g.I.RowIndex.row_at g.I.RowIndex.marks_at held self.index self.by_number self.by_id
-    (g.met.I.RowIndex.current self.index held) st c.args.change.now.marks c.in_ok-on_change.field-0 c.in_ok-on_change.ensures.keys numbers ids
+    (g.met.I.RowIndex.current self.index held) st c.args.change.now.marks (g.I.RowIndex.met_keys c.on_change.new.self) c.in_ok-on_change.ensures.keys numbers ids
     (c.in_ok-on_change.ensures.met held st.rows) (λ n. are n ∙ ap (list_any (λ m. row_at nat_cmp self.by_number m n)) c.met.ensures))
 
 pub returns-clause-stands : goal.returns-clause-stands
@@ -28,7 +28,7 @@ returns-clause-steps g c =
     let self = c.args.self.now in
     on_any c.rows_at.result (λ held st.
     met_cost g.I.Key.Ord.cmp g.met.I.Key.Ord.total g.met.I.RowIndex.exact g.I.RowIndex.users (g.I.RowIndex.filter self.index) g.I.RowIndex.row_at g.I.RowIndex.marks_at held c.args.store.now.objects c.args.change.now.marks self.index
-    (g.met.I.RowIndex.current self.index held st.rows) (is_open (g.I.RowIndex.number_at self.index) self.by_number) st.one_user c.in_ok-on_change.field-0 c.in_ok-on_change.ensures.keys c.args.steps.now c.on_change.new.steps c.in_ok-on_change.ensures.steps)
+    (g.met.I.RowIndex.current self.index held st.rows) (is_open (g.I.RowIndex.number_at self.index) self.by_number) st.one_user (g.I.RowIndex.met_keys c.on_change.new.self) c.in_ok-on_change.ensures.keys c.args.steps.now c.on_change.new.steps c.in_ok-on_change.ensures.steps)
 
 pub returns-clause-differ : goal.returns-clause-differ
 returns-clause-differ g c =

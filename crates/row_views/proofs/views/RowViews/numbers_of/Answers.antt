@@ -1,4 +1,4 @@
-use Rattle.row_views.proofs.Numbers.{gathers}
+use Rattle.row_table.proofs.Gathered.{gathers}
 use Rattle.row_views.proofs.views.RowViews.numbers_of.Goals as goal
 
 pub loop-key-preserved : goal.loop-key-preserved
