@@ -9,6 +9,7 @@ mod Front
 mod InUse
 mod MadeDue
 pub mod Mapped
+mod Near
 mod Shown
 mod Standing
 pub mod Streamed

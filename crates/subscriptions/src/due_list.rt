@@ -1,6 +1,7 @@
 // Sorted lists of subscription ids.
-ghost use Rattle.std.specs.Prelude.{◌≡◌, ◌<◌, ◌&&◌, ◌||◌, not, ℕ, nat_eq, [], length, OnOk, IfOk, IfErr};
-ghost use Rattle.std.specs.List.{remove};
+ghost use Rattle.std.specs.Prelude.{◌≡◌, ◌<◌, ◌≤◌, ◌&&◌, ◌||◌, not, ℕ, nat_eq, [], length, true, OnOk, IfOk, IfErr};
+ghost use Rattle.std.specs.List.{AllWithin, HoldsAt, remove};
+ghost use Rattle.std.specs.declared.cmp.Ordering.TheVariants.{Greater, Less};
 ghost use Rattle.mesh_base.specs.Places.{IsHit, IsGap};
 ghost use Rattle.subscriptions.specs.DueIds.{Rises, id_cmp, is_among};
 
@@ -61,18 +62,30 @@ impl DueList {
         }
     }
 
-    /// Inserts the id, unless it is in the list.
+    /// Inserts the id, unless it is in the list. An id above all others is inserted without a
+    /// search.
     pub fn put(&mut self, id: SubId) -> Result<(), Memory>
         ensures { OnOk result ((n : ℕ)
             → is_among n self.new ≡ (nat_eq n id.0 || is_among n self.old)) }
     {
-        match place(self.as_slice(), id) {
-            Ok(_) => {}
+        let end = self.as_slice().len();
+        self.put_near(id, end)?;
+        Ok(())
+    }
+
+    /// Does as `put`, without a search if the id belongs at the index `near`. Returns the index
+    /// after the id, where the next greater id belongs.
+    pub fn put_near(&mut self, id: SubId, near: usize) -> Result<usize, Memory>
+        ensures { OnOk result ((n : ℕ)
+            → is_among n self.new ≡ (nat_eq n id.0 || is_among n self.old)) }
+    {
+        match place_near(self.as_slice(), id, near) {
+            Ok(at) => Ok(at + 1),
             Err(at) => {
                 self.ids.insert(self.start + at, id)?;
+                Ok(at + 1)
             }
         }
-        Ok(())
     }
 
     /// Removes the id, if it is in the list.
@@ -122,6 +135,67 @@ fn place(ids: &[SubId], id: SubId) -> Result<usize, usize>
     ensures gap { IfErr result (IsGap (λ other. id_cmp other id) ids.now) }
 {
     ids.binary_search_by(|other| compare_ids(*other, id))
+}
+
+/// Does as `place`, without a search if the id belongs at the index `near`.
+fn place_near(ids: &[SubId], id: SubId, near: usize) -> Result<usize, usize>
+    requires { Rises ids.now }
+    ensures hit { IfOk result (IsHit (λ other. id_cmp other id) ids.now) }
+    ensures gap { IfErr result (IsGap (λ other. id_cmp other id) ids.now) }
+{
+    if has_rank(ids, id, near, Ordering::Equal) {
+        return Ok(near);
+    }
+    if is_gap(ids, id, near) {
+        return Err(near);
+    }
+    place(ids, id)
+}
+
+fn is_gap(ids: &[SubId], id: SubId, at: usize) -> bool
+    requires { Rises ids.now }
+    ensures { result ≡ true → IsGap (λ other. id_cmp other id) ids.now at }
+{
+    if !are_below(ids, id, at) {
+        return false;
+    }
+    are_above(ids, id, at)
+}
+
+/// Whether the index is at most the length, and the ids before it are below the given id.
+fn are_below(ids: &[SubId], id: SubId, at: usize) -> bool
+    requires { Rises ids.now }
+    ensures within { result ≡ true → at ≤ length ids.now }
+    ensures below { result ≡ true
+        → AllWithin (λ other. id_cmp other id ≡ Less) ids.now 0 at }
+{
+    if at == 0 {
+        return true;
+    }
+    has_rank(ids, id, at - 1, Ordering::Less)
+}
+
+/// Whether the ids from the index on are above the given id.
+fn are_above(ids: &[SubId], id: SubId, at: usize) -> bool
+    requires { Rises ids.now }
+    ensures { result ≡ true
+        → AllWithin (λ other. id_cmp other id ≡ Greater) ids.now at (length ids.now) }
+{
+    if at >= ids.len() {
+        return true;
+    }
+    has_rank(ids, id, at, Ordering::Greater)
+}
+
+/// Whether there is an id at the index, and it compares to the given id as `rank`.
+fn has_rank(ids: &[SubId], id: SubId, at: usize, rank: Ordering) -> bool
+    ensures within { result ≡ true → at < length ids.now }
+    ensures level { result ≡ true → HoldsAt (λ other. id_cmp other id ≡ rank) ids.now at }
+{
+    match ids.get(at) {
+        Some(other) => compare_ids(*other, id) == rank,
+        None => false,
+    }
 }
 
 fn compare_ids(a: SubId, b: SubId) -> Ordering

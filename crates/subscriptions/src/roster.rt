@@ -133,26 +133,29 @@ impl Roster {
         self.due.take(id);
     }
 
-    /// Makes those of these ids due that are live.
+    /// Makes those of these ids due that are live. While they ascend, each is looked for first
+    /// beside the one before it.
     pub fn make_due(&mut self, ids: &[u64]) -> Result<(), Memory>
         ensures subs { self.new.subs ≡ self.old.subs }
         ensures due { OnOk result (MakesDue (λ id. has_row id ids.now) self.old self.new) }
     {
+        let mut near = 0;
         for id in ids {
-            self.make_one_due(*id)?;
+            near = self.make_one_due(*id, near)?;
         }
         Ok(())
     }
 
-    fn make_one_due(&mut self, id: u64) -> Result<(), Memory>
+    // Makes the id due, if it is live. The index `near` of the list is tried first. Returns the
+    // index for the next id.
+    fn make_one_due(&mut self, id: u64, near: usize) -> Result<usize, Memory>
         ensures subs { self.new.subs ≡ self.old.subs }
         ensures due { OnOk result (MakesDue (λ n. nat_eq n id) self.old self.new) }
     {
         let Some(sub) = self.subs.get(id) else {
-            return Ok(());
+            return Ok(near);
         };
         let due = sub.id;
-        self.due.put(due)?;
-        Ok(())
+        Ok(self.due.put_near(due, near)?)
     }
 }
