@@ -1,6 +1,9 @@
+mod Filters
 mod Followed
 mod Held
+mod Listing
 mod Names
 mod Noted
 mod Outside
+mod Quiet
 mod Selecting

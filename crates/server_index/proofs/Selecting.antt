@@ -88,7 +88,7 @@ sum_map f shown (a ∷ items) = sum_by-cons f (shown a) (map shown items) ∙ ap
 
 -- ---- the lists of those that may
 
-hidden : {A : Type 0} (b : Bool) (some : Option A) → (b ≡ true → true ≡ false) → cond b some None ≡ None
+pub hidden : {A : Type 0} (b : Bool) (some : Option A) → (b ≡ true → true ≡ false) → cond b some None ≡ None
 hidden true some lacks = absurd (let no : true ≡ false = lacks refl in cc no)
 hidden false some lacks = refl
 

@@ -4,7 +4,7 @@ use Rattle.std.proofs.Common.{◌≡◌, ℕ, Bool, true, false, cond, List, [],
 use Rattle.std.specs.BTreeMap as tree
 use Rattle.std.specs.Cmp.{tied_itself}
 use Rattle.std.specs.Cmp.Lexicographic.{nat_list_cmp_total, slice_cmp}
-use Rattle.std.specs.FinMap.{get}
+use Rattle.std.specs.FinMap.{entries, get}
 use Rattle.std.specs.Map.{keys_of, lookup}
 use Rattle.std.specs.Option.{is_some}
 use Rattle.std.specs.Ordering.{is_eq, nat_cmp}
@@ -36,6 +36,7 @@ use Rattle.mark_rules.specs.Rows.{ServerPart, part_of, server_part}
 use Rattle.mark_rules.specs.ServerMatches.{AreMatches, is_match}
 use Rattle.mark_rules.specs.declared.keys.ServerKey.{ServerKey}
 use Rattle.row_table.specs.IndexRows.{KeptShows, KeptStays}
+use Rattle.server_index.specs.Concerned.{HaveValues}
 use Rattle.server_index.specs.Matches.{AreUp, Terms, at_name, part_from, terms_at, terms_of}
 use Rattle.server_index.specs.Standing.{Stands, its_pod, row_from}
 use Rattle.server_index.specs.declared.kept.KeptServer.{KeptServer}
@@ -153,14 +154,16 @@ module _ (key : ServerKey) (pod : Pod) where
   all_terms_stay {changed} {before} {after} leads misses name =
       through_mark (get before (server_key key.ns name)) ∙ ap terms (leads.same (ServersIn key.ns) (server_key key.ns name) misses) ∙ sym (through_mark (get after (server_key key.ns name)))
 
--- if the stored Servers are up after a change that leaves the Pod unchanged, and the row is from
--- them, what is stored stands
+-- if the stored Servers are up after a change that leaves the Pod unchanged, the filter has the
+-- values of the Pod's labels, and the row is from the Servers, what is stored stands
 pub stands_after : (config : Config) (key : ServerKey) (kept : KeptServer) (before after : ObjectMap) → AtKeys after → its_pod before key ≡ its_pod after key
-    → ((pod : Pod) → its_pod before key ≡ Some pod → AreUp after key pod kept.servers) → kept.row ≡ row_from config key.port kept.servers (its_pod before key) → kept.marks ≡ server_reads key
-    → Stands config after key kept
-stands_after config key kept before after own same up row marks = record {
+    → ((pod : Pod) → its_pod before key ≡ Some pod → AreUp after key pod kept.servers)
+    → ((pod : Pod) → its_pod before key ≡ Some pod → HaveValues kept.values (entries pod.meta.labels))
+    → kept.row ≡ row_from config key.port kept.servers (its_pod before key) → kept.marks ≡ server_reads key → Stands config after key kept
+stands_after config key kept before after own same up values row marks = record {
   own = own;
   servers = λ pod is. up pod (same ∙ is);
+  values = λ pod is. values pod (same ∙ is);
   row = row ∙ ap (row_from config key.port kept.servers) same;
   marks = marks;
 }
@@ -170,4 +173,4 @@ stands_still config key kept changed before after leads misses well =
     let pod = pod_stays leads key (neither_first _ _ misses) in
     let others = neither_first _ _ (neither_second _ _ misses) in
     stands_after config key kept before after leads.keys_kept pod
-    (λ pod is name. well.servers pod is name ∙ all_terms_stay key pod leads others name) well.row well.marks
+    (λ pod is name. well.servers pod is name ∙ all_terms_stay key pod leads others name) well.values well.row well.marks

@@ -1,16 +1,21 @@
 // What is stored for a port: its row, and the Servers that match it.
 ghost use Rattle.std.specs.Prelude.{◌≡◌, ◌≤◌, ◌+◌, ◌↔◌, false, Some, None, IsTrue, IfOk, OnOk, count_by, length, slice_get};
+ghost use Rattle.std.specs.FinMap.{entries};
 ghost use Rattle.view_types.specs.Objects.{ObjectMap};
 ghost use Rattle.view_types.specs.declared.mark.Mark.TheVariants.{Obj, ServersIn};
 ghost use Rattle.view_rules.specs.PodRows.{pod_key};
 ghost use Rattle.mark_rules.specs.Changes.{Leads};
 ghost use Rattle.mark_rules.specs.Marks.{has_mark, same_mark};
 ghost use Rattle.mark_rules.specs.Reads.{cost, count_at, server_reads};
-ghost use Rattle.server_index.specs.Matches.{AreRight, AreUp, BringsUp, names_server, part_from};
+ghost use Rattle.server_index.specs.Concerned.{HaveValues};
+ghost use Rattle.server_index.specs.Matches.{AreUp, BringsUp, names_server, part_from};
+ghost use Rattle.server_index.specs.Noting.{NotesHold};
 ghost use Rattle.server_index.specs.Standing.{Stands};
 
+use crate::change_notes::ChangeNotes;
+use crate::concerns::pod_values;
 use crate::matching::Matching;
-use crate::notes::ServerNotes;
+use crate::name_filter::NameFilter;
 use crate::pods::pod_near;
 use crate::port::{PodPort, Port};
 use crate::servers::{count_servers, follow_servers, servers_for};
@@ -32,13 +37,15 @@ use view_types::policy::{Policy, Protocol};
 pub type ServerPart = (Protocol, Policy, Option<Text>, List<Text>);
 
 /// The server part of a port, if its Pod is held, with the Servers that match the port, the marks
-/// that are read, and the position of the Pod among the Pods held when it was last looked up.
+/// that are read, the position of the Pod among the Pods held when it was last looked up, and a
+/// filter of the values of the Pod's labels.
 #[derive(Drop)]
 pub struct KeptServer {
     pub(crate) row: Option<ServerPart>,
     pub(crate) servers: Matching,
     pub(crate) marks: List<Mark>,
     pod_place: usize,
+    values: NameFilter,
 }
 
 /// Computes the server part of a port.
@@ -55,23 +62,23 @@ pub(crate) fn find<L>(port: &Port, steps: &mut Steps<L>) -> Result<KeptServer, M
         servers: Matching::new(alloc),
         marks: server_reads(alloc, port.key)?,
         pod_place: 0,
+        values: NameFilter::new(),
     };
     find_again(port, &mut kept, steps)?;
     Ok(kept)
 }
 
-/// Updates what is stored for a port for a change with these marks. Only the Servers of the change
-/// are checked, unless it has the mark of the Pod, or is of more Servers than the namespace then
-/// has. Returns whether the row may differ.
+/// Updates what is stored for a port for a change with these marks. A port that the change doesn't
+/// concern by the filters is left as it is. Returns whether the row may differ.
 pub(crate) fn follow<L>(
     port: &Port,
     changed: &[Mark],
     kept: &mut KeptServer,
-    notes: &mut ServerNotes,
+    notes: &mut ChangeNotes,
     steps: &mut Steps<L>,
 ) -> Result<bool, Memory>
     requires going { port.now.from.now.store.now.spent ≡ false }
-    requires notes { AreRight port.now.from.now.store.now.objects notes.old }
+    requires notes { NotesHold port.now.from.now.store.now.objects changed.now notes.old }
     ensures stands { OnOk result ((held : ObjectMap)
         → Stands port.now.from.now.config.now held port.now.key.now kept.old
         → Leads changed.now held port.now.from.now.store.now.objects
@@ -79,7 +86,37 @@ pub(crate) fn follow<L>(
         port.now.key.now kept.new) }
     ensures differ { IfOk result (λ differs. differs ≡ false → kept.new.row ≡ kept.old.row) }
     ensures marks { OnOk result (kept.new.marks ≡ kept.old.marks) }
-    ensures notes { OnOk result (AreRight port.now.from.now.store.now.objects notes.new) }
+    ensures notes { OnOk result (NotesHold port.now.from.now.store.now.objects changed.now
+        notes.new) }
+    ensures steps { steps.new ≤ steps.old + cost port.now.from.now.store.now.objects
+        (server_reads port.now.key.now) }
+{
+    if notes.passes_over(kept.servers.names(), &kept.values) {
+        return Ok(false);
+    }
+    follow_concerned(port, changed, kept, notes, steps)
+}
+
+/// Does the same for a port that the change may concern. Only the Servers of the change are
+/// checked, unless it has the mark of the Pod, or is of more Servers than the namespace then has.
+fn follow_concerned<L>(
+    port: &Port,
+    changed: &[Mark],
+    kept: &mut KeptServer,
+    notes: &mut ChangeNotes,
+    steps: &mut Steps<L>,
+) -> Result<bool, Memory>
+    requires going { port.now.from.now.store.now.spent ≡ false }
+    requires notes { NotesHold port.now.from.now.store.now.objects changed.now notes.old }
+    ensures stands { OnOk result ((held : ObjectMap)
+        → Stands port.now.from.now.config.now held port.now.key.now kept.old
+        → Leads changed.now held port.now.from.now.store.now.objects
+        → Stands port.now.from.now.config.now port.now.from.now.store.now.objects
+        port.now.key.now kept.new) }
+    ensures differ { IfOk result (λ differs. differs ≡ false → kept.new.row ≡ kept.old.row) }
+    ensures marks { OnOk result (kept.new.marks ≡ kept.old.marks) }
+    ensures notes { OnOk result (NotesHold port.now.from.now.store.now.objects changed.now
+        notes.new) }
     ensures steps { steps.new ≤ steps.old + cost port.now.from.now.store.now.objects
         (server_reads port.now.key.now) }
 {
@@ -159,11 +196,14 @@ fn fill<L>(port: &PodPort, kept: &mut KeptServer, steps: &mut Steps<L>) -> Resul
         port.now.pod.now kept.new.servers) }
     ensures row { OnOk result (kept.new.row ≡ Some (part_from port.now.from.now.config.now
         port.now.pod.now port.now.key.now.port (slice_get kept.new.servers.by_name.entries 0))) }
+    ensures values { OnOk result (HaveValues kept.new.values
+        (entries port.now.pod.now.meta.labels)) }
     ensures marks { OnOk result (kept.new.marks ≡ kept.old.marks) }
     ensures steps { steps.new ≤ steps.old + count_at port.now.from.now.store.now.objects
         (ServersIn port.now.key.now.ns) }
 {
     kept.servers = servers_for(port, steps)?;
+    kept.values = pod_values(port.pod);
     kept.row = Some(part_from(port, &kept.servers)?);
     Ok(())
 }
@@ -174,11 +214,11 @@ fn follow_in_place<L>(
     port: &Port,
     changed: &[Mark],
     kept: &mut KeptServer,
-    notes: &mut ServerNotes,
+    notes: &mut ChangeNotes,
     steps: &mut Steps<L>,
 ) -> Result<bool, Memory>
     requires going { port.now.from.now.store.now.spent ≡ false }
-    requires notes { AreRight port.now.from.now.store.now.objects notes.old }
+    requires notes { NotesHold port.now.from.now.store.now.objects changed.now notes.old }
     requires pod { has_mark changed.now (Obj (pod_key port.now.key.now.ns port.now.key.now.pod))
         ≡ false }
     requires few { count_by (names_server port.now.key.now.ns) changed.now
@@ -190,7 +230,8 @@ fn follow_in_place<L>(
         port.now.key.now kept.new) }
     ensures differ { IfOk result (λ differs. differs ≡ false → kept.new.row ≡ kept.old.row) }
     ensures marks { OnOk result (kept.new.marks ≡ kept.old.marks) }
-    ensures notes { OnOk result (AreRight port.now.from.now.store.now.objects notes.new) }
+    ensures notes { OnOk result (NotesHold port.now.from.now.store.now.objects changed.now
+        notes.new) }
     ensures steps { steps.new ≤ steps.old + cost port.now.from.now.store.now.objects
         (server_reads port.now.key.now) }
 {
@@ -207,10 +248,10 @@ fn renew<L>(
     port: &PodPort,
     changed: &[Mark],
     kept: &mut KeptServer,
-    notes: &mut ServerNotes,
+    notes: &mut ChangeNotes,
     steps: &mut Steps<L>,
 ) -> Result<bool, Memory>
-    requires { AreRight port.now.from.now.store.now.objects notes.old }
+    requires { NotesHold port.now.from.now.store.now.objects changed.now notes.old }
     ensures servers { OnOk result (BringsUp port.now.from.now.store.now.objects port.now.key.now
         port.now.pod.now (λ k. has_mark changed.now (Obj k)) kept.old.servers kept.new.servers) }
     ensures row { OnOk result (kept.old.row ≡ Some (part_from port.now.from.now.config.now
@@ -218,12 +259,16 @@ fn renew<L>(
         → kept.new.row ≡ Some (part_from port.now.from.now.config.now port.now.pod.now
         port.now.key.now.port (slice_get kept.new.servers.by_name.entries 0))) }
     ensures differ { IfOk result (λ differs. differs ≡ false → kept.new.row ≡ kept.old.row) }
+    ensures values { OnOk result (kept.new.values ≡ kept.old.values) }
     ensures marks { OnOk result (kept.new.marks ≡ kept.old.marks) }
-    ensures notes { OnOk result (AreRight port.now.from.now.store.now.objects notes.new) }
+    ensures notes { OnOk result (NotesHold port.now.from.now.store.now.objects changed.now
+        notes.new) }
     ensures steps { steps.new ≤ steps.old
         + count_by (names_server port.now.key.now.ns) changed.now }
 {
-    let differs = follow_servers(port, changed, &mut kept.servers, notes, steps)?;
+    let servers = &mut kept.servers;
+    let differs = follow_servers(port, changed, servers, &mut notes.servers, steps)?;
+    notes.list(changed)?;
     if !differs {
         return Ok(false);
     }

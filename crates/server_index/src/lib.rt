@@ -7,13 +7,18 @@
 //! `ServerRule`, so its contract is that of `RowIndex`, with `server_part` and `server_reads` of
 //! mark_rules as its filter. A row stores the Servers that match its port (`specs/Matches`,
 //! `specs/Standing`), so that a changed Server is inserted or removed without checking the others,
-//! and is looked up once for all rows. A new row only checks the Servers whose first required label
+//! and is looked up once for all rows. A row is passed over if filters of its Servers' names and of
+//! the values of its Pod's labels show that the change doesn't concern it (`specs/Probes`,
+//! `specs/Concerned`, `specs/Noting`). A new row only checks the Servers whose first required label
 //! has the value of one of its Pod's (`specs/Requiring`), if there are few.
 #![tactic(auto)]
 
+pub mod change_notes;
+mod concerns;
 pub mod index;
 pub mod kept;
 pub mod matching;
+mod name_filter;
 pub mod notes;
 mod pods;
 mod port;

@@ -1,10 +1,12 @@
 // The Servers that match a port, by their names.
 ghost use Rattle.std.proofs.Props.{props};
-ghost use Rattle.std.specs.Prelude.{◌≡◌, ℕ, false, List, None, IfOk, OnOk, if◌then◌else◌, option_map, slice_get};
+ghost use Rattle.std.specs.Prelude.{◌≡◌, ℕ, false, true, List, None, IfOk, OnOk, if◌then◌else◌, is_some, option_map, slice_get};
 ghost use Rattle.std.specs.BTreeMap.{IsOrdered, get};
 ghost use Rattle.std.specs.Cmp.Lexicographic.{slice_cmp};
 ghost use Rattle.std.specs.Ordering.{eq_by_cmp, nat_cmp};
+ghost use Rattle.server_index.specs.Probes.{may_have, probe_of};
 
+use crate::name_filter::{NameFilter, probe_of};
 use mesh_base::memory::Memory;
 use mesh_base::same::Same;
 use mesh_base::text::Text;
@@ -12,11 +14,15 @@ use std::alloc::Global;
 use std::collections::BTreeMap;
 use view_types::policy::{Policy, Protocol};
 
-/// The Servers that match a port, by their names, each with its protocol and its policy.
+/// The Servers that match a port, by their names, each with its protocol and its policy, and a
+/// filter that has each name.
 #[derive(Drop)]
 pub struct Matching {
     by_name: BTreeMap<Text, (Protocol, Policy)>,
+    names: NameFilter,
     ghost ordered: { IsOrdered (slice_cmp nat_cmp) by_name } by { Prim.hlevel props },
+    ghost named: { (name : List ℕ) → is_some (get (slice_cmp nat_cmp) by_name name) ≡ true
+        → may_have names (probe_of name) ≡ true } by { Prim.hlevel props },
 }
 
 impl Matching {
@@ -25,6 +31,7 @@ impl Matching {
     {
         Matching {
             by_name: BTreeMap::new(alloc),
+            names: NameFilter::new(),
         }
     }
 
@@ -46,6 +53,7 @@ impl Matching {
         }
         match terms {
             Some(terms) => {
+                self.names.insert(probe_of(name.as_bytes()));
                 self.by_name.insert(name.copy()?, terms)?;
                 Ok(true)
             }
@@ -60,6 +68,13 @@ impl Matching {
         ensures { result ≡ get (slice_cmp nat_cmp) self.now.by_name name.now }
     {
         self.by_name.get(name).copied()
+    }
+
+    /// Returns the filter of the names.
+    pub(crate) fn names(&self) -> &NameFilter
+        ensures { result.now ≡ self.now.names }
+    {
+        &self.names
     }
 
     /// Returns the Server with the least name.

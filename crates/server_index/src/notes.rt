@@ -56,6 +56,17 @@ impl ServerNotes {
         Ok(())
     }
 
+    pub(crate) fn alloc(&self) -> Global {
+        self.alloc
+    }
+
+    /// Whether it is noted what is under the key.
+    pub(crate) fn has(&self, key: &ObjKey) -> bool
+        ensures { result ≡ is_some (noted_at self.now key.now) }
+    {
+        self.by_key.contains_key(key)
+    }
+
     /// Returns the Server that is noted under the key.
     pub(crate) fn of(&self, key: &ObjKey) -> Option<&ServerSpec>
         ensures { option_copied result ≡ server_in (noted_at self.now key.now) }

@@ -1,13 +1,13 @@
 // The computation and update of the server parts of ports of Pods.
 ghost use Rattle.mark_rules.specs.Reads.{server_reads};
 ghost use Rattle.mark_rules.specs.Rows.{server_part};
-ghost use Rattle.server_index.specs.Matches.{AreRight};
+ghost use Rattle.server_index.specs.Noting.{NotesHold};
 ghost use Rattle.server_index.specs.ServerKeys.{server_keys_exact};
 ghost use Rattle.server_index.specs.Standing.{Stands};
 ghost use Rattle.server_index.specs.Still.{stands_show, stands_still};
 
+use crate::change_notes::ChangeNotes;
 use crate::kept::{KeptServer, ServerPart, find, follow};
-use crate::notes::ServerNotes;
 use crate::port::Port;
 use mark_rules::keys::ServerKey;
 use mesh_base::copied::Copied;
@@ -34,7 +34,7 @@ impl RowRule for ServerRule {
 
     type Kept = KeptServer;
 
-    type Notes = ServerNotes;
+    type Notes = ChangeNotes;
 
     ghost filter = { λ rule. record {
       row_of = server_part rule.config;
@@ -47,7 +47,8 @@ impl RowRule for ServerRule {
 
     ghost marks_in = { λ kept. kept.marks };
 
-    ghost notes_hold = { λ rule held change notes. AreRight held notes };
+    ghost notes_hold = { λ rule held change notes.
+        NotesHold held change.marks notes };
 
     ghost tells = { λ before after. Unit {0} };
 
@@ -66,8 +67,8 @@ impl RowRule for ServerRule {
         find(&Port { from: &from, key }, steps)
     }
 
-    fn no_notes(&self, alloc: Global) -> ServerNotes {
-        ServerNotes::new(alloc)
+    fn no_notes(&self, alloc: Global) -> ChangeNotes {
+        ChangeNotes::new(alloc)
     }
 
     fn follow<L>(
@@ -75,7 +76,7 @@ impl RowRule for ServerRule {
         after: &StoreChange,
         key: &ServerKey,
         kept: &mut KeptServer,
-        notes: &mut ServerNotes,
+        notes: &mut ChangeNotes,
         steps: &mut Steps<L>,
     ) -> Result<Followed, Memory> {
         let from = Snapshot {

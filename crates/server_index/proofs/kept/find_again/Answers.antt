@@ -8,7 +8,7 @@ returns-in_ok-fill-in-Some-clause-stands g c = λ marks.
     let port = c.args.port.now in
     let fill = c.in_ok-fill-in-Some.ensures in
     filled port.from.now.config.now port.from.now.store.now.objects port.key.now c.fill.new.kept c.stand_at_keys.ensures (fill.marks ∙ marks) c.in-Some.pod.now
-    (sym c.pod_near.ensures.value ∙ ap option_copied c.in-Some.is) fill.servers fill.row
+    (sym c.pod_near.ensures.value ∙ ap option_copied c.in-Some.is) fill.servers fill.values fill.row
 
 pub returns-in_ok-fill-in-Some-clause-steps : goal.returns-in_ok-fill-in-Some-clause-steps
 returns-in_ok-fill-in-Some-clause-steps g c =

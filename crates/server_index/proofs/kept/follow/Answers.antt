@@ -1,20 +1,13 @@
-use Rattle.std.proofs.Common.{◌≤◌, ℕ, subst}
-use Rattle.std.specs.List.{count_by}
-use Rattle.server_index.specs.Matches.{names_server}
-use Rattle.server_index.proofs.Followed.{servers_count}
+use Rattle.std.proofs.Common.{◌≡◌, false, subst}
+use Rattle.std.specs.List.{list_any}
+use Rattle.server_index.specs.Concerned.{stirs}
+use Rattle.server_index.specs.declared.name_filter.NameFilter.{NameFilter}
+use Rattle.server_index.proofs.Quiet.{left_alone}
 use Rattle.server_index.proofs.kept.follow.Goals as goal
 
-pub follow_in_place-requires : goal.follow_in_place-requires
-follow_in_place-requires g c =
+pub returns-then-passes_over-clause-stands : goal.returns-then-passes_over-clause-stands
+returns-then-passes_over-clause-stands g c = λ held well leads.
     let port = c.args.port.now in
-    let holds = c.if-not-is_in_place.false in
-    let count = servers_count port.from.now.store.now.objects port.key.now.ns c.servers_in-servers.result.now (c.servers_in-servers.ensures c.requires.going) in
-    record {
-      going = c.requires.going;
-      notes = c.requires.notes;
-      pod = c.is_in_place.ensures.pod holds;
-      few = subst (λ (n : ℕ). count_by (names_server port.key.now.ns) c.args.changed.now ≤ n) count (c.is_in_place.ensures.few holds);
-    }
-
-pub returns-then-not-is_in_place-clause-stands : goal.returns-then-not-is_in_place-clause-stands
-returns-then-not-is_in_place-clause-stands g c = λ held well leads. c.in_ok-find_again.ensures.stands well.marks
+    let quiet = c.passes_over.ensures c.if-passes_over.true port.from.now.store.now.objects c.args.changed.now c.requires.notes in
+    left_alone port.from.now.config.now port.key.now c.args.kept.now leads well
+    (subst (λ (names : NameFilter). list_any (stirs port.from.now.store.now.objects names c.args.kept.now.values) c.args.changed.now ≡ false) c.names.ensures quiet)

@@ -8,7 +8,7 @@ returns-in_ok-renew-in-Some-clause-stands g c = λ held well leads.
     let port = c.args.port.now in
     let renew = c.in_ok-renew-in-Some.ensures in
     followed port.from.now.config.now port.key.now c.args.kept.now leads well c.requires.pod c.in-Some.pod.now c.renew.new.kept
-    (sym c.pod_near.ensures.value ∙ ap option_copied c.in-Some.is) renew.servers renew.row renew.marks
+    (sym c.pod_near.ensures.value ∙ ap option_copied c.in-Some.is) renew.servers renew.row renew.values renew.marks
 
 pub returns-in_ok-renew-in-Some-clause-steps : goal.returns-in_ok-renew-in-Some-clause-steps
 returns-in_ok-renew-in-Some-clause-steps g c =
