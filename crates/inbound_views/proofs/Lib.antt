@@ -1,3 +1,4 @@
+pub mod Bare
 mod Costs
 mod Entering
 mod Following

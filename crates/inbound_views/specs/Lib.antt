@@ -1,3 +1,4 @@
+pub mod BarePorts
 pub mod Costs
 pub mod InUse
 pub mod PortRows

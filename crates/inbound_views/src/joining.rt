@@ -8,6 +8,7 @@ ghost use Rattle.mark_rules.specs.Reads.{authz_reads, cost};
 ghost use Rattle.mark_rules.specs.Rows.{authz_behind, join_inbound, key_of_row, keys_behind, name_in, routes_behind, row_joined, server_part, with_authz};
 ghost use Rattle.row_views.specs.Costs.{cost_of};
 ghost use Rattle.row_views.specs.Ids.{key_at};
+ghost use Rattle.inbound_views.specs.BarePorts.{bare_behind, join_bare};
 ghost use Rattle.inbound_views.specs.Costs.{cost_of_authz, cost_of_routes};
 ghost use Rattle.inbound_views.specs.PortRows.{listed, own_authz};
 ghost use Rattle.inbound_views.specs.Standing.{kept_authz, kept_routes};
@@ -69,6 +70,51 @@ pub(crate) fn joined_port<S: RowSource, L>(
         }
         None => Ok(ServerView::Absent),
     }
+}
+
+/// Returns the view of a port in a namespace with this server part. Its routes are without their
+/// authorizations.
+pub(crate) fn bare_port<S: RowSource, L>(
+    source: &S,
+    alloc: Global,
+    ns: &Text,
+    part: Option<ServerPart>,
+    steps: &mut Steps<L>,
+) -> Result<ServerView, Memory>
+    ensures view { IfOk result (λ view. (config : Config) (held : ObjectMap)
+        → S.stand source.now config held
+        → view ≡ join_bare (S.routes_at source.now held) (S.authz_at source.now config held)
+        ns.now part) }
+    ensures steps { (config : Config) (held : ObjectMap) → S.stand source.now config held
+        → steps.new ≤ steps.old + cost_of config held (bare_behind ns.now (name_in part)) }
+{
+    match part {
+        Some(part) => {
+            let row = bare_row(source, alloc, ns, part, steps)?;
+            Ok(ServerView::Present(row))
+        }
+        None => Ok(ServerView::Absent),
+    }
+}
+
+// Returns the row of a port with this server part. Its routes are without their authorizations.
+fn bare_row<S: RowSource, L>(
+    source: &S,
+    alloc: Global,
+    ns: &Text,
+    part: ServerPart,
+    steps: &mut Steps<L>,
+) -> Result<ServerRow, Memory>
+    ensures row { IfOk result (λ row. (config : Config) (held : ObjectMap)
+        → S.stand source.now config held → Present row ≡ join_bare
+        (S.routes_at source.now held) (S.authz_at source.now config held) ns.now (Some part)) }
+    ensures steps { (config : Config) (held : ObjectMap) → S.stand source.now config held
+        → steps.new ≤ steps.old + cost_of config held (bare_behind ns.now part.2) }
+{
+    let server = part.2.as_ref();
+    let authz = server_authz(source, alloc, ns, server, steps)?;
+    let routes = bare_routes(source, alloc, ns, server, steps)?;
+    Ok(row_of_part(alloc, part, authz, routes))
 }
 
 // Returns the row of a port with this server part.
@@ -152,11 +198,27 @@ fn server_routes<S: RowSource, L>(
         + cost_of_authz held (map (key_of_row ns.now) (routes_behind
         (S.routes_at source.now held) ns.now (option_copied server.entry)))) }
 {
+    let routes = bare_routes(source, alloc, ns, server, steps)?;
+    joined_routes(source, alloc, ns, routes, steps)
+}
+
+// Returns the routes of a Server, if there is one, without their authorizations.
+fn bare_routes<S: RowSource, L>(
+    source: &S,
+    alloc: Global,
+    ns: &Text,
+    server: Option<&Text>,
+    steps: &mut Steps<L>,
+) -> Result<List<RouteRow>, Memory>
+    ensures rows { IfOk result (λ rows. (config : Config) (held : ObjectMap)
+        → S.stand source.now config held → rows ≡ routes_behind (S.routes_at source.now held)
+        ns.now (option_copied server.entry)) }
+    ensures steps { (config : Config) (held : ObjectMap) → S.stand source.now config held
+        → steps.new ≤ steps.old
+        + cost_of_routes held (listed ns.now (option_copied server.entry)) }
+{
     match server {
-        Some(name) => {
-            let routes = source.routes(&routes_key(ns, name)?, steps)?;
-            joined_routes(source, alloc, ns, routes, steps)
-        }
+        Some(name) => source.routes(&routes_key(ns, name)?, steps),
         None => Ok(List::new(alloc)),
     }
 }

@@ -3,10 +3,12 @@ ghost use Rattle.std.specs.Prelude.{◌≡◌, ◌≤◌, ◌+◌, IfOk, Some};
 ghost use Rattle.view_types.specs.declared.config.Config.{Config};
 ghost use Rattle.mark_rules.specs.Rows.{server_joined};
 ghost use Rattle.row_table.specs.PeekedRow.{peeked_row};
-ghost use Rattle.row_views.specs.Costs.{open_cost};
+ghost use Rattle.row_views.specs.Costs.{cost_of, open_cost};
+ghost use Rattle.inbound_views.specs.BarePorts.{authz_of_route, bare_port, bare_rows, route_cost};
 ghost use Rattle.inbound_views.specs.PortRows.{query_for};
 
-use crate::joining::{copied_part, joined_port};
+use crate::joining::{bare_port, copied_part, joined_port};
+use crate::keys::key_of_row;
 use crate::sources::RowSource;
 use crate::views::{InboundViews, KeepsRows};
 use mark_rules::keys::{RouteKey, ServerKey};
@@ -14,8 +16,10 @@ use mesh_base::key::ObjKey;
 use mesh_base::list::List;
 use mesh_base::memory::Memory;
 use mesh_base::steps::Steps;
+use mesh_base::text::Text;
 use object_store::store::Store;
 use row_table::peeked::Peeked;
+use row_views::query_views::QueryViews;
 use server_index::kept::ServerPart;
 use std::alloc::Global;
 use view_types::server_view::{AuthzRow, RouteRow, ServerView};
@@ -69,6 +73,48 @@ impl InboundViews {
         let part = own_part(self.alloc, peeked)?;
         let rows = PeekedRows { views: self, store };
         joined_port(&rows, self.alloc, &key.ns, part, steps)
+    }
+
+    /// Returns the view of a port over the objects of the store. Its routes are without their
+    /// authorizations.
+    pub fn peek_bare<L>(
+        &self,
+        store: &Store,
+        key: &ServerKey,
+        steps: &mut Steps<L>,
+    ) -> Result<ServerView, Memory>
+        ensures view { IfOk result (λ view. (config : Config)
+            → ⟦<InboundViews as QueryViews>⟧.stands self.now config store.now.objects
+            → view ≡ bare_port config store.now.objects key.now) }
+        ensures steps { (config : Config)
+            → ⟦<InboundViews as QueryViews>⟧.stands self.now config store.now.objects
+            → steps.new ≤ steps.old
+            + cost_of config store.now.objects (bare_rows config store.now.objects key.now) }
+    {
+        let peeked = self.servers.peek(store, key, steps)?;
+        let part = own_part(self.alloc, peeked)?;
+        let rows = PeekedRows { views: self, store };
+        bare_port(&rows, self.alloc, &key.ns, part, steps)
+    }
+
+    /// Returns the authorizations of a route in a namespace over the objects of the store.
+    pub fn peek_authz<L>(
+        &self,
+        store: &Store,
+        ns: &Text,
+        route: &RouteRow,
+        steps: &mut Steps<L>,
+    ) -> Result<List<AuthzRow>, Memory>
+        ensures rows { IfOk result (λ rows. (config : Config)
+            → ⟦<InboundViews as QueryViews>⟧.stands self.now config store.now.objects
+            → rows ≡ authz_of_route config store.now.objects ns.now route.now) }
+        ensures steps { (config : Config)
+            → ⟦<InboundViews as QueryViews>⟧.stands self.now config store.now.objects
+            → steps.new ≤ steps.old + route_cost store.now.objects ns.now route.now }
+    {
+        let key = key_of_row(ns, route)?;
+        let rows = PeekedRows { views: self, store };
+        rows.authz(&key, steps)
     }
 }
 

@@ -1,10 +1,13 @@
 // The views of the open queries, each in the part for its kind.
 ghost use Rattle.std.specs.Prelude.{◌≡◌, ◌++◌, IfOk};
+ghost use Rattle.view_types.specs.declared.config.Config.{Config as TheConfig};
 
 use inbound_views::views::InboundViews;
+use mark_rules::keys::ServerKey;
 use mesh_base::list::List;
 use mesh_base::memory::Memory;
 use mesh_base::steps::Steps;
+use mesh_base::text::Text;
 use object_store::change::Change;
 use object_store::store::Store;
 use outbound_views::views::OutboundViews;
@@ -13,6 +16,7 @@ use row_views::query_views::QueryViews;
 use std::alloc::Global;
 use view_types::config::Config;
 use view_types::query::Query;
+use view_types::server_view::{AuthzRow, RouteRow, ServerView};
 use view_types::view::View;
 
 /// The views of all queries except those for endpoints. An id is open in at most one of the three parts.
@@ -24,8 +28,10 @@ pub struct KeptViews {
 }
 
 impl KeptViews {
-    ghost use Rattle.std.specs.Prelude.{◌≡◌, ℕ, None, IfOk};
+    ghost use Rattle.std.specs.Prelude.{◌≡◌, ◌≤◌, ◌+◌, ℕ, None, IfOk};
     ghost use Rattle.view_types.specs.Objects.{ObjectMap};
+    ghost use Rattle.row_views.specs.Costs.{cost_of};
+    ghost use Rattle.inbound_views.specs.BarePorts.{authz_of_route, bare_port, bare_rows, route_cost};
 
     /// Creates an empty set of views. The configuration applies to all of them.
     pub fn new(alloc: Global, config: &Config) -> Result<KeptViews, Memory>
@@ -42,6 +48,43 @@ impl KeptViews {
             ports,
             outbound,
         })
+    }
+
+    /// Returns the view of a port over the objects of the store, whether or not an id is open with it. Its routes are without their
+    /// authorizations.
+    pub fn peek_port<L>(
+        &self,
+        store: &Store,
+        key: &ServerKey,
+        steps: &mut Steps<L>,
+    ) -> Result<ServerView, Memory>
+        ensures view { IfOk result (λ view. (config : TheConfig)
+            → ⟦<KeptViews as QueryViews>⟧.stands self.now config store.now.objects
+            → view ≡ bare_port config store.now.objects key.now) }
+        ensures steps { (config : TheConfig)
+            → ⟦<KeptViews as QueryViews>⟧.stands self.now config store.now.objects
+            → steps.new ≤ steps.old
+            + cost_of config store.now.objects (bare_rows config store.now.objects key.now) }
+    {
+        self.ports.peek_bare(store, key, steps)
+    }
+
+    /// Returns the authorizations of a route in a namespace over the objects of the store.
+    pub fn peek_authz<L>(
+        &self,
+        store: &Store,
+        ns: &Text,
+        route: &RouteRow,
+        steps: &mut Steps<L>,
+    ) -> Result<List<AuthzRow>, Memory>
+        ensures rows { IfOk result (λ rows. (config : TheConfig)
+            → ⟦<KeptViews as QueryViews>⟧.stands self.now config store.now.objects
+            → rows ≡ authz_of_route config store.now.objects ns.now route.now) }
+        ensures steps { (config : TheConfig)
+            → ⟦<KeptViews as QueryViews>⟧.stands self.now config store.now.objects
+            → steps.new ≤ steps.old + route_cost store.now.objects ns.now route.now }
+    {
+        self.ports.peek_authz(store, ns, route, steps)
     }
 }
 

@@ -5,4 +5,5 @@ mod Costs
 mod Drained
 pub mod HubSteps
 mod LiveSubs
+mod Ports
 mod UpTo

@@ -8,6 +8,7 @@ pub mod Hub
 pub mod HubAfter
 pub mod InUse
 pub mod LiveSubs
+pub mod Ports
 pub mod Replies
 pub mod Scripts
 pub mod Sending

@@ -1,9 +1,7 @@
 ghost use Rattle.std.specs.Prelude.{◌≡◌, ◌≤◌, nat_eq, ℕ, false, true, None, Ok, IfOk, OnErr, OnOk, Some};
 ghost use Rattle.view_types.specs.declared.query.Query.TheVariants.{Port};
-ghost use Rattle.view_types.specs.declared.view.View.TheVariants.{Server};
 ghost use Rattle.view_rules.specs.Batch.{batch};
 ghost use Rattle.view_rules.specs.Fold.{IsOrderlyIfShown};
-ghost use Rattle.view_rules.specs.Inbound.{inbound};
 ghost use Rattle.route_match.specs.Asking.{AsksPatterns, facts_of};
 ghost use Rattle.request_sim.specs.Faults.{MetPattern, Simulated};
 ghost use Rattle.feed_history.specs.Due.{is_touched};
@@ -15,7 +13,7 @@ ghost use Rattle.mesh_hub.specs.LiveSubs.{Stand, Stand-prop};
 
 use crate::held::{LawfulStore, fault_of};
 use crate::machine::Machine;
-use crate::port::{peek_port, server_in};
+use crate::port::{PeekedAuthz, peek_port};
 use batch_laws::laws::same_view_sends_nothing;
 use bytes::Bytes;
 use event_laws::laws::events_keep_lawful;
@@ -29,7 +27,7 @@ use mesh_base::steps::Steps;
 use mesh_base::sub_id::SubId;
 use mesh_outside::Patterns;
 use object_store::store::Store;
-use request_sim::decide::decide;
+use request_sim::decide::{Simulation, decide};
 use request_sim::fault::SimFault;
 use shared_endpoints::shared::SharedEndpoints;
 use std::alloc::Global;
@@ -258,7 +256,7 @@ impl Hub {
         }
     }
 
-    // Returns the verdict on a request, from the view of its port.
+    // Returns the verdict on a request, from the view of its port and the authorizations of the matched route.
     fn verdict<P: Patterns, L>(
         &self,
         request: &Request,
@@ -272,23 +270,28 @@ impl Hub {
         ensures steps { FindsWithin (state_of self.now)
             (Port request.now.ns request.now.pod request.now.port) steps.old steps.new }
     {
-        let _held = self.store.get();
-        let Ok(view) = self.port_view(request, steps) else {
+        let store = self.store.get();
+        let views = self.subscribers.views();
+        let Ok(view) = peek_port(views, store, request, steps) else {
             return Err(SimFault::Memory);
         };
-        let view = server_in(&view);
-        decide(self.alloc, view, request, &self.config, patterns)
-    }
-
-    // Returns the view of the port of a request.
-    fn port_view<L>(&self, request: &Request, steps: &mut Steps<L>) -> Result<View, Memory>
-        requires going { self.now.spent ≡ false }
-        ensures value { IfOk result (λ view. view ≡ Server (inbound self.now.config
-            self.now.store.objects request.now.ns request.now.pod request.now.port)) }
-        ensures steps { FindsWithin (state_of self.now)
-            (Port request.now.ns request.now.pod request.now.port) steps.old steps.new }
-    {
-        peek_port(&self.subscribers, self.store.get(), request, steps)
+        let authz = PeekedAuthz {
+            views,
+            store,
+            ns: &request.ns,
+        };
+        let simulation = Simulation {
+            config: &self.config,
+            request,
+            authz: &authz,
+        };
+        let verdict = decide(self.alloc, &simulation, &view, patterns, steps);
+        let Simulation {
+            config: _,
+            request: _,
+            authz: _,
+        } = simulation;
+        verdict
     }
 
     /// States that after every call, unless memory ran out, the rows that have users in the indexes are exactly those of the queries of

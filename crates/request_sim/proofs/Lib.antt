@@ -1,3 +1,4 @@
+pub mod Alone
 mod Applying
 pub mod ByRows
 mod FirstRow

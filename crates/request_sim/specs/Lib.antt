@@ -1,2 +1,3 @@
 pub mod Decision
 pub mod Faults
+pub mod FullViews

@@ -1,13 +1,16 @@
-ghost use Rattle.std.specs.Prelude.{◌≡◌, ◌&&◌, Some, IfErr, IfOk};
+ghost use Rattle.std.specs.Prelude.{◌≡◌, ◌&&◌, ℕ, List, Some, IfErr, IfOk, option_map};
 ghost use Rattle.std.specs.Option.{option_copied};
 ghost use Rattle.net_cidr.specs.Texts.{FitsIp};
 ghost use Rattle.view_types.specs.Objects.{AtKeys, ObjectMap};
+ghost use Rattle.view_types.specs.declared.server_view.AuthzRow.{AuthzRow as TheAuthzRow};
+ghost use Rattle.view_types.specs.declared.server_view.RouteRow.{RouteRow as TheRouteRow};
 ghost use Rattle.view_rules.specs.Inbound.{inbound};
 ghost use Rattle.route_match.specs.Asking.{AsksPatterns, facts_of};
 ghost use Rattle.route_match.specs.Matching.{Pat};
 ghost use Rattle.request_rules.specs.Verdicts.{asks_routes};
-ghost use Rattle.request_sim.specs.Decision.{by_http, by_route, by_row, by_server, decision, has_rows};
+ghost use Rattle.request_sim.specs.Decision.{by_route, by_row, by_server, has_rows};
 ghost use Rattle.request_sim.specs.Faults.{IsOfServer, IsOfView, MetPattern, Simulated};
+ghost use Rattle.request_sim.specs.FullViews.{IsOneOf, LooksUpOne, by_http_alone, decision_alone, full_route, full_view, routes_in};
 
 use crate::admits::first_admitting;
 use crate::either::first_of_either;
@@ -16,7 +19,9 @@ use crate::laws::decisions_are_verdicts;
 use crate::matched::matched_route;
 use crate::policy::{asks_routes, by_policy};
 use crate::probe::by_paths;
+use crate::route_authz::RouteAuthz;
 use mesh_base::memory::Memory;
+use mesh_base::steps::Steps;
 use mesh_outside::Patterns;
 use net_cidr::ip::Ip;
 use request_rules::laws::rows_show_their_matches;
@@ -26,25 +31,39 @@ use view_types::request::{HttpRequest, Request};
 use view_types::server_view::{AuthzRow, RouteRow, ServerRow, ServerView};
 use view_types::verdict::{Decider, Verdict};
 
-/// Returns the verdict on the request, from the inbound view of its port. Returns `Pattern` if a regular expression of an attached
-/// HTTPRoute is used and refused; no other result counts a refusal.
-pub fn decide<P: Patterns>(
+/// A simulated request, and what is needed for the decision besides the view of its port.
+pub struct Simulation<'a, S> {
+    pub config: &'a Config,
+    pub request: &'a Request,
+    /// The authorizations of the routes of the view.
+    pub authz: &'a S,
+}
+
+/// Returns the verdict on the request, from the inbound view of its port. The authorizations of the routes in the view are not read:
+/// those of the matched route are looked up. Returns `Pattern` if a regular expression of an attached HTTPRoute is used and refused; no
+/// other result counts a refusal.
+pub fn decide<S: RouteAuthz, P: Patterns, L>(
     alloc: Global,
+    simulation: &Simulation<'_, S>,
     view: &ServerView,
-    request: &Request,
-    config: &Config,
     patterns: &mut P,
+    steps: &mut Steps<L>,
 ) -> Result<Verdict, SimFault>
-    // Over any objects that have this view, the result is the verdict of the written policy.
-    ensures simulated { (held : ObjectMap) → AtKeys held
-        → inbound config.now held request.now.ns request.now.pod request.now.port ≡ view.now
-        → Simulated config.now held (facts_of P.Patterns patterns.old) request.now result }
+    // Over any objects that have this view, with the authorizations of its routes, the result is the verdict of the written policy.
+    ensures simulated { (held : ObjectMap) (authz : TheRouteRow → List TheAuthzRow) → AtKeys held
+        → S.gives simulation.now.authz.now authz
+        → inbound simulation.now.config.now held simulation.now.request.now.ns
+        simulation.now.request.now.pod simulation.now.request.now.port ≡ full_view authz view.now
+        → Simulated simulation.now.config.now held (facts_of P.Patterns patterns.old)
+        simulation.now.request.now result }
     ensures asks { AsksPatterns P.Patterns patterns.old patterns.new (MetPattern result) }
+    ensures steps { (cost : TheRouteRow → ℕ) → S.costs simulation.now.authz.now cost
+        → LooksUpOne (IsOneOf (routes_in view.now)) cost steps.old steps.new }
 {
     decisions_are_verdicts();
     rows_show_their_matches();
-    fits_its_type(request.client);
-    decide_by_rows(alloc, view, request, config, patterns)
+    fits_its_type(simulation.request.client);
+    decide_by_rows(alloc, simulation, view, patterns, steps)
 }
 
 // States that an address is a number within its type.
@@ -58,68 +77,82 @@ fn fits_its_type(ip: Ip)
 }
 
 // Returns the decision on the rows, whatever objects they come from.
-fn decide_by_rows<P: Patterns>(
+fn decide_by_rows<S: RouteAuthz, P: Patterns, L>(
     alloc: Global,
+    simulation: &Simulation<'_, S>,
     view: &ServerView,
-    request: &Request,
-    config: &Config,
     patterns: &mut P,
+    steps: &mut Steps<L>,
 ) -> Result<Verdict, SimFault>
-    ensures decided { (pat : Pat) → P.tells patterns.old ≡ Some pat → IfOk result (λ verdict.
-        verdict ≡ decision config.now pat request.now view.now) }
-    ensures named { IfErr result (IsOfView (facts_of P.Patterns patterns.old) request.now view.now) }
+    ensures decided { (authz : TheRouteRow → List TheAuthzRow) (pat : Pat)
+        → S.gives simulation.now.authz.now authz → P.tells patterns.old ≡ Some pat
+        → IfOk result (λ verdict. verdict ≡ decision_alone authz simulation.now.config.now pat
+        simulation.now.request.now view.now) }
+    ensures named { IfErr result (IsOfView (facts_of P.Patterns patterns.old)
+        simulation.now.request.now view.now) }
     ensures asks { AsksPatterns P.Patterns patterns.old patterns.new (MetPattern result) }
+    ensures steps { (cost : TheRouteRow → ℕ) → S.costs simulation.now.authz.now cost
+        → LooksUpOne (IsOneOf (routes_in view.now)) cost steps.old steps.new }
 {
     match view {
         ServerView::Absent => Ok(Verdict::NoWorkload),
-        ServerView::Present(server) => by_http(alloc, server, request, config, patterns),
+        ServerView::Present(server) => by_http(alloc, simulation, server, patterns, steps),
     }
 }
 
-fn by_http<P: Patterns>(
+fn by_http<S: RouteAuthz, P: Patterns, L>(
     alloc: Global,
+    simulation: &Simulation<'_, S>,
     server: &ServerRow,
-    request: &Request,
-    config: &Config,
     patterns: &mut P,
+    steps: &mut Steps<L>,
 ) -> Result<Verdict, SimFault>
-    ensures decided { (pat : Pat) → P.tells patterns.old ≡ Some pat → IfOk result (λ verdict.
-        verdict ≡ by_http config.now pat request.now server.now request.now.http) }
-    ensures named { IfErr result (IsOfServer (facts_of P.Patterns patterns.old) request.now.ns
-        server.now request.now.http) }
+    ensures decided { (authz : TheRouteRow → List TheAuthzRow) (pat : Pat)
+        → S.gives simulation.now.authz.now authz → P.tells patterns.old ≡ Some pat
+        → IfOk result (λ verdict. verdict ≡ by_http_alone authz simulation.now.config.now pat
+        simulation.now.request.now server.now simulation.now.request.now.http) }
+    ensures named { IfErr result (IsOfServer (facts_of P.Patterns patterns.old)
+        simulation.now.request.now.ns server.now simulation.now.request.now.http) }
     ensures asks { AsksPatterns P.Patterns patterns.old patterns.new (MetPattern result) }
+    ensures steps { (cost : TheRouteRow → ℕ) → S.costs simulation.now.authz.now cost
+        → LooksUpOne (IsOneOf server.now.routes) cost steps.old steps.new }
 {
-    match &request.http {
-        Some(http) => by_routes(alloc, server, http, request, config, patterns),
-        None => match by_server(config, request, server) {
+    match &simulation.request.http {
+        Some(http) => by_routes(alloc, simulation, server, http, patterns, steps),
+        None => match by_server(simulation.config, simulation.request, server) {
             Ok(verdict) => Ok(verdict),
             Err(_) => Err(SimFault::Memory),
         },
     }
 }
 
-fn by_routes<P: Patterns>(
+fn by_routes<S: RouteAuthz, P: Patterns, L>(
     alloc: Global,
+    simulation: &Simulation<'_, S>,
     server: &ServerRow,
     http: &HttpRequest,
-    request: &Request,
-    config: &Config,
     patterns: &mut P,
+    steps: &mut Steps<L>,
 ) -> Result<Verdict, SimFault>
-    ensures decided { (pat : Pat) → P.tells patterns.old ≡ Some pat → IfOk result (λ verdict.
-        verdict ≡ by_http config.now pat request.now server.now (Some http.now)) }
-    ensures named { IfErr result (IsOfServer (facts_of P.Patterns patterns.old) request.now.ns
-        server.now (Some http.now)) }
+    ensures decided { (authz : TheRouteRow → List TheAuthzRow) (pat : Pat)
+        → S.gives simulation.now.authz.now authz → P.tells patterns.old ≡ Some pat
+        → IfOk result (λ verdict. verdict ≡ by_http_alone authz simulation.now.config.now pat
+        simulation.now.request.now server.now (Some http.now)) }
+    ensures named { IfErr result (IsOfServer (facts_of P.Patterns patterns.old)
+        simulation.now.request.now.ns server.now (Some http.now)) }
     ensures asks { AsksPatterns P.Patterns patterns.old patterns.new (MetPattern result) }
+    ensures steps { (cost : TheRouteRow → ℕ) → S.costs simulation.now.authz.now cost
+        → LooksUpOne (IsOneOf server.now.routes) cost steps.old steps.new }
 {
     if !routes_count(server) {
-        return match by_server(config, request, server) {
+        return match by_server(simulation.config, simulation.request, server) {
             Ok(verdict) => Ok(verdict),
             Err(_) => Err(SimFault::Memory),
         };
     }
-    match matched_route(alloc, &request.ns, server.routes.as_slice(), http, patterns) {
-        Ok(route) => match by_route(config, request, server, route) {
+    let ns = &simulation.request.ns;
+    match matched_route(alloc, ns, server.routes.as_slice(), http, patterns) {
+        Ok(route) => match by_route(simulation, server, route, steps) {
             Ok(verdict) => Ok(verdict),
             Err(_) => Err(SimFault::Memory),
         },
@@ -153,20 +186,26 @@ fn by_server(config: &Config, request: &Request, server: &ServerRow) -> Result<V
     by_row(otherwise, row)
 }
 
-// By the rows of the Server and of the matched route, then by the policy.
-fn by_route(
-    config: &Config,
-    request: &Request,
+// By the rows of the Server and of the matched route, then by the policy. Those of the route are looked up.
+fn by_route<S: RouteAuthz, L>(
+    simulation: &Simulation<'_, S>,
     server: &ServerRow,
     route: Option<&RouteRow>,
+    steps: &mut Steps<L>,
 ) -> Result<Verdict, Memory>
-    ensures { IfOk result (λ verdict.
-        verdict ≡ by_route config.now request.now server.now (option_copied route.entry)) }
+    ensures decided { (authz : TheRouteRow → List TheAuthzRow)
+        → S.gives simulation.now.authz.now authz → IfOk result (λ verdict.
+        verdict ≡ by_route simulation.now.config.now simulation.now.request.now server.now
+        (option_map (full_route authz) (option_copied route.entry))) }
+    ensures steps { (cost : TheRouteRow → ℕ) → S.costs simulation.now.authz.now cost
+        → LooksUpOne (λ row. option_copied route.entry ≡ Some row) cost steps.old steps.new }
 {
     match route {
         Some(route) => {
-            let row = first_of_either(server.authz.as_slice(), route.authz.as_slice(), request);
-            by_row(by_policy(config, request, server.policy), row)
+            let authz = simulation.authz.authz_of(route, steps)?;
+            let request = simulation.request;
+            let row = first_of_either(server.authz.as_slice(), authz.as_slice(), request);
+            by_row(by_policy(simulation.config, request, server.policy), row)
         }
         None => Ok(Verdict::NotFound),
     }

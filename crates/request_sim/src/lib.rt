@@ -2,7 +2,8 @@
 //!
 //! Depends on route_match for the best match, on request_rules for the definition `verdict` over the objects, and on row_places for the
 //! order of authorizations. `decide` returns the `verdict` over any objects that have the view; `specs/Decision` is the same decision
-//! over the rows of the view.
+//! over the rows of the view. The authorizations of routes are not read from the view: those of the matched route are looked up, in a
+//! source that the caller passes, and `specs/FullViews` is the view with all of them.
 #![tactic(auto)]
 
 mod admits;
@@ -13,3 +14,4 @@ pub mod laws;
 mod matched;
 mod policy;
 mod probe;
+pub mod route_authz;

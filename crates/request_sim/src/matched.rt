@@ -2,10 +2,12 @@
 ghost use Rattle.std.specs.Prelude.{◌≡◌, ◌≤◌, ◌+◌, ◌++◌, Some, IfErr, IfOk, codes, length, map};
 ghost use Rattle.std.specs.Option.{option_copied};
 ghost use Rattle.std.specs.String.{string_bytes, string_capacity, string_len};
+ghost use Rattle.view_types.specs.declared.server_view.RouteRow.{RouteRow as TheRouteRow};
 ghost use Rattle.route_match.specs.Asking.{AsksPatterns, facts_of};
 ghost use Rattle.route_match.specs.Matching.{Pat, best, row_shape};
 ghost use Rattle.request_sim.specs.Decision.{route_found};
 ghost use Rattle.request_sim.specs.Faults.{HasRoomFor, IsOfRows, MetPattern};
+ghost use Rattle.request_sim.specs.FullViews.{IsOneOf};
 ghost use Rattle.request_sim.specs.declared.fault.SimFault.TheVariants.{Pattern};
 
 use crate::fault::SimFault;
@@ -30,6 +32,8 @@ pub(crate) fn matched_route<'a, P: Patterns>(
         → IfOk result (λ route.
         option_copied route ≡ route_found routes.now
         (best pat http.now (map row_shape routes.now))) }
+    ensures among { IfOk result (λ route. (row : TheRouteRow)
+        → option_copied route ≡ Some row → IsOneOf routes.now row) }
     ensures named { IfErr result (IsOfRows (facts_of P.Patterns patterns.old) ns.now routes.now
         http.now) }
     ensures asks { AsksPatterns P.Patterns patterns.old patterns.new (MetPattern result) }

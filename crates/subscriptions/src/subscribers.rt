@@ -68,6 +68,13 @@ impl<E: EndpointStreams, V: QueryViews> Subscribers<E, V> {
         }
     }
 
+    /// Returns the kept views of the subscriptions that are not to endpoints.
+    pub fn views(&self) -> &V
+        ensures { result.now ≡ self.now.views }
+    {
+        &self.views
+    }
+
     /// Returns the number of live subscriptions.
     pub fn len(&self) -> usize
         ensures { result ≡ length self.now.live.subs }
