@@ -1,5 +1,6 @@
-//! Views of ports of Pods, joined from rows that subscriptions share. The view of any port can be
-//! read without a subscription: stored rows are borrowed, and the others are computed for the call.
+//! Views of ports of Pods, joined from rows that subscriptions share. The view of any port, without
+//! the authorizations of its routes, and those of any route can be read without a subscription:
+//! stored rows are borrowed, and the others are computed for the call.
 //!
 //! Depends on server_index, route_index and authz_index for the rows, on row_views and row_sets for
 //! the ids that share them, on mark_rules for the rows that a view is joined from and the marks

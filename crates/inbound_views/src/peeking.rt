@@ -1,13 +1,12 @@
-// The view of any port, without a subscription. Stored rows are borrowed, and the others computed.
-ghost use Rattle.std.specs.Prelude.{◌≡◌, ◌≤◌, ◌+◌, IfOk, Some};
+// The view of any port and the authorizations of any route, without a subscription. Stored rows are
+// borrowed, and the others computed.
+ghost use Rattle.std.specs.Prelude.{◌≡◌, ◌≤◌, ◌+◌, IfOk};
 ghost use Rattle.view_types.specs.declared.config.Config.{Config};
-ghost use Rattle.mark_rules.specs.Rows.{server_joined};
 ghost use Rattle.row_table.specs.PeekedRow.{peeked_row};
-ghost use Rattle.row_views.specs.Costs.{cost_of, open_cost};
+ghost use Rattle.row_views.specs.Costs.{cost_of};
 ghost use Rattle.inbound_views.specs.BarePorts.{authz_of_route, bare_port, bare_rows, route_cost};
-ghost use Rattle.inbound_views.specs.PortRows.{query_for};
 
-use crate::joining::{bare_port, copied_part, joined_port};
+use crate::joining::{bare_port, copied_part};
 use crate::keys::key_of_row;
 use crate::sources::RowSource;
 use crate::views::{InboundViews, KeepsRows};
@@ -55,26 +54,6 @@ impl RowSource for PeekedRows<'_> {
 }
 
 impl InboundViews {
-    /// Returns the view of a port over the objects of the store.
-    pub(crate) fn peek_port<L>(
-        &self,
-        store: &Store,
-        key: &ServerKey,
-        steps: &mut Steps<L>,
-    ) -> Result<ServerView, Memory>
-        ensures view { IfOk result (λ view. (config : Config)
-            → ⟦<InboundViews as KeepsRows>⟧.stand self.now config store.now.objects
-            → view ≡ server_joined config store.now.objects key.now) }
-        ensures steps { (config : Config)
-            → ⟦<InboundViews as KeepsRows>⟧.stand self.now config store.now.objects → steps.new
-            ≤ steps.old + open_cost config store.now.objects (Some (query_for key.now)) }
-    {
-        let peeked = self.servers.peek(store, key, steps)?;
-        let part = own_part(self.alloc, peeked)?;
-        let rows = PeekedRows { views: self, store };
-        joined_port(&rows, self.alloc, &key.ns, part, steps)
-    }
-
     /// Returns the view of a port over the objects of the store. Its routes are without their
     /// authorizations.
     pub fn peek_bare<L>(

@@ -239,18 +239,6 @@ impl QueryViews for InboundViews {
         }
     }
 
-    fn peek<L>(
-        &self,
-        store: &Store,
-        query: &Query,
-        steps: &mut Steps<L>,
-    ) -> Result<Option<View>, Memory> {
-        match port_key(query)? {
-            Some(key) => Ok(Some(View::Server(self.peek_port(store, &key, steps)?))),
-            None => Ok(None),
-        }
-    }
-
     ghost same = { ports_same };
 
     ghost unique = { λ s config held. ∥∥₁_prop };

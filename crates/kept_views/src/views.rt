@@ -166,21 +166,6 @@ impl QueryViews for KeptViews {
         }
     }
 
-    fn peek<L>(
-        &self,
-        store: &Store,
-        query: &Query,
-        steps: &mut Steps<L>,
-    ) -> Result<Option<View>, Memory> {
-        match query {
-            Query::Profile { .. } => self.profiles.peek(store, query, steps),
-            Query::Port { .. } => self.ports.peek(store, query, steps),
-            Query::PortRows { .. } => self.ports.peek(store, query, steps),
-            Query::Traffic { .. } => self.outbound.peek(store, query, steps),
-            Query::Get { .. } => Ok(None),
-        }
-    }
-
     ghost same = { kept_same };
 
     ghost unique = { λ s config held. PartsStand-prop (profiles_unique s.profiles config held)

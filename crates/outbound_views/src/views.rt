@@ -105,21 +105,6 @@ impl QueryViews for OutboundViews {
         }
     }
 
-    fn peek<L>(
-        &self,
-        store: &Store,
-        query: &Query,
-        steps: &mut Steps<L>,
-    ) -> Result<Option<View>, Memory> {
-        match asked_target(self.alloc, query)? {
-            Some(target) => {
-                let row = self.rows.peek(store, &target, steps)?;
-                Ok(Some(View::Outbound(row.into_row(self.alloc)?)))
-            }
-            None => Ok(None),
-        }
-    }
-
     ghost same = { outbound_same };
 
     ghost unique = { λ s config held. ∥∥₁_prop };

@@ -111,21 +111,6 @@ impl QueryViews for ProfileViews {
         }
     }
 
-    fn peek<L>(
-        &self,
-        store: &Store,
-        query: &Query,
-        steps: &mut Steps<L>,
-    ) -> Result<Option<View>, Memory> {
-        match profile_key(self.alloc, query)? {
-            Some(key) => {
-                let row = self.rows.peek(store, &key, steps)?;
-                Ok(Some(View::Profile(row.into_row(self.alloc)?)))
-            }
-            None => Ok(None),
-        }
-    }
-
     ghost same = { profiles_same };
 
     ghost unique = { λ s config held. ∥∥₁_prop };

@@ -89,20 +89,6 @@ pub trait QueryViews: Drop {
             → AtKeys held → AreLawful held → stands self.now config held
             → view ≡ view_at config held (query_of self.now id)) };
 
-    /// Returns the view of a query, if such views are kept. Stored rows are used, and the others
-    /// are computed for this call.
-    fn peek<L>(
-        &self,
-        store: &Store,
-        query: &Query,
-        steps: &mut Steps<L>,
-    ) -> Result<Option<View>, Memory>
-        ensures view { IfOk result (λ view. (config : Config) → AtKeys store.now.objects
-            → AreLawful store.now.objects → stands self.now config store.now.objects
-            → view ≡ view_at config store.now.objects (kept_query query.now)) }
-        ensures steps { (config : Config) → stands self.now config store.now.objects → steps.new
-            ≤ steps.old + open_cost config store.now.objects (kept_query query.now) };
-
     /// The kept part of a query determines its view, and what it reads.
     ghost same: { ShowsSame kept_query };
 

@@ -188,28 +188,6 @@ impl<E: EndpointStreams, V: QueryViews> Subscribers<E, V> {
         }
     }
 
-    /// Returns the view of a query over the objects of the store, whether or not there is a subscription with this query. For a query for
-    /// endpoints it returns None. The view is not kept.
-    pub fn peek<L>(
-        &self,
-        store: &Store,
-        query: &Query,
-        steps: &mut Steps<L>,
-    ) -> Result<Option<View>, Memory>
-        ensures value { IfOk result (λ view. (config : Config) (limits : Limits)
-            → AtKeys store.now.objects → AreLawful store.now.objects → Covers V.kept_query
-            → AllStand E.key_of E.shown_to E.stands V.kept_query V.query_of V.stands
-            config limits store.now.objects self.now
-            → endpoint_key query.now ≡ None
-            → view ≡ Some (view_of config store.now.objects query.now)) }
-        ensures steps { (config : Config) (limits : Limits) → Covers V.kept_query
-            → AllStand E.key_of E.shown_to E.stands V.kept_query V.query_of V.stands
-            config limits store.now.objects self.now → steps.new ≤ steps.old
-            + cost_of config store.now.objects (rows config store.now.objects query.now) }
-    {
-        Ok(told(query, self.views.peek(store, query, steps)?))
-    }
-
     /// Records that the subscriber under the id was shown the view, which is not of endpoints. The id is no longer due.
     pub fn show(&mut self, id: SubId, view: BoxedView)
         requires orderly { IsOrderlyIfShown (Some view) }
