@@ -4,6 +4,7 @@ ghost use Rattle.view_rules.specs.Batch.{batch};
 ghost use Rattle.view_rules.specs.Fold.{IsOrderlyIfShown};
 ghost use Rattle.route_match.specs.Asking.{AsksPatterns, facts_of};
 ghost use Rattle.request_sim.specs.Faults.{MetPattern, Simulated};
+ghost use Rattle.feed_history.specs.Drains.{IsOrMemory, frames_within};
 ghost use Rattle.feed_history.specs.Due.{is_touched};
 ghost use Rattle.subscriptions.specs.DueIds.{Rises, is_among};
 ghost use Rattle.subscriptions.specs.Live.{endpoint_key, query_at};
@@ -11,13 +12,13 @@ ghost use Rattle.subscriptions.specs.Standing.{IsShownNow};
 ghost use Rattle.mesh_hub.specs.Greatest.{AreUpTo};
 ghost use Rattle.mesh_hub.specs.LiveSubs.{Stand, Stand-prop};
 
+use crate::frames::frames_to;
 use crate::held::{LawfulStore, fault_of};
 use crate::machine::Machine;
 use crate::port::{PeekedAuthz, peek_port};
 use batch_laws::laws::same_view_sends_nothing;
 use bytes::Bytes;
 use event_laws::laws::events_keep_lawful;
-use feed_history::frames::frames_within;
 use feed_history::refusal::{HubFault, NoSuchId};
 use kept_views::views::KeptViews;
 use mesh_base::limits::Limits;
@@ -35,10 +36,8 @@ use subscriptions::boxed_view::BoxedView;
 use subscriptions::live::Subscription;
 use subscriptions::queries::is_for_endpoints;
 use subscriptions::subscribers::Subscribers;
-use view_diff::views::batch;
 use view_rules::laws::views_are_orderly;
 use view_types::config::Config;
-use view_types::message::Message;
 use view_types::query::Query;
 use view_types::request::Request;
 use view_types::verdict::Verdict;
@@ -384,19 +383,19 @@ impl Hub {
         requires other { endpoint_key sub.now.query ≡ None }
         ensures { IsDueOrTooLong (state_of self.now) sub.now result }
     {
-        let view = self.view_of(id)?;
-        let messages = self.messages_to(sub, &view)?;
-        let frames = frames_within(self.alloc, self.limits.message, messages.as_slice())?;
+        let mut view = self.view_of(id)?;
+        let frames = self.frames_to(sub, &mut view)?;
         Ok((BoxedView::new(self.alloc, view)?, frames))
     }
 
-    // Returns the messages that bring a subscriber to a view.
-    fn messages_to(&self, sub: &Subscription, view: &View) -> Result<List<Message>, Memory>
-        requires { IsOrderlyIfShown (Some view.now) }
-        ensures { IfOk result (λ messages.
-            messages ≡ batch sub.now.shown view.now self.now.limits) }
+    // Returns the frames that bring a subscriber to a view, which is unchanged unless that fails.
+    fn frames_to(&self, sub: &Subscription, view: &mut View) -> Result<List<Bytes>, HubFault>
+        requires { IsOrderlyIfShown (Some view.old) }
+        ensures same { OnOk result (view.new ≡ view.old) }
+        ensures frames { IsOrMemory (frames_within self.now.limits.message
+            (batch sub.now.shown view.old self.now.limits)) result }
     {
-        batch(self.alloc, sub.shown(), view, &self.limits)
+        frames_to(self.alloc, sub.shown(), view, &self.limits)
     }
 
     // Returns the current view of a subscription that is not to endpoints.

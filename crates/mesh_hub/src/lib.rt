@@ -7,6 +7,7 @@
 //! on a new hub is of this form.
 #![tactic(auto)]
 
+mod frames;
 pub mod held;
 pub mod hub;
 pub mod laws;
