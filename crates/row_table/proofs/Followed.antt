@@ -1,6 +1,5 @@
 -- Rows that have followed a change, one after the other.
 use Rattle.std.proofs.Common.{◌≡◌, inl, inr, ℕ, zero, suc, ◌<◌, ◌||◌, Bool, true, false, List, [], ◌∷◌, ◌++◌, Option, Some, None, length, get_or, take, nat_eq, refl, sym, ap, subst, ◌∙◌, arith}
-use Rattle.std.specs.BTreeMap as tree
 use Rattle.std.specs.BTreeMap.{BTreeMap}
 use Rattle.std.specs.BTreeSet.{BTreeSet}
 use Rattle.std.specs.Cmp.{IsTotalOrder, tied_itself}
@@ -14,6 +13,7 @@ use Rattle.std.specs.declared.cmp.Ordering.TheVariants.{Less}
 use Rattle.std.proofs.lemmas.Cmp.{nat_cmp_total}
 use Rattle.std.proofs.lemmas.List.{append-nil}
 use Rattle.std.proofs.lemmas.Bool.{eq-eqb, eqb-true, false≢true, ne_eqb, or_from}
+use Rattle.slab.specs.Slab.{Slab}
 use Rattle.view_types.specs.Objects.{ObjectMap}
 use Rattle.view_types.specs.declared.mark.Mark.{Mark}
 use Rattle.mark_graph.specs.RowMarks.{has_row, watches}
@@ -21,7 +21,7 @@ use Rattle.mark_rules.specs.Changes.{Leads}
 use Rattle.mark_rules.specs.Marks.{has_mark, mark_cmp, meets}
 use Rattle.row_table.specs.IndexRows.{AreMet, Filter, KeptShows, KeptStays, has_key}
 use Rattle.row_table.specs.KeyNumbers.{PutsAt, number_at, used_at}
-use Rattle.row_table.specs.TableRows.{AllStand, AreTied, Follow, KeptFollows, RowAfter, StandsAt, is_among, key_in, keys_of, marks_of, row_at, row_of}
+use Rattle.row_table.specs.TableRows.{AllStand, AreTied, Follow, KeptFollows, RowAfter, StandsAt, is_among, kept_at, key_in, keys_of, marks_of, row_at, row_of}
 use Rattle.row_table.specs.declared.key_numbers.KeyNumbers.{KeyNumbers}
 use Rattle.row_table.specs.declared.key_numbers.UsedKey.{UsedKey}
 use Rattle.row_table.specs.declared.table_rows.KeptRow.{KeptRow}
@@ -74,7 +74,7 @@ module _ {Key Kept : Type 0} (cmp : Key → Key → Ordering) (total : IsTotalOr
       one_stands false k (Some u) (Some o) new met same stands = subst (λ (row : Option (KeptRow Key Kept)). StandsAt keeps after k (Some u) row) (sym same)
           (stands.0, stands.1, stays k o.kept changed held after leads (sym (meets_same (marks_in o.kept) (filter.reads held k) changed (shows held k o.kept stands.2).are_read) ∙ sym met) stands.2)
 
-      pub all_stand : (keys : List Key) (used used_after : KeyNumbers Key) (old new : BTreeMap ℕ (KeptRow Key Kept)) → used_after ≡ used → AreMet cmp changed (λ k. marks_of marks_in (row_at cmp used old k)) keys
+      pub all_stand : (keys : List Key) (used used_after : KeyNumbers Key) (old new : Slab (KeptRow Key Kept)) → used_after ≡ used → AreMet cmp changed (λ k. marks_of marks_in (row_at cmp used old k)) keys
           → Follow keeps tells_of changed after (has_key cmp keys) (row_at cmp used old) (row_at cmp used_after new) → AllStand keeps cmp held used old → AllStand keeps cmp after used_after new
       all_stand keys used used_after old new same met follow stand k =
           subst (λ (u : Option UsedKey). StandsAt keeps after k u (row_at cmp used_after new k)) (sym (ap (λ (m : KeyNumbers Key). used_at cmp m k) same))
@@ -82,7 +82,7 @@ module _ {Key Kept : Type 0} (cmp : Key → Key → Ordering) (total : IsTotalOr
 
   -- ---- the keys of the numbers that are due
 
-  module _ (marks_in : Kept → List Mark) (used : KeyNumbers Key) (rows : BTreeMap ℕ (KeptRow Key Kept)) (watched : BTreeMap ℕ (BTreeSet Mark)) (next : ℕ) (tied : AreTied cmp marks_in used rows watched next) where
+  module _ (marks_in : Kept → List Mark) (used : KeyNumbers Key) (rows : Slab (KeptRow Key Kept)) (watched : BTreeMap ℕ (BTreeSet Mark)) (tied : AreTied cmp marks_in used rows watched) where
     -- the keys are those of rows with these numbers
     abbrev pub Among : List ℕ → List Key → Type 0
     Among numbers found = (k : Key) → has_key cmp found k ≡ is_among numbers (number_at cmp used k)
@@ -116,21 +116,21 @@ module _ {Key Kept : Type 0} (cmp : Key → Key → Ordering) (total : IsTotalOr
 
     -- the key of a number, if it has one
     added : ℕ → List Key
-    added n = option_to_list (key_in (tree.get nat_cmp rows n))
+    added n = option_to_list (key_in (kept_at rows n))
 
     -- it is the key of the row with the number
-    added_is : (n : ℕ) (k : Key) → has_key cmp (option_to_list (key_in (tree.get nat_cmp rows n))) k ≡ is_number n (number_at cmp used k)
-    added_is n k = by (key_in (tree.get nat_cmp rows n)) refl (number_at cmp used k) refl
+    added_is : (n : ℕ) (k : Key) → has_key cmp (option_to_list (key_in (kept_at rows n))) k ≡ is_number n (number_at cmp used k)
+    added_is n k = by (key_in (kept_at rows n)) refl (number_at cmp used k) refl
       where
-        number_is : (m : ℕ) → nat_eq m n ≡ true → number_at cmp used k ≡ Some m → key_in (tree.get nat_cmp rows n) ≡ Some k
-        number_is m e is = ap (λ i. key_in (tree.get nat_cmp rows i)) (sym (eqb-true m n e)) ∙ tied.rows_of k m is
+        number_is : (m : ℕ) → nat_eq m n ≡ true → number_at cmp used k ≡ Some m → key_in (kept_at rows n) ≡ Some k
+        number_is m e is = ap (λ i. key_in (kept_at rows i)) (sym (eqb-true m n e)) ∙ tied.rows_of k m is
 
-        by : (found : Option Key) → key_in (tree.get nat_cmp rows n) ≡ found → (o : Option ℕ) → number_at cmp used k ≡ o → has_key cmp (option_to_list found) k ≡ is_number n o
+        by : (found : Option Key) → key_in (kept_at rows n) ≡ found → (o : Option ℕ) → number_at cmp used k ≡ o → has_key cmp (option_to_list found) k ≡ is_number n o
         by None at None is = refl
         by None at (Some m) is = case (nat_eq m n) refl
           where
             case : (b : Bool) → nat_eq m n ≡ b → false ≡ b
-            case true e = none_is_not_some (key_in (tree.get nat_cmp rows n)) k at (number_is m e is)
+            case true e = none_is_not_some (key_in (kept_at rows n)) k at (number_is m e is)
             case false e = refl
         by (Some key) at None is = elim (tells cmp total exact k key) as (λ _. has_key cmp (key ∷ []) k ≡ false) [
           | inl same ↦ none_is_not_some (number_at cmp used k) n is (ap (number_at cmp used) same.1 ∙ tied.numbers n key at)
@@ -141,12 +141,12 @@ module _ {Key Kept : Type 0} (cmp : Key → Key → Ordering) (total : IsTotalOr
           | inr apart ↦ ap (λ b. b || false) apart.0 ∙ sym (ne_eqb m n (λ e. apart.1 (sym (some_is key k (sym at ∙ number_is m (eq-eqb m n e) is)))))
         ]
 
-    pub among_step : (n : ℕ) (numbers : List ℕ) (found : List Key) → Among numbers found → Among (numbers ++ n ∷ []) (found ++ option_to_list (key_in (tree.get nat_cmp rows n)))
+    pub among_step : (n : ℕ) (numbers : List ℕ) (found : List Key) → Among numbers found → Among (numbers ++ n ∷ []) (found ++ option_to_list (key_in (kept_at rows n)))
     among_step n numbers found so_far k =
-        has_more cmp found (option_to_list (key_in (tree.get nat_cmp rows n))) k ∙ (λ i. so_far k i || added_is n k i) ∙ sym (among_more n numbers (number_at cmp used k))
+        has_more cmp found (option_to_list (key_in (kept_at rows n))) k ∙ (λ i. so_far k i || added_is n k i) ∙ sym (among_more n numbers (number_at cmp used k))
 
     -- a key that is added wasn't there, where the number is new
-    pub added_apart : (n : ℕ) (numbers : List ℕ) (found : List Key) → Among numbers found → has_row n numbers ≡ false → (k : Key) → has_key cmp (option_to_list (key_in (tree.get nat_cmp rows n))) k ≡ true → has_key cmp found k ≡ false
+    pub added_apart : (n : ℕ) (numbers : List ℕ) (found : List Key) → Among numbers found → has_row n numbers ≡ false → (k : Key) → has_key cmp (option_to_list (key_in (kept_at rows n))) k ≡ true → has_key cmp found k ≡ false
     added_apart n numbers found so_far fresh k has = so_far k ∙ by (number_at cmp used k) (sym (added_is n k) ∙ has)
       where
         by : (o : Option ℕ) → is_number n o ≡ true → is_among numbers o ≡ false
@@ -154,8 +154,8 @@ module _ {Key Kept : Type 0} (cmp : Key → Key → Ordering) (total : IsTotalOr
         by (Some m) e = ap (λ m. has_row m numbers) (eqb-true m n e) ∙ fresh
 
     pub once_more : (n : ℕ) (numbers : List ℕ) (found : List Key) → Among numbers found → has_row n numbers ≡ false → IsDistinct (eq_by_cmp cmp) found
-        → IsDistinct (eq_by_cmp cmp) (found ++ option_to_list (key_in (tree.get nat_cmp rows n)))
-    once_more n numbers found so_far fresh once = by (key_in (tree.get nat_cmp rows n)) (added_apart n numbers found so_far fresh)
+        → IsDistinct (eq_by_cmp cmp) (found ++ option_to_list (key_in (kept_at rows n)))
+    once_more n numbers found so_far fresh once = by (key_in (kept_at rows n)) (added_apart n numbers found so_far fresh)
       where
         by : (key : Option Key) → ((k : Key) → has_key cmp (option_to_list key) k ≡ true → has_key cmp found k ≡ false) → IsDistinct (eq_by_cmp cmp) (found ++ option_to_list key)
         by None apart = subst (IsDistinct (eq_by_cmp cmp)) (sym (append-nil found)) once
@@ -172,12 +172,12 @@ module _ {Key Kept : Type 0} (cmp : Key → Key → Ordering) (total : IsTotalOr
         by : (o : Option ℕ) → is_among due o ≡ meets (marks_of marks_in (row_of rows o)) changed
         by None = refl
         by (Some n) =
-            due_is n ∙ same_any (λ mark. watches mark_cmp watched n mark) (has_mark (marks_of marks_in (tree.get nat_cmp rows n))) (tied.watch n) changed
-            ∙ meets_back (marks_of marks_in (tree.get nat_cmp rows n)) changed
+            due_is n ∙ same_any (λ mark. watches mark_cmp watched n mark) (has_mark (marks_of marks_in (kept_at rows n))) (tied.watch n) changed
+            ∙ meets_back (marks_of marks_in (kept_at rows n)) changed
 
 -- the keys of numbers are those of before, where each row has its old key
-pub found_all : {Key Kept : Type 0} (old new : BTreeMap ℕ (KeptRow Key Kept)) → ((n : ℕ) → key_in (tree.get nat_cmp new n) ≡ key_in (tree.get nat_cmp old n)) → (numbers others : List ℕ) → numbers ≡ others → keys_of old numbers ≡ keys_of new others
-found_all old new same numbers others is = ap (keys_of old) is ∙ sym (alike (λ n. key_in (tree.get nat_cmp new n)) (λ n. key_in (tree.get nat_cmp old n)) same others)
+pub found_all : {Key Kept : Type 0} (old new : Slab (KeptRow Key Kept)) → ((n : ℕ) → key_in (kept_at new n) ≡ key_in (kept_at old n)) → (numbers others : List ℕ) → numbers ≡ others → keys_of old numbers ≡ keys_of new others
+found_all old new same numbers others is = ap (keys_of old) is ∙ sym (alike (λ n. key_in (kept_at new n)) (λ n. key_in (kept_at old n)) same others)
 
 -- ---- numbers that rise
 

@@ -1,13 +1,13 @@
 -- What is put at a key, and what stays at all others.
-use Rattle.std.proofs.Common.{◌≡◌, inl, inr, cond, Option, Some, None, sym, ap, ◌∙◌}
-use Rattle.std.specs.BTreeMap as tree
-use Rattle.std.specs.BTreeMap.{BTreeMap, UpdatesBy}
+use Rattle.std.proofs.Common.{◌≡◌, inl, inr, ℕ, cond, Option, Some, None, sym, ap, ◌∙◌}
 use Rattle.std.specs.Cmp.{IsTotalOrder}
-use Rattle.std.specs.FinMap.{IsAntisymmetric}
-use Rattle.std.specs.Ordering.{eq_by_cmp}
+use Rattle.std.specs.FinMap.{IsAntisymmetric, nat_cmp-IsAntisymmetric}
+use Rattle.std.specs.Ordering.{eq_by_cmp, nat_cmp}
 use Rattle.std.specs.declared.cmp.Ordering.{Ordering}
+use Rattle.std.proofs.lemmas.Cmp.{nat_cmp_total}
+use Rattle.slab.specs.Slab.{Slab, Updates, get}
 use Rattle.row_table.specs.KeyNumbers.{PutsAt}
-use Rattle.row_table.proofs.Keys.{flipped, is_itself, tells}
+use Rattle.row_table.proofs.Keys.{is_itself, tells}
 
 -- ---- options
 
@@ -48,7 +48,6 @@ module _ {Key X : Type 0} (cmp : Key → Key → Ordering) (total : IsTotalOrder
     | inr apart ↦ other k apart.1 ∙ sym (ap (λ b. cond b x (old k)) apart.0)
   ]
 
--- a map that is updated at a key
-pub updated : {Key X : Type 0} (cmp : Key → Key → Ordering) (total : IsTotalOrder cmp) (exact : IsAntisymmetric cmp) (key : Key) (x : Option X) (old new : BTreeMap Key X) → UpdatesBy cmp (cmp key) old new x
-    → PutsAt cmp key x (tree.get cmp old) (tree.get cmp new)
-updated cmp total exact key x old new updates k = updates.0 k ∙ ap (λ b. cond b x (tree.get cmp old k)) (flipped cmp total exact key k)
+-- a slab that is updated at a key
+pub updated : {X : Type 0} (n : ℕ) (x : Option X) (old new : Slab X) → Updates old new n x → PutsAt nat_cmp n x (get old) (get new)
+updated n x old new updates = puts nat_cmp nat_cmp_total nat_cmp-IsAntisymmetric n x (get old) (get new) updates.changed updates.others

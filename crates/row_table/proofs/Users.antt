@@ -1,7 +1,6 @@
 -- Users that are counted, and rows that stand while they are.
 use Rattle.std.proofs.Common.{◌≡◌, inl, inr, ℕ, ◌+◌, ◌-◌, Bool, true, false, cond, List, Option, Some, None, Result, Ok, Err, OnOk, ltb, refl, sym, ap, subst, ◌∙◌, arith}
 use Rattle.std.specs.Prelude.{option_map}
-use Rattle.std.specs.BTreeMap as tree
 use Rattle.std.specs.BTreeMap.{BTreeMap}
 use Rattle.std.specs.BTreeSet.{BTreeSet}
 use Rattle.std.specs.Cmp.{IsTotalOrder}
@@ -10,12 +9,13 @@ use Rattle.std.specs.Ordering.{eq_by_cmp, nat_cmp}
 use Rattle.std.specs.declared.cmp.Ordering.{Ordering}
 use Rattle.std.proofs.lemmas.Bool.{ltb-false, ltb-true}
 use Rattle.std.proofs.lemmas.Cmp.{nat_cmp_total}
+use Rattle.slab.specs.Slab.{Slab}
 use Rattle.view_types.specs.Objects.{ObjectMap}
 use Rattle.view_types.specs.declared.mark.Mark.{Mark}
 use Rattle.row_table.specs.IndexRows.{Filter, KeepNumbers, KeptShows, OneLess, OneMore}
 use Rattle.row_table.specs.RowLaws.{own_row}
 use Rattle.row_table.specs.KeyNumbers.{PutsAt, number_at, number_in, one_less, one_more, used_at, users_in}
-use Rattle.row_table.specs.TableRows.{AllStand, AreTied, StandsAt, key_in, kept_in, row_at, row_of}
+use Rattle.row_table.specs.TableRows.{AllStand, AreTied, StandsAt, kept_at, kept_in, key_in, row_at, row_of}
 use Rattle.row_table.specs.declared.key_numbers.KeyNumbers.{KeyNumbers}
 use Rattle.row_table.specs.declared.key_numbers.UsedKey.{UsedKey}
 use Rattle.row_table.specs.declared.table_rows.KeptRow.{KeptRow}
@@ -95,7 +95,7 @@ module _ {Key Kept : Type 0} (keeps : ObjectMap → Key → Kept → Type 0) (he
 
   module _ (cmp : Key → Key → Ordering) (total : IsTotalOrder cmp) (exact : IsAntisymmetric cmp) (key : Key) (used used_after : KeyNumbers Key) where
     -- rows stand where that of the key does
-    pub stand_put : (old new : BTreeMap ℕ (KeptRow Key Kept)) (at : Option UsedKey) (row : Option (KeptRow Key Kept)) → PutsAt cmp key at (used_at cmp used) (used_at cmp used_after) → PutsAt cmp key row (row_at cmp used old) (row_at cmp used_after new)
+    pub stand_put : (old new : Slab (KeptRow Key Kept)) (at : Option UsedKey) (row : Option (KeptRow Key Kept)) → PutsAt cmp key at (used_at cmp used) (used_at cmp used_after) → PutsAt cmp key row (row_at cmp used old) (row_at cmp used_after new)
         → (StandsAt keeps held key (used_at cmp used key) (row_at cmp used old key) → StandsAt keeps held key at row) → AllStand keeps cmp held used old → AllStand keeps cmp held used_after new
     stand_put old new at row put put_row there all k = elim (tells cmp total exact k key) as (λ _. StandsAt keeps held k (used_at cmp used_after k) (row_at cmp used_after new k)) [
       | inl same ↦ subst (λ (k : Key). StandsAt keeps held k (used_at cmp used_after k) (row_at cmp used_after new k)) (sym same.1)
@@ -106,7 +106,7 @@ module _ {Key Kept : Type 0} (keeps : ObjectMap → Key → Kept → Type 0) (he
     ]
 
     -- users are counted, and the numbers stay
-    stand_counted : (rows : BTreeMap ℕ (KeptRow Key Kept)) (at : Option UsedKey) → PutsAt cmp key at (used_at cmp used) (used_at cmp used_after) → number_in at ≡ number_at cmp used key
+    stand_counted : (rows : Slab (KeptRow Key Kept)) (at : Option UsedKey) → PutsAt cmp key at (used_at cmp used) (used_at cmp used_after) → number_in at ≡ number_at cmp used key
         → ((row : Option (KeptRow Key Kept)) → StandsAt keeps held key (used_at cmp used key) row → StandsAt keeps held key at row) → AllStand keeps cmp held used rows → AllStand keeps cmp held used_after rows
     stand_counted rows at put same there =
         stand_put rows rows at (row_at cmp used rows key) put
@@ -114,25 +114,25 @@ module _ {Key Kept : Type 0} (keeps : ObjectMap → Key → Kept → Type 0) (he
         (λ k ne. ap (λ (o : Option UsedKey). row_of rows (number_in o)) (put_other cmp total exact key at (used_at cmp used) (used_at cmp used_after) put k ne)))
         (there (row_at cmp used rows key))
 
-    pub stand_more : (rows : BTreeMap ℕ (KeptRow Key Kept)) → PutsAt cmp key (option_map one_more (used_at cmp used key)) (used_at cmp used) (used_at cmp used_after) → AllStand keeps cmp held used rows → AllStand keeps cmp held used_after rows
+    pub stand_more : (rows : Slab (KeptRow Key Kept)) → PutsAt cmp key (option_map one_more (used_at cmp used key)) (used_at cmp used) (used_at cmp used_after) → AllStand keeps cmp held used rows → AllStand keeps cmp held used_after rows
     stand_more rows put = stand_counted rows (option_map one_more (used_at cmp used key)) put (number_more (used_at cmp used key)) (stands_more key (used_at cmp used key))
 
-    pub stand_less : (rows : BTreeMap ℕ (KeptRow Key Kept)) → PutsAt cmp key (one_less (used_at cmp used key)) (used_at cmp used) (used_at cmp used_after) → number_in (one_less (used_at cmp used key)) ≡ number_at cmp used key
+    pub stand_less : (rows : Slab (KeptRow Key Kept)) → PutsAt cmp key (one_less (used_at cmp used key)) (used_at cmp used) (used_at cmp used_after) → number_in (one_less (used_at cmp used key)) ≡ number_at cmp used key
         → AllStand keeps cmp held used rows → AllStand keeps cmp held used_after rows
     stand_less rows put same = stand_counted rows (one_less (used_at cmp used key)) put same (λ row. stands_less key (used_at cmp used key) row same)
 
-    pub stand_same : (rows : BTreeMap ℕ (KeptRow Key Kept)) → PutsAt cmp key (used_at cmp used key) (used_at cmp used) (used_at cmp used_after) → AllStand keeps cmp held used rows → AllStand keeps cmp held used_after rows
+    pub stand_same : (rows : Slab (KeptRow Key Kept)) → PutsAt cmp key (used_at cmp used key) (used_at cmp used) (used_at cmp used_after) → AllStand keeps cmp held used rows → AllStand keeps cmp held used_after rows
     stand_same rows put = stand_counted rows (used_at cmp used key) put refl (λ row stands. stands)
 
     -- a key goes, with the row of its number
-    pub stand_gone : (old new : BTreeMap ℕ (KeptRow Key Kept)) (n : ℕ) → number_at cmp used key ≡ Some n → PutsAt cmp key None (used_at cmp used) (used_at cmp used_after) → PutsAt nat_cmp n None (tree.get nat_cmp old) (tree.get nat_cmp new)
+    pub stand_gone : (old new : Slab (KeptRow Key Kept)) (n : ℕ) → number_at cmp used key ≡ Some n → PutsAt cmp key None (used_at cmp used) (used_at cmp used_after) → PutsAt nat_cmp n None (kept_at old) (kept_at new)
         → AllStand keeps cmp held used old → AllStand keeps cmp held used_after new
     stand_gone old new n number put put_row all =
         stand_put old new None None put
         (puts cmp total exact key None (row_at cmp used old) (row_at cmp used_after new) (ap (λ (o : Option UsedKey). row_of new (number_in o)) (put_here cmp total exact key None (used_at cmp used) (used_at cmp used_after) put)) other)
         (λ stands. refl) all
       where
-        own : (k : Key) (i : ℕ) → number_at cmp used k ≡ Some i → key_in (tree.get nat_cmp old i) ≡ Some k
+        own : (k : Key) (i : ℕ) → number_at cmp used k ≡ Some i → key_in (kept_at old i) ≡ Some k
         own k = own_row keeps held k (used_at cmp used k) old (all k)
 
         other : (k : Key) → (k ≡ key → ⊥) → row_at cmp used_after new k ≡ row_at cmp used old k
@@ -141,18 +141,18 @@ module _ {Key Kept : Type 0} (keeps : ObjectMap → Key → Kept → Type 0) (he
             by : (o : Option ℕ) → number_at cmp used k ≡ o → row_of new o ≡ row_of old o
             by None e = refl
             by (Some i) e =
-                put_other nat_cmp nat_cmp_total nat_cmp-IsAntisymmetric n None (tree.get nat_cmp old) (tree.get nat_cmp new) put_row i
-                (λ is. ne (some_is k key (sym (own k i e) ∙ ap (λ i. key_in (tree.get nat_cmp old i)) is ∙ own key n number)))
+                put_other nat_cmp nat_cmp_total nat_cmp-IsAntisymmetric n None (kept_at old) (kept_at new) put_row i
+                (λ is. ne (some_is k key (sym (own k i e) ∙ ap (λ i. key_in (kept_at old i)) is ∙ own key n number)))
 
 -- a key for which nothing is kept has no users
-pub no_users : {Key Kept : Type 0} (cmp : Key → Key → Ordering) (marks_in : Kept → List Mark) (used : KeyNumbers Key) (rows : BTreeMap ℕ (KeptRow Key Kept)) (watched : BTreeMap ℕ (BTreeSet Mark)) (next : ℕ) → AreTied cmp marks_in used rows watched next
+pub no_users : {Key Kept : Type 0} (cmp : Key → Key → Ordering) (marks_in : Kept → List Mark) (used : KeyNumbers Key) (rows : Slab (KeptRow Key Kept)) (watched : BTreeMap ℕ (BTreeSet Mark)) → AreTied cmp marks_in used rows watched
     → (key : Key) → kept_in (row_at cmp used rows key) ≡ None → users_in (used_at cmp used key) ≡ 0
-no_users {Key} {Kept} cmp marks_in used rows watched next tied key none = by (used_at cmp used key) (tied.rows_of key) none
+no_users {Key} {Kept} cmp marks_in used rows watched tied key none = by (used_at cmp used key) (tied.rows_of key) none
   where
     row : (row : Option (KeptRow Key Kept)) → key_in row ≡ Some key → kept_in row ≡ None → ⊥
     row None is none = none_is_not_some None key refl is
     row (Some r) is none = none_is_not_some (Some r.kept) r.kept none refl
 
-    by : (o : Option UsedKey) → ((n : ℕ) → number_in o ≡ Some n → key_in (tree.get nat_cmp rows n) ≡ Some key) → kept_in (row_of rows (number_in o)) ≡ None → users_in o ≡ 0
+    by : (o : Option UsedKey) → ((n : ℕ) → number_in o ≡ Some n → key_in (kept_at rows n) ≡ Some key) → kept_in (row_of rows (number_in o)) ≡ None → users_in o ≡ 0
     by None is none = refl
-    by (Some u) is none = absurd (row (tree.get nat_cmp rows u.number) (is u.number refl) none)
+    by (Some u) is none = absurd (row (kept_at rows u.number) (is u.number refl) none)

@@ -1,20 +1,18 @@
 -- The laws of a table, and of a rule that finds its rows again for each change.
 use Rattle.std.specs.Prelude.{is_some, nat_lt}
 use Rattle.std.proofs.Common.{◌≡◌, ◌<◌, ℕ, List, Option, Some, None, refl, sym, ap, subst, ◌∙◌}
-use Rattle.std.specs.BTreeMap as tree
-use Rattle.std.specs.BTreeMap.{BTreeMap}
 use Rattle.std.specs.Cmp.{below_irrefl}
-use Rattle.std.specs.Ordering.{nat_cmp}
 use Rattle.std.specs.declared.cmp.Ordering.{Ordering}
 use Rattle.std.proofs.lemmas.Bool.{lt-ltb}
 use Rattle.std.proofs.lemmas.Option.{none-some, same_Some}
+use Rattle.slab.specs.Slab.{Slab}
 use Rattle.view_types.specs.Objects.{ObjectMap}
 use Rattle.view_types.specs.declared.mark.Mark.{Mark}
 use Rattle.mark_rules.specs.Laws.{Stays}
 use Rattle.mark_rules.specs.Marks.{has_mark}
 use Rattle.row_table.specs.IndexRows.{AreNumbered, Filter, IsCurrent, IsRow, KeptShows, KeptStays}
 use Rattle.row_table.specs.KeyNumbers.{number_at, number_in, used_at, users_in}
-use Rattle.row_table.specs.TableRows.{AllStand, StandsAt, key_in, marks_of, row_at, row_of, shown_in}
+use Rattle.row_table.specs.TableRows.{AllStand, StandsAt, kept_at, key_in, marks_of, row_at, row_of, shown_in}
 use Rattle.row_table.specs.declared.key_numbers.KeyNumbers.{KeyNumbers}
 use Rattle.row_table.specs.declared.key_numbers.UsedKey.{UsedKey}
 use Rattle.row_table.specs.declared.table_rows.KeptRow.{KeptRow}
@@ -27,16 +25,16 @@ module _ {Key Kept : Type 0} (keeps : ObjectMap → Key → Kept → Type 0) (he
   numbered (Some u) (Some r) stands = sym (lt-ltb 0 u.users stands.0)
 
   -- the row at the number of a key is that of the key
-  pub own_row : (used : Option UsedKey) (rows : BTreeMap ℕ (KeptRow Key Kept)) → StandsAt keeps held key used (row_of rows (number_in used)) → (n : ℕ) → number_in used ≡ Some n → key_in (tree.get nat_cmp rows n) ≡ Some key
+  pub own_row : (used : Option UsedKey) (rows : Slab (KeptRow Key Kept)) → StandsAt keeps held key used (row_of rows (number_in used)) → (n : ℕ) → number_in used ≡ Some n → key_in (kept_at rows n) ≡ Some key
   own_row None rows stands n e = absurd (none-some n e)
-  own_row (Some u) rows stands n e = ap (λ n. key_in (tree.get nat_cmp rows n)) (sym (same_Some u.number n e)) ∙ by (tree.get nat_cmp rows u.number) stands
+  own_row (Some u) rows stands n e = ap (λ n. key_in (kept_at rows n)) (sym (same_Some u.number n e)) ∙ by (kept_at rows u.number) stands
     where
       by : (row : Option (KeptRow Key Kept)) → StandsAt keeps held key (Some u) row → key_in row ≡ Some key
       by None stands = absurd stands
       by (Some r) stands = ap Some stands.1
 
 -- current rows have numbers
-pub numbered_rows : {Key Kept : Type 0} (cmp : Key → Key → Ordering) (keeps : ObjectMap → Key → Kept → Type 0) (held : ObjectMap) (used : KeyNumbers Key) (rows : BTreeMap ℕ (KeptRow Key Kept)) → AllStand keeps cmp held used rows
+pub numbered_rows : {Key Kept : Type 0} (cmp : Key → Key → Ordering) (keeps : ObjectMap → Key → Kept → Type 0) (held : ObjectMap) (used : KeyNumbers Key) (rows : Slab (KeptRow Key Kept)) → AllStand keeps cmp held used rows
     → AreNumbered (λ key. users_in (used_at cmp used key)) (number_at cmp used)
 numbered_rows cmp keeps held used rows stands = record {
   used = λ key. numbered keeps held key (used_at cmp used key) (row_at cmp used rows key) (stands key);

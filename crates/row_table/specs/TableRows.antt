@@ -1,11 +1,10 @@
 -- The parts of a table: the number of each key, the row of each number, and its watched marks.
-use Rattle.std.specs.Prelude.{◌≡◌, ◌<◌, ◌≤◌, ℕ, Bool, true, false, List, [], Option, Some, None, option_map}
-use Rattle.std.specs.BTreeMap as tree
+use Rattle.std.specs.Prelude.{◌≡◌, ◌<◌, ℕ, Bool, true, false, List, [], Option, Some, None, option_map}
 use Rattle.std.specs.BTreeMap.{BTreeMap}
 use Rattle.std.specs.BTreeSet.{BTreeSet}
 use Rattle.std.specs.List.{filter_map}
-use Rattle.std.specs.Ordering.{nat_cmp}
 use Rattle.std.specs.declared.cmp.Ordering.{Ordering}
+use Rattle.slab.specs.Slab.{Slab, get}
 use Rattle.view_types.specs.Objects.{ObjectMap}
 use Rattle.view_types.specs.declared.mark.Mark.{Mark}
 use Rattle.mark_graph.specs.Moves.{has_after}
@@ -46,27 +45,30 @@ module _ {Key Kept : Type 0} where
   marks_of marks_in None = []
   marks_of marks_in (Some r) = marks_in r.kept
 
-  -- the row of a number, if there is one
-  abbrev pub row_of : BTreeMap ℕ (KeptRow Key Kept) → Option ℕ → Option (KeptRow Key Kept)
+  -- the row at a number, if there is one
+  abbrev pub kept_at : Slab (KeptRow Key Kept) → ℕ → Option (KeptRow Key Kept)
+  kept_at rows n = get rows n
+
+  -- the row of a number, if both are there
+  abbrev pub row_of : Slab (KeptRow Key Kept) → Option ℕ → Option (KeptRow Key Kept)
   row_of rows None = None
-  row_of rows (Some n) = tree.get nat_cmp rows n
+  row_of rows (Some n) = kept_at rows n
 
   -- the keys of the rows with these numbers
-  abbrev pub keys_of : BTreeMap ℕ (KeptRow Key Kept) → List ℕ → List Key
-  keys_of rows numbers = filter_map (λ n. key_in (tree.get nat_cmp rows n)) numbers
+  abbrev pub keys_of : Slab (KeptRow Key Kept) → List ℕ → List Key
+  keys_of rows numbers = filter_map (λ n. key_in (kept_at rows n)) numbers
 
 module _ {Key : Type 0} (cmp : Key → Key → Ordering) where
   -- the row of the key's number
-  abbrev pub row_at : {Kept : Type 0} → KeyNumbers Key → BTreeMap ℕ (KeptRow Key Kept) → Key → Option (KeptRow Key Kept)
+  abbrev pub row_at : {Kept : Type 0} → KeyNumbers Key → Slab (KeptRow Key Kept) → Key → Option (KeptRow Key Kept)
   row_at used rows key = row_of rows (number_at cmp used key)
 
-  -- Each key with users has its own number, below the next one. The row of a key is at its number,
-  -- for which the graph watches the marks of the row.
-  pub record AreTied {Kept : Type 0} (marks_in : Kept → List Mark) (used : KeyNumbers Key) (rows : BTreeMap ℕ (KeptRow Key Kept)) (watched : BTreeMap ℕ (BTreeSet Mark)) (next : ℕ) : Type 0 where
-    pub rows_of : (key : Key) (n : ℕ) → number_at cmp used key ≡ Some n → key_in (tree.get nat_cmp rows n) ≡ Some key
-    pub numbers : (n : ℕ) (key : Key) → key_in (tree.get nat_cmp rows n) ≡ Some key → number_at cmp used key ≡ Some n
-    pub watch : (n : ℕ) (mark : Mark) → watches mark_cmp watched n mark ≡ has_mark (marks_of marks_in (tree.get nat_cmp rows n)) mark
-    pub below : (n : ℕ) → next ≤ n → tree.get nat_cmp rows n ≡ None
+  -- Each key with users has its own number. The row of a key is at its number, for which the graph
+  -- watches the marks of the row.
+  pub record AreTied {Kept : Type 0} (marks_in : Kept → List Mark) (used : KeyNumbers Key) (rows : Slab (KeptRow Key Kept)) (watched : BTreeMap ℕ (BTreeSet Mark)) : Type 0 where
+    pub rows_of : (key : Key) (n : ℕ) → number_at cmp used key ≡ Some n → key_in (kept_at rows n) ≡ Some key
+    pub numbers : (n : ℕ) (key : Key) → key_in (kept_at rows n) ≡ Some key → number_at cmp used key ≡ Some n
+    pub watch : (n : ℕ) (mark : Mark) → watches mark_cmp watched n mark ≡ has_mark (marks_of marks_in (kept_at rows n)) mark
 
 module _ {Key Kept : Type 0} (keeps : ObjectMap → Key → Kept → Type 0) where
   -- a key with users has its own row, which is valid for the objects held
@@ -75,7 +77,7 @@ module _ {Key Kept : Type 0} (keeps : ObjectMap → Key → Kept → Type 0) whe
   StandsAt held key (Some u) None = ⊥
   StandsAt held key (Some u) (Some r) = (0 < u.users) × (r.key ≡ key) × keeps held key r.kept
 
-  abbrev pub AllStand : (Key → Key → Ordering) → ObjectMap → KeyNumbers Key → BTreeMap ℕ (KeptRow Key Kept) → Type 0
+  abbrev pub AllStand : (Key → Key → Ordering) → ObjectMap → KeyNumbers Key → Slab (KeptRow Key Kept) → Type 0
   AllStand cmp held used rows = (key : Key) → StandsAt held key (used_at cmp used key) (row_at cmp used rows key)
 
   module _ (tells : Kept → Kept → Type 0) (changed : List Mark) (after : ObjectMap) where

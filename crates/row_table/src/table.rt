@@ -30,7 +30,7 @@ pub struct RowTable<F: RowRule> {
     spent: bool,
     alloc: Global,
     ghost tied: { spent ≡ false → AreTied F.Key.Ord.cmp F.marks_in table.used table.rows
-        table.graph.rows table.next },
+        table.graph.rows },
 }
 
 impl<F: RowRule> RowTable<F> {
@@ -56,7 +56,7 @@ impl<F: RowRule> RowTable<F> {
             ≡ kept_in (row_at F.Key.Ord.cmp self.now.table.used self.now.table.rows key.now) }
     {
         let used = self.table.used.get(key)?;
-        match self.table.rows.get(&used.number) {
+        match self.table.rows.get(used.number as usize) {
             Some(row) => Some(&row.kept),
             None => None,
         }

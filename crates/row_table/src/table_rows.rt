@@ -1,6 +1,5 @@
 // The rows of a table, each with its number in the graph.
 ghost use Rattle.std.specs.Prelude.{◌≡◌, ◌≤◌, ◌+◌, ◌++◌, ◌∷◌, ℕ, List, Option, [], false, Some, None, IfOk, OnOk, if◌then◌else◌, is_some, nat_lt, option_map};
-ghost use Rattle.std.specs.BTreeMap as tree;
 ghost use Rattle.std.specs.List.{sum_by};
 ghost use Rattle.std.specs.Option.{option_copied, option_to_list};
 ghost use Rattle.std.specs.Ordering.{nat_cmp};
@@ -9,7 +8,7 @@ ghost use Rattle.mark_graph.specs.RowMarks.{has_row};
 ghost use Rattle.mark_rules.specs.Reads.{cost};
 ghost use Rattle.row_table.specs.IndexRows.{AreMet, DifferAmong, KeepNumbers, OneMore, has_key};
 ghost use Rattle.row_table.specs.KeyNumbers.{PutsAt, number_at, one_less, one_more, used_at, users_in};
-ghost use Rattle.row_table.specs.TableRows.{AllStand, AreTied, Follow, Rewatched, key_in, keys_of, marks_of, row_at, shown_in};
+ghost use Rattle.row_table.specs.TableRows.{AllStand, AreTied, Follow, Rewatched, kept_at, key_in, keys_of, marks_of, row_at, shown_in};
 
 use crate::key_numbers::KeyNumbers;
 use crate::row_rule::{Followed, MarksAfter, RowRule, StoreChange};
@@ -20,8 +19,8 @@ use mesh_base::list::List;
 use mesh_base::memory::Memory;
 use mesh_base::steps::Steps;
 use object_store::store::Store;
+use slab::Slab;
 use std::alloc::Global;
-use std::collections::BTreeMap;
 use view_types::mark::Mark;
 
 /// A row and its key, kept while the key has users.
@@ -36,14 +35,12 @@ pub struct KeptRow<K, T> {
 #[derive(Drop)]
 pub struct TableRows<F: RowRule> {
     pub used: KeyNumbers<F::Key>,
-    pub rows: BTreeMap<u64, KeptRow<F::Key, F::Kept>>,
+    pub rows: Slab<KeptRow<F::Key, F::Kept>>,
     pub graph: Graph<Mark>,
     /// The keys whose rows may differ from those before the last change.
     pub differing: List<F::Key>,
     /// The numbers of the rows that read a mark of the last change, ascending.
     pub met: List<u64>,
-    /// The number of the next row.
-    pub next: u64,
     pub alloc: Global,
 }
 
@@ -57,16 +54,14 @@ pub struct RuleChange<'a, F: RowRule> {
 impl<F: RowRule> TableRows<F> {
     pub fn new(alloc: Global) -> TableRows<F>
         ensures none { (key : F.Key) → used_at F.Key.Ord.cmp result.used key ≡ None }
-        ensures tied { AreTied F.Key.Ord.cmp F.marks_in result.used result.rows result.graph.rows
-            result.next }
+        ensures tied { AreTied F.Key.Ord.cmp F.marks_in result.used result.rows result.graph.rows }
     {
         TableRows {
             used: KeyNumbers::new(alloc),
-            rows: BTreeMap::new(alloc),
+            rows: Slab::new(alloc),
             graph: new_graph(alloc),
             differing: List::new(alloc),
             met: List::new(alloc),
-            next: 0,
             alloc,
         }
     }
@@ -81,7 +76,7 @@ impl<F: RowRule> TableRows<F> {
     ) -> Result<(), Memory>
         requires going { store.now.spent ≡ false }
         requires tied { AreTied F.Key.Ord.cmp F.marks_in self.old.used self.old.rows
-            self.old.graph.rows self.old.next }
+            self.old.graph.rows }
         ensures users { OnOk result (OneMore F.Key.Ord.cmp key
             (λ k. users_in (used_at F.Key.Ord.cmp self.old.used k))
             (λ k. users_in (used_at F.Key.Ord.cmp self.new.used k))) }
@@ -91,7 +86,7 @@ impl<F: RowRule> TableRows<F> {
         ensures numbers { OnOk result (KeepNumbers (number_at F.Key.Ord.cmp self.old.used)
             (number_at F.Key.Ord.cmp self.new.used)) }
         ensures tied { OnOk result (AreTied F.Key.Ord.cmp F.marks_in self.new.used self.new.rows
-            self.new.graph.rows self.new.next) }
+            self.new.graph.rows) }
         ensures steps { steps.new ≤ steps.old
             + (if nat_lt 0 (users_in (used_at F.Key.Ord.cmp self.old.used key)) then 0
             else cost store.now.objects ((F.filter rule.now).reads store.now.objects key)) }
@@ -112,33 +107,31 @@ impl<F: RowRule> TableRows<F> {
             (used_at F.Key.Ord.cmp self.old.used) (used_at F.Key.Ord.cmp self.new.used)) }
         ensures same { self.new.rows ≡ self.old.rows }
         ensures tied { AreTied F.Key.Ord.cmp F.marks_in self.old.used self.old.rows
-            self.old.graph.rows self.old.next → OnOk result (AreTied F.Key.Ord.cmp F.marks_in
-            self.new.used self.new.rows self.new.graph.rows self.new.next) }
+            self.old.graph.rows → OnOk result (AreTied F.Key.Ord.cmp F.marks_in
+            self.new.used self.new.rows self.new.graph.rows) }
     {
         self.used.add_user(key)
     }
 
-    // Adds the row of a key that has no users, which gets one user and the next number.
+    // Adds the row of a key that has no users, which gets one user and a free number.
     fn add_row(&mut self, key: F::Key, kept: F::Kept) -> Result<(), Memory>
         requires none { used_at F.Key.Ord.cmp self.old.used key ≡ None }
         requires tied { AreTied F.Key.Ord.cmp F.marks_in self.old.used self.old.rows
-            self.old.graph.rows self.old.next }
+            self.old.graph.rows }
         ensures put { OnOk result (PutsAt F.Key.Ord.cmp key
-            (Some (record { number = self.old.next; users = 1 }))
+            (Some (record { number = self.old.rows.vacant_key; users = 1 }))
             (used_at F.Key.Ord.cmp self.old.used) (used_at F.Key.Ord.cmp self.new.used)) }
         ensures row { OnOk result (PutsAt F.Key.Ord.cmp key
             (Some (record { key = key; kept = kept }))
             (row_at F.Key.Ord.cmp self.old.used self.old.rows)
             (row_at F.Key.Ord.cmp self.new.used self.new.rows)) }
         ensures tied { OnOk result (AreTied F.Key.Ord.cmp F.marks_in self.new.used self.new.rows
-            self.new.graph.rows self.new.next) }
+            self.new.graph.rows) }
     {
-        let number = self.next;
-        self.next = number_after(number)?;
         let marks = F::marks(self.alloc, &kept)?;
-        watch(&mut self.graph, number, marks)?;
         let own = key.copy(self.alloc)?;
-        self.rows.insert(number, KeptRow { key: own, kept })?;
+        let number = self.rows.insert(KeptRow { key: own, kept })? as u64;
+        watch(&mut self.graph, number, marks)?;
         self.used.insert(key, number)
     }
 
@@ -151,8 +144,8 @@ impl<F: RowRule> TableRows<F> {
             self.old.used self.old.rows → AllStand (F.keeps rule) F.Key.Ord.cmp held self.new.used
             self.new.rows }
         ensures tied { AreTied F.Key.Ord.cmp F.marks_in self.old.used self.old.rows
-            self.old.graph.rows self.old.next → AreTied F.Key.Ord.cmp F.marks_in self.new.used
-            self.new.rows self.new.graph.rows self.new.next }
+            self.old.graph.rows → AreTied F.Key.Ord.cmp F.marks_in self.new.used
+            self.new.rows self.new.graph.rows }
     {
         if let Some(number) = self.used.take_user(key) {
             self.remove_row(key, number);
@@ -164,14 +157,13 @@ impl<F: RowRule> TableRows<F> {
         requires { number_at F.Key.Ord.cmp self.old.used key.now ≡ Some number }
         ensures put { PutsAt F.Key.Ord.cmp key.now None (used_at F.Key.Ord.cmp self.old.used)
             (used_at F.Key.Ord.cmp self.new.used) }
-        ensures rows { PutsAt nat_cmp number None (tree.get nat_cmp self.old.rows)
-            (tree.get nat_cmp self.new.rows) }
+        ensures rows { PutsAt nat_cmp number None (kept_at self.old.rows) (kept_at self.new.rows) }
         ensures tied { AreTied F.Key.Ord.cmp F.marks_in self.old.used self.old.rows
-            self.old.graph.rows self.old.next → AreTied F.Key.Ord.cmp F.marks_in self.new.used
-            self.new.rows self.new.graph.rows self.new.next }
+            self.old.graph.rows → AreTied F.Key.Ord.cmp F.marks_in self.new.used
+            self.new.rows self.new.graph.rows }
     {
         self.used.remove(key);
-        self.rows.remove(&number);
+        self.rows.try_remove(number as usize);
         unwatch(&mut self.graph, number);
     }
 
@@ -179,7 +171,7 @@ impl<F: RowRule> TableRows<F> {
     pub fn follow<L>(&mut self, by: &RuleChange<F>, steps: &mut Steps<L>) -> Result<(), Memory>
         requires going { by.now.after.store.now.spent ≡ false }
         requires tied { AreTied F.Key.Ord.cmp F.marks_in self.old.used self.old.rows
-            self.old.graph.rows self.old.next }
+            self.old.graph.rows }
         ensures keys { OnOk result (AreMet F.Key.Ord.cmp by.now.after.change.now.marks
             (λ key. marks_of F.marks_in (row_at F.Key.Ord.cmp self.old.used self.old.rows key))
             (keys_of self.new.rows self.new.met)) }
@@ -197,7 +189,7 @@ impl<F: RowRule> TableRows<F> {
             → number_at F.Key.Ord.cmp self.old.used k ≡ Some n → has_row n self.new.met
             ≡ has_key F.Key.Ord.cmp (keys_of self.new.rows self.new.met) k) }
         ensures tied { OnOk result (AreTied F.Key.Ord.cmp F.marks_in self.new.used self.new.rows
-            self.new.graph.rows self.new.next) }
+            self.new.graph.rows) }
         ensures steps { OnOk result (steps.new ≤ steps.old + sum_by
             (λ key. cost by.now.after.store.now.objects
             ((F.filter by.now.rule.now).reads by.now.after.store.now.objects key))
@@ -225,32 +217,32 @@ impl<F: RowRule> TableRows<F> {
         requires notes { F.notes_hold by.now.rule.now by.now.after.store.now.objects
             by.now.after.change.now notes.old }
         requires tied { AreTied F.Key.Ord.cmp F.marks_in self.old.used self.old.rows
-            self.old.graph.rows self.old.next }
+            self.old.graph.rows }
         ensures rows { OnOk result (Follow (F.keeps by.now.rule.now) F.tells
             by.now.after.change.now.marks by.now.after.store.now.objects (has_key F.Key.Ord.cmp
-            (option_to_list (key_in (tree.get nat_cmp self.old.rows number))))
+            (option_to_list (key_in (kept_at self.old.rows number))))
             (row_at F.Key.Ord.cmp self.old.used self.old.rows)
             (row_at F.Key.Ord.cmp self.new.used self.new.rows)) }
         ensures differ { OnOk result ((first : F.Key → Option F.Row) (found : List F.Key)
             → DifferAmong F.Key.Ord.cmp found self.old.differing first
             (λ key. shown_in F.row_in (row_at F.Key.Ord.cmp self.old.used self.old.rows key))
             → DifferAmong F.Key.Ord.cmp
-            (found ++ option_to_list (key_in (tree.get nat_cmp self.old.rows number)))
+            (found ++ option_to_list (key_in (kept_at self.old.rows number)))
             self.new.differing first
             (λ key. shown_in F.row_in (row_at F.Key.Ord.cmp self.new.used self.new.rows key))) }
         ensures notes { OnOk result (F.notes_hold by.now.rule.now by.now.after.store.now.objects
             by.now.after.change.now notes.new) }
         ensures tied { OnOk result (AreTied F.Key.Ord.cmp F.marks_in self.new.used self.new.rows
-            self.new.graph.rows self.new.next) }
+            self.new.graph.rows) }
         ensures used { self.new.used ≡ self.old.used }
-        ensures same { OnOk result ((n : ℕ) → key_in (tree.get nat_cmp self.new.rows n)
-            ≡ key_in (tree.get nat_cmp self.old.rows n)) }
+        ensures same { OnOk result ((n : ℕ) → key_in (kept_at self.new.rows n)
+            ≡ key_in (kept_at self.old.rows n)) }
         ensures steps { OnOk result (steps.new ≤ steps.old + sum_by
             (λ key. cost by.now.after.store.now.objects
             ((F.filter by.now.rule.now).reads by.now.after.store.now.objects key))
-            (option_to_list (key_in (tree.get nat_cmp self.old.rows number)))) }
+            (option_to_list (key_in (kept_at self.old.rows number)))) }
     {
-        match self.rows.get_mut(&number) {
+        match self.rows.get_mut(number as usize) {
             Some(row) => {
                 let followed = by
                     .rule
@@ -274,7 +266,7 @@ impl<F: RowRule> TableRows<F> {
     {
         let mut keys = List::new(self.alloc);
         for number in self.met.as_slice() {
-            add_key(self.alloc, &mut keys, self.rows.get(number))?;
+            add_key(self.alloc, &mut keys, self.rows.get(*number as usize))?;
         }
         Ok(keys)
     }
@@ -327,10 +319,4 @@ fn note_differing<K: Copied>(
         return Ok(());
     }
     differing.add(key.copy(alloc)?)
-}
-
-fn number_after(number: u64) -> Result<u64, Memory>
-    ensures { IfOk result (λ next. next ≡ number + 1) }
-{
-    number.checked_add(1).ok_or(Memory)
 }

@@ -1,12 +1,11 @@
 use Rattle.std.proofs.Common.{◌≡◌, ◌∷◌, ◌++◌, ◌&&◌, [], false, List, Some, IsSome, refl, sym, ap, subst}
-use Rattle.std.specs.BTreeMap as tree
-use Rattle.std.specs.FinMap.{nat_cmp-IsAntisymmetric}
 use Rattle.std.specs.Option.{option_to_list}
 use Rattle.std.specs.Ordering.{eq_by_cmp, nat_cmp}
-use Rattle.std.proofs.lemmas.Cmp.{nat_cmp_total}
+use Rattle.slab.specs.Slab.{with_value}
+use Rattle.slab.proofs.SlabLemmas.{Updates-with_value}
 use Rattle.row_table.specs.IndexRows.{DifferAmong, has_key}
 use Rattle.row_table.specs.KeyNumbers.{PutsAt}
-use Rattle.row_table.specs.TableRows.{Follow, key_in, row_at, shown_in}
+use Rattle.row_table.specs.TableRows.{Follow, kept_at, key_in, row_at, shown_in}
 use Rattle.row_table.specs.declared.table_rows.KeptRow.{KeptRow}
 use Rattle.row_table.proofs.Differing.{differ_more, shown_put}
 use Rattle.row_table.proofs.Followed.{follow_put}
@@ -22,12 +21,12 @@ returns-in_ok-rewatch-in-Some-clause-tied g c =
     let n = c.args.number in
     let before = c.in-Some.row.now in
     let after : KeptRow g.row.F-Key.Denot g.row.F-Kept.Denot = record { key = before.key; kept = c.follow.new.kept } in
-    let new = c.get_mut.follows.lender after in
-    let there : tree.get nat_cmp self.rows n ≡ Some before = sym c.in-Some.ensures.value in
-    let put : PutsAt nat_cmp n (Some after) (tree.get nat_cmp self.rows) (tree.get nat_cmp new) =
-    updated nat_cmp nat_cmp_total nat_cmp-IsAntisymmetric n (Some after) self.rows new ((c.get_mut.follows.holds after).3 (subst IsSome c.in-Some.ensures.value refl)) in
+    let new = with_value self.rows n after in
+    let there : kept_at self.rows n ≡ Some before = sym c.in-Some.ensures.value in
+    let put : PutsAt nat_cmp n (Some after) (kept_at self.rows) (kept_at new) =
+    updated n (Some after) self.rows new (Updates-with_value self.rows n after (subst IsSome c.in-Some.ensures.value refl)) in
     ok_then c.note_differing.result c.note_differing.ensures (λ noted.
-    tied_followed cmp g.met.F.Key.Ord.total g.met.F.RowRule.exact g.F.RowRule.marks_in self.used self.rows new self.graph.rows c.rewatch.new.graph.rows self.next n before after c.requires.tied there refl put
+    tied_followed cmp g.met.F.Key.Ord.total g.met.F.RowRule.exact g.F.RowRule.marks_in self.used self.rows new self.graph.rows c.rewatch.new.graph.rows n before after c.requires.tied there refl put
     c.in_ok-followed-in-Some.followed.marks c.in_ok-followed-in-Some.ensures.marks c.in_ok-rewatch-in-Some.ensures)
 
 pub returns-in_ok-rewatch-in-Some-clause-same : goal.returns-in_ok-rewatch-in-Some-clause-same
@@ -37,12 +36,12 @@ returns-in_ok-rewatch-in-Some-clause-same g c =
     let n = c.args.number in
     let before = c.in-Some.row.now in
     let after : KeptRow g.row.F-Key.Denot g.row.F-Kept.Denot = record { key = before.key; kept = c.follow.new.kept } in
-    let new = c.get_mut.follows.lender after in
-    let there : tree.get nat_cmp self.rows n ≡ Some before = sym c.in-Some.ensures.value in
-    let put : PutsAt nat_cmp n (Some after) (tree.get nat_cmp self.rows) (tree.get nat_cmp new) =
-    updated nat_cmp nat_cmp_total nat_cmp-IsAntisymmetric n (Some after) self.rows new ((c.get_mut.follows.holds after).3 (subst IsSome c.in-Some.ensures.value refl)) in
+    let new = with_value self.rows n after in
+    let there : kept_at self.rows n ≡ Some before = sym c.in-Some.ensures.value in
+    let put : PutsAt nat_cmp n (Some after) (kept_at self.rows) (kept_at new) =
+    updated n (Some after) self.rows new (Updates-with_value self.rows n after (subst IsSome c.in-Some.ensures.value refl)) in
     ok_then c.note_differing.result c.note_differing.ensures (λ noted.
-    keys_stay cmp g.met.F.Key.Ord.total g.met.F.RowRule.exact g.F.RowRule.marks_in self.used self.rows new self.graph.rows c.rewatch.new.graph.rows self.next n before after c.requires.tied there refl put)
+    keys_stay cmp g.met.F.Key.Ord.total g.met.F.RowRule.exact g.F.RowRule.marks_in self.used self.rows new self.graph.rows c.rewatch.new.graph.rows n before after c.requires.tied there refl put)
 
 pub returns-in_ok-rewatch-in-Some-clause-rows : goal.returns-in_ok-rewatch-in-Some-clause-rows
 returns-in_ok-rewatch-in-Some-clause-rows g c =
@@ -55,17 +54,17 @@ returns-in_ok-rewatch-in-Some-clause-rows g c =
     let n = c.args.number in
     let before = c.in-Some.row.now in
     let after : KeptRow g.row.F-Key.Denot g.row.F-Kept.Denot = record { key = before.key; kept = c.follow.new.kept } in
-    let new = c.get_mut.follows.lender after in
-    let there : tree.get nat_cmp self.rows n ≡ Some before = sym c.in-Some.ensures.value in
-    let put : PutsAt nat_cmp n (Some after) (tree.get nat_cmp self.rows) (tree.get nat_cmp new) =
-    updated nat_cmp nat_cmp_total nat_cmp-IsAntisymmetric n (Some after) self.rows new ((c.get_mut.follows.holds after).3 (subst IsSome c.in-Some.ensures.value refl)) in
+    let new = with_value self.rows n after in
+    let there : kept_at self.rows n ≡ Some before = sym c.in-Some.ensures.value in
+    let put : PutsAt nat_cmp n (Some after) (kept_at self.rows) (kept_at new) =
+    updated n (Some after) self.rows new (Updates-with_value self.rows n after (subst IsSome c.in-Some.ensures.value refl)) in
     let start = row_at cmp self.used self.rows in
     let end = row_at cmp self.used new in
     ok_then c.note_differing.result c.note_differing.ensures (λ noted.
     subst (λ (keys : List g.row.F-Key.Denot). Follow (g.F.RowRule.keeps by.rule.now) g.F.RowRule.tells by.after.change.now.marks by.after.store.now.objects (has_key cmp keys) start end) (ap (λ row. option_to_list (key_in row)) (sym there))
     (follow_put cmp total exact (g.F.RowRule.keeps by.rule.now) g.F.RowRule.tells by.after.change.now.marks by.after.store.now.objects before.key before after start end
-    (row_there cmp total exact marks_in self.used self.rows new self.graph.rows c.rewatch.new.graph.rows self.next n before after c.requires.tied there refl put)
-    (row_put cmp total exact marks_in self.used self.rows new self.graph.rows c.rewatch.new.graph.rows self.next n before after c.requires.tied there refl put)
+    (row_there cmp total exact marks_in self.used self.rows new self.graph.rows c.rewatch.new.graph.rows n before after c.requires.tied there refl put)
+    (row_put cmp total exact marks_in self.used self.rows new self.graph.rows c.rewatch.new.graph.rows n before after c.requires.tied there refl put)
     refl (λ held keeps leads. (c.in_ok-followed-in-Some.ensures.kept held keeps leads, c.in_ok-followed-in-Some.ensures.tells held keeps leads))))
 
 pub returns-in_ok-rewatch-in-Some-clause-differ : goal.returns-in_ok-rewatch-in-Some-clause-differ
@@ -79,10 +78,10 @@ returns-in_ok-rewatch-in-Some-clause-differ g c =
     let n = c.args.number in
     let before = c.in-Some.row.now in
     let after : KeptRow g.row.F-Key.Denot g.row.F-Kept.Denot = record { key = before.key; kept = c.follow.new.kept } in
-    let new = c.get_mut.follows.lender after in
-    let there : tree.get nat_cmp self.rows n ≡ Some before = sym c.in-Some.ensures.value in
-    let put : PutsAt nat_cmp n (Some after) (tree.get nat_cmp self.rows) (tree.get nat_cmp new) =
-    updated nat_cmp nat_cmp_total nat_cmp-IsAntisymmetric n (Some after) self.rows new ((c.get_mut.follows.holds after).3 (subst IsSome c.in-Some.ensures.value refl)) in
+    let new = with_value self.rows n after in
+    let there : kept_at self.rows n ≡ Some before = sym c.in-Some.ensures.value in
+    let put : PutsAt nat_cmp n (Some after) (kept_at self.rows) (kept_at new) =
+    updated n (Some after) self.rows new (Updates-with_value self.rows n after (subst IsSome c.in-Some.ensures.value refl)) in
     let start = row_at cmp self.used self.rows in
     let end = row_at cmp self.used new in
     let shown = λ (k : g.row.F-Key.Denot). shown_in row_in (end k) in
@@ -90,8 +89,8 @@ returns-in_ok-rewatch-in-Some-clause-differ g c =
     let differs = c.in_ok-followed-in-Some.followed.differs in
     let stays : (k : g.row.F-Key.Denot) → (differs && eq_by_cmp cmp k key) ≡ false → shown_in row_in (end k) ≡ shown_in row_in (start k) =
     shown_put cmp total exact row_in key before after start end
-    (row_put cmp total exact marks_in self.used self.rows new self.graph.rows c.rewatch.new.graph.rows self.next n before after c.requires.tied there refl put)
-    (row_there cmp total exact marks_in self.used self.rows new self.graph.rows c.rewatch.new.graph.rows self.next n before after c.requires.tied there refl put)
+    (row_put cmp total exact marks_in self.used self.rows new self.graph.rows c.rewatch.new.graph.rows n before after c.requires.tied there refl put)
+    (row_there cmp total exact marks_in self.used self.rows new self.graph.rows c.rewatch.new.graph.rows n before after c.requires.tied there refl put)
     differs c.in_ok-followed-in-Some.ensures.row in
     ok_then c.note_differing.result c.note_differing.ensures (λ noted first found so_far.
     subst (λ (keys : List g.row.F-Key.Denot). DifferAmong cmp keys c.note_differing.new.differing first shown) (ap (λ row. found ++ option_to_list (key_in row)) (sym there))
