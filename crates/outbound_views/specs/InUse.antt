@@ -1,7 +1,6 @@
 -- The rows of outbound views that have users.
 use Rattle.std.proofs.Common.{◌≡◌, ℕ, Option, Some, None, refl}
 use Rattle.std.specs.BTreeMap.{BTreeMap}
-use Rattle.std.specs.BTreeSet.{BTreeSet}
 use Rattle.std.specs.Prelude.{option_map}
 use Rattle.view_types.specs.Objects.{ObjectMap}
 use Rattle.view_types.specs.contracts.query.TargetOrd as order
@@ -13,6 +12,7 @@ use Rattle.mark_rules.specs.declared.keys.RowKey.TheVariants as row
 use Rattle.row_views.specs.Ids.{key_at}
 use Rattle.row_views.specs.InUse.{AreInUse, users_if}
 use Rattle.row_views.specs.Standing.{Standing}
+use Rattle.row_views.specs.declared.numbered_ids.NumberedIds.{NumberedIds}
 use Rattle.row_views.proofs.InUse.{asked_in_use}
 use Rattle.profile_index.specs.ProfileKeys.{targets_exact}
 use Rattle.outbound_views.specs.OutboundQueries.{query_for}
@@ -27,7 +27,7 @@ target_is (row.Outbound target) other is = cc is
 target_is _ other is = absurd (cc is)
 
 -- the outbound views that have users are those of the queries of ids
-pub outbound_in_use : {Index : Type 0} {users : Index → Target → ℕ} {number_at : Index → Target → Option ℕ} {stand : Index → ObjectMap → Type 0} {held : ObjectMap} {index : Index} {by_number : BTreeMap ℕ (BTreeSet ℕ)} {by_id : BTreeMap ℕ Target} → (config : Config)
+pub outbound_in_use : {Index : Type 0} {users : Index → Target → ℕ} {number_at : Index → Target → Option ℕ} {stand : Index → ObjectMap → Type 0} {held : ObjectMap} {index : Index} {by_number : NumberedIds} {by_id : BTreeMap ℕ Target} → (config : Config)
     → Standing order.TheImpl.cmp-value.it users number_at stand held index by_number by_id → AreInUse config held (λ id. option_map query_for (key_at by_id id)) (λ key. users_if (users index) (target_of key))
 outbound_in_use {users} {number_at} {stand} {held} {index} {by_number} {by_id} config st =
     asked_in_use order.TheImpl.cmp-value.it total-law targets_exact users number_at stand row.Outbound query_for config held index by_number by_id st target_of target_is (λ target. refl) (λ target. refl)

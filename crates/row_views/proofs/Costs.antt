@@ -3,7 +3,6 @@ use Rattle.std.proofs.Common.{◌≡◌, ◌≤◌, ◌<◌, ◌+◌, ◌||◌, 
 use Rattle.std.proofs.lemmas.Bool.{false≢true}
 use Rattle.std.proofs.lemmas.List.Sums.{sum_by-append, sum_by-cons}
 use Rattle.std.specs.BTreeMap.{BTreeMap}
-use Rattle.std.specs.BTreeSet.{BTreeSet}
 use Rattle.std.specs.Cmp.{IsTotalOrder}
 use Rattle.std.specs.FinMap.{IsAntisymmetric}
 use Rattle.std.specs.List.{AllByRecursion, Contains, IsDistinct, sum_by}
@@ -27,6 +26,7 @@ use Rattle.row_views.specs.Ids.{AreTied, is_key, is_open, key_at}
 use Rattle.row_views.specs.InUse.{IsInUse}
 use Rattle.row_views.specs.Queries.{rows_at}
 use Rattle.row_views.specs.Standing.{FollowCost}
+use Rattle.row_views.specs.declared.numbered_ids.NumberedIds.{NumberedIds}
 use Rattle.row_views.proofs.Numbers.{open_one}
 
 pub all_of : {X : Type 0} (P Q : X → Type 0) → ((x : X) → P x → Q x) → (xs : List X) → AllByRecursion P xs → AllByRecursion Q xs
@@ -134,10 +134,10 @@ module _ {Key : Type 0} (cmp : Key → Key → Ordering) (total : IsTotalOrder c
   own_row key (Some k) is = subst (λ (k : Key). Contains (rows config held (query_for k)) (row key)) (is_same cmp total exact key k is) (own key)
 
   -- the row of a key that has ids is one of those of their query
-  pub in_use : (number_at : Key → Option ℕ) (by_number : BTreeMap ℕ (BTreeSet ℕ)) (by_id : BTreeMap ℕ Key) → AreTied cmp number_at by_number by_id → (key : Key) → is_open number_at by_number key ≡ true
+  pub in_use : (number_at : Key → Option ℕ) (by_number : NumberedIds) (by_id : BTreeMap ℕ Key) → AreTied cmp number_at by_number by_id → (key : Key) → is_open number_at by_number key ≡ true
       → IsInUse config held (λ id. option_map query_for (key_at by_id id)) (row key)
   in_use number_at by_number by_id tied key has =
-      let one = open_one by_number tied.each (number_at key) has in
+      let one = open_one by_number (number_at key) has in
       record { id = one.0; of_query = own_row key (key_at by_id one.0) (sym (tied.ids key one.0) ∙ one.1) }
 
 -- what one row reads, at most

@@ -23,12 +23,20 @@ pub at_id : (id n : ℕ) → eq_by_cmp nat_cmp id n ≡ nat_eq n id
 at_id id n = flipped nat_cmp nat_cmp_total nat_cmp-IsAntisymmetric id n ∙ unsigned_tied n id
 
 -- a set that isn't empty has an id
-first_of : (s : BTreeSet ℕ) → 0 < sorted.btree_set_len s → (r : ℕ) × (sorted.contains nat_cmp s r ≡ true)
+pub first_of : (s : BTreeSet ℕ) → 0 < sorted.btree_set_len s → (r : ℕ) × (sorted.contains nat_cmp s r ≡ true)
 first_of s some = by s.keys refl
   where
     by : (ks : List ℕ) → s.keys ≡ ks → (r : ℕ) × (sorted.contains nat_cmp s r ≡ true)
     by [] is = let lt : 0 < 0 = subst (λ (ks : List ℕ). 0 < length ks) is some in absurd (omega (arith, lt))
     by (x ∷ xs) is = (x, ap (list_any (is_at (nat_cmp x))) is ∙ ap (λ b. b || list_any (is_at (nat_cmp x)) xs) (is_itself nat_cmp nat_cmp_total nat_cmp-IsAntisymmetric x))
+
+-- a set with an id isn't empty
+pub some_of : (s : BTreeSet ℕ) (r : ℕ) → sorted.contains nat_cmp s r ≡ true → 0 < sorted.btree_set_len s
+some_of s r is = by s.keys refl
+  where
+    by : (ks : List ℕ) → s.keys ≡ ks → 0 < sorted.btree_set_len s
+    by [] e = absurd (false≢true (sym (ap (list_any (is_at (nat_cmp r))) e) ∙ is))
+    by (x ∷ xs) e = subst (λ (ks : List ℕ). 0 < length ks) (sym e) (omega arith)
 
 pub or_plain : (b : Bool) → ((b && true) || false) ≡ b
 or_plain true = refl

@@ -2,7 +2,6 @@
 use Rattle.std.proofs.Common.{◌≡◌, ◌<◌, inl, inr, ℕ, Bool, true, false, cond, List, [], ◌∷◌, Option, Some, None, refl, sym, ap, subst, ◌∙◌, arith}
 use Rattle.std.proofs.Math.Logic.{∥∥₁_elim, ∥∥₁_prop}
 use Rattle.std.specs.BTreeMap.{BTreeMap}
-use Rattle.std.specs.BTreeSet.{BTreeSet}
 use Rattle.std.specs.Cmp.{IsTotalOrder}
 use Rattle.std.specs.FinMap.{IsAntisymmetric}
 use Rattle.std.specs.List.{Contains, filter_map}
@@ -19,6 +18,7 @@ use Rattle.row_views.specs.Ids.{is_open, key_at}
 use Rattle.row_views.specs.InUse.{AreInUse, IsInUse, users_if}
 use Rattle.row_views.specs.Queries.{rows_at}
 use Rattle.row_views.specs.Standing.{Standing}
+use Rattle.row_views.specs.declared.numbered_ids.NumberedIds.{NumberedIds}
 use Rattle.row_views.proofs.Costs.{among_has, has_among, in_use}
 use Rattle.row_views.proofs.Numbers.{open_there}
 
@@ -58,7 +58,7 @@ module _ {Key : Type 0} (cmp : Key → Key → Ordering) (total : IsTotalOrder c
 -- ---- ids with one key each
 
 module _ {Index Key : Type 0} (cmp : Key → Key → Ordering) (total : IsTotalOrder cmp) (exact : IsAntisymmetric cmp) (users : Index → Key → ℕ) (number_at : Index → Key → Option ℕ) (stand : Index → ObjectMap → Type 0) (row : Key → RowKey) (query_for : Key → Query) (config : Config) (held : ObjectMap)
-    (index : Index) (by_number : BTreeMap ℕ (BTreeSet ℕ)) (by_id : BTreeMap ℕ Key) (st : Standing cmp users number_at stand held index by_number by_id) where
+    (index : Index) (by_number : NumberedIds) (by_id : BTreeMap ℕ Key) (st : Standing cmp users number_at stand held index by_number by_id) where
   abbrev asked_by : ℕ → Option Query
   asked_by id = option_map query_for (key_at by_id id)
 

@@ -1,4 +1,5 @@
 pub mod Costs
+pub mod IdSets
 pub mod Ids
 pub mod InUse
 pub mod Numbers

@@ -4,63 +4,61 @@ use Rattle.std.proofs.lemmas.Bool.{and_parts, false≢true}
 use Rattle.std.proofs.lemmas.Bool.Decides.{eqb_tells}
 use Rattle.std.proofs.lemmas.Cmp.{nat_cmp_total}
 use Rattle.std.specs.BTreeMap.{BTreeMap}
-use Rattle.std.specs.BTreeSet.{BTreeSet}
 use Rattle.std.specs.Cmp.{IsTotalOrder}
 use Rattle.std.specs.FinMap.{IsAntisymmetric, nat_cmp-IsAntisymmetric}
 use Rattle.std.specs.List.{cons_option, filter_map, list_any}
 use Rattle.std.specs.Ordering.{eq_by_cmp, nat_cmp}
 use Rattle.std.specs.declared.cmp.Ordering.{Ordering}
-use Rattle.mark_graph.specs.RowMarks.{AddsRow, AllHaveRows, RemovesRow, has_row, has_rows, row_at}
+use Rattle.mark_graph.specs.RowMarks.{has_row}
 use Rattle.row_table.specs.IndexRows.{KeepNumbers, has_key}
 use Rattle.row_table.proofs.Keys.{is_itself, is_other, is_same, is_same_back, tells, turned}
 use Rattle.row_table.proofs.MarkLists.{same_any}
-use Rattle.row_views.specs.Ids.{AreTied, SetsAt, has_ids_at, id_at, is_key, is_number, is_one_of, is_open, key_at, number_of}
-use Rattle.row_views.proofs.Ids.{at_id, has_one, has_where, or_plain, or_rest, put_ids, take_ids}
-
-abbrev pub ByNumber : Type 0
-ByNumber = BTreeMap ℕ (BTreeSet ℕ)
+use Rattle.row_views.specs.Ids.{AddsId, AreTied, RemovesId, SetsAt, has_ids_at, has_ids_in, id_at, id_in, ids_of, is_key, is_number, is_one_of, is_open, key_at, number_of}
+use Rattle.row_views.specs.declared.numbered_ids.NumberedIds.{NumberedIds}
+use Rattle.row_views.proofs.IdSets.{one_of, some_in}
+use Rattle.row_views.proofs.Ids.{at_id, or_plain, or_rest, put_ids, take_ids}
 
 itself : (n : ℕ) → eq_by_cmp nat_cmp n n ≡ true
 itself = is_itself nat_cmp nat_cmp_total nat_cmp-IsAntisymmetric
 
 -- ---- ids at a number
 
-pub open_one : (by_number : ByNumber) → AllHaveRows nat_cmp by_number → (number : Option ℕ) → has_ids_at by_number number ≡ true → (id : ℕ) × (id_at by_number number id ≡ true)
-open_one by_number each None has = absurd (false≢true has)
-open_one by_number each (Some n) has = has_one nat_cmp nat_cmp_total nat_cmp-IsAntisymmetric by_number each n has
+pub open_one : (by_number : NumberedIds) (number : Option ℕ) → has_ids_at by_number number ≡ true → (id : ℕ) × (id_at by_number number id ≡ true)
+open_one by_number None has = absurd (false≢true has)
+open_one by_number (Some n) has = one_of (ids_of by_number n) has
 
-pub open_where : (by_number : ByNumber) (number : Option ℕ) (id : ℕ) → id_at by_number number id ≡ true → has_ids_at by_number number ≡ true
+pub open_where : (by_number : NumberedIds) (number : Option ℕ) (id : ℕ) → id_at by_number number id ≡ true → has_ids_at by_number number ≡ true
 open_where by_number None id is = absurd (false≢true is)
-open_where by_number (Some n) id is = has_where nat_cmp nat_cmp_total nat_cmp-IsAntisymmetric by_number n id is
+open_where by_number (Some n) id is = some_in (ids_of by_number n) id is
 
-open_alike : (old new : ByNumber) → AllHaveRows nat_cmp old → AllHaveRows nat_cmp new → (was now : Option ℕ) → ((id : ℕ) → id_at new now id ≡ id_at old was id) → has_ids_at new now ≡ has_ids_at old was
-open_alike old new each other was now same = by (has_ids_at new now) (has_ids_at old was) refl refl
+open_alike : (old new : NumberedIds) (was now : Option ℕ) → ((id : ℕ) → id_at new now id ≡ id_at old was id) → has_ids_at new now ≡ has_ids_at old was
+open_alike old new was now same = by (has_ids_at new now) (has_ids_at old was) refl refl
   where
     by : (n o : Bool) → has_ids_at new now ≡ n → has_ids_at old was ≡ o → n ≡ o
     by true true e f = refl
     by false false e f = refl
-    by true false e f = let one = open_one new other now e in absurd (false≢true (sym f ∙ open_where old was one.0 (sym (same one.0) ∙ one.1)))
-    by false true e f = let one = open_one old each was f in absurd (false≢true (sym e ∙ open_where new now one.0 (same one.0 ∙ one.1)))
+    by true false e f = let one = open_one new now e in absurd (false≢true (sym f ∙ open_where old was one.0 (sym (same one.0) ∙ one.1)))
+    by false true e f = let one = open_one old was f in absurd (false≢true (sym e ∙ open_where new now one.0 (same one.0 ∙ one.1)))
 
 -- ids stand at a number
-pub some_number : (by_number : ByNumber) (number : Option ℕ) → has_ids_at by_number number ≡ true → (n : ℕ) × (number ≡ Some n)
+pub some_number : (by_number : NumberedIds) (number : Option ℕ) → has_ids_at by_number number ≡ true → (n : ℕ) × (number ≡ Some n)
 some_number by_number None has = absurd (false≢true has)
 some_number by_number (Some n) has = (n, refl)
 
 -- an id that is open with no key stands at no number
-unset_nowhere : {Key : Type 0} {cmp : Key → Key → Ordering} {number_at : Key → Option ℕ} {by_number : ByNumber} {by_id : BTreeMap ℕ Key} → AreTied cmp number_at by_number by_id → (id : ℕ) → key_at by_id id ≡ None → (n : ℕ) → row_at nat_cmp by_number n id ≡ false
-unset_nowhere {number_at} {by_number} tied id none n = by (row_at nat_cmp by_number n id) refl
+unset_nowhere : {Key : Type 0} {cmp : Key → Key → Ordering} {number_at : Key → Option ℕ} {by_number : NumberedIds} {by_id : BTreeMap ℕ Key} → AreTied cmp number_at by_number by_id → (id : ℕ) → key_at by_id id ≡ None → (n : ℕ) → id_in by_number n id ≡ false
+unset_nowhere {number_at} {by_number} tied id none n = by (id_in by_number n id) refl
   where
-    by : (b : Bool) → row_at nat_cmp by_number n id ≡ b → b ≡ false
+    by : (b : Bool) → id_in by_number n id ≡ b → b ≡ false
     by false e = refl
     by true e = absurd (cc (sym (ap (number_of number_at) none) ∙ tied.alone n id e))
 
 -- the numbers of keys
-pub any_number : {Key : Type 0} (by_number : ByNumber) (number_at : Key → Option ℕ) (id : ℕ) (keys : List Key) → list_any (λ n. row_at nat_cmp by_number n id) (filter_map number_at keys) ≡ list_any (λ key. id_at by_number (number_at key) id) keys
+pub any_number : {Key : Type 0} (by_number : NumberedIds) (number_at : Key → Option ℕ) (id : ℕ) (keys : List Key) → list_any (λ n. id_in by_number n id) (filter_map number_at keys) ≡ list_any (λ key. id_at by_number (number_at key) id) keys
 any_number by_number number_at id [] = refl
 any_number by_number number_at id (key ∷ keys) = by (number_at key) ∙ ap (λ b. id_at by_number (number_at key) id || b) (any_number by_number number_at id keys)
   where
-    by : (o : Option ℕ) → list_any (λ n. row_at nat_cmp by_number n id) (cons_option o (filter_map number_at keys)) ≡ (id_at by_number o id || list_any (λ n. row_at nat_cmp by_number n id) (filter_map number_at keys))
+    by : (o : Option ℕ) → list_any (λ n. id_in by_number n id) (cons_option o (filter_map number_at keys)) ≡ (id_at by_number o id || list_any (λ n. id_in by_number n id) (filter_map number_at keys))
     by None = refl
     by (Some n) = refl
 
@@ -70,52 +68,52 @@ no_number (n ∷ numbers) = no_number numbers
 
 module _ {Key : Type 0} (cmp : Key → Key → Ordering) (total : IsTotalOrder cmp) (exact : IsAntisymmetric cmp) where
   -- ids are open with the key of an id
-  pub open_there : (number_at : Key → Option ℕ) (by_number : ByNumber) (by_id : BTreeMap ℕ Key) → AreTied cmp number_at by_number by_id → (id : ℕ) (key : Key) → key_at by_id id ≡ Some key → is_open number_at by_number key ≡ true
+  pub open_there : (number_at : Key → Option ℕ) (by_number : NumberedIds) (by_id : BTreeMap ℕ Key) → AreTied cmp number_at by_number by_id → (id : ℕ) (key : Key) → key_at by_id id ≡ Some key → is_open number_at by_number key ≡ true
   open_there number_at by_number by_id tied id key is = open_where by_number (number_at key) id (tied.ids key id ∙ ap (is_key cmp key) is ∙ is_itself cmp total exact key)
 
-  module _ (number_at : Key → Option ℕ) (by_number : ByNumber) (by_id : BTreeMap ℕ Key) (tied : AreTied cmp number_at by_number by_id) where
+  module _ (number_at : Key → Option ℕ) (by_number : NumberedIds) (by_id : BTreeMap ℕ Key) (tied : AreTied cmp number_at by_number by_id) where
     -- an id stands at the number of its key and at no other
-    own_number : (id : ℕ) (key : Key) (number : ℕ) → key_at by_id id ≡ Some key → number_at key ≡ Some number → (n : ℕ) → row_at nat_cmp by_number n id ≡ nat_eq number n
+    own_number : (id : ℕ) (key : Key) (number : ℕ) → key_at by_id id ≡ Some key → number_at key ≡ Some number → (n : ℕ) → id_in by_number n id ≡ nat_eq number n
     own_number id key number is own n = elim (eqb_tells number n) [
-      | inl same ↦ ap (λ n. row_at nat_cmp by_number n id) (sym same.1) ∙ ap (λ o. id_at by_number o id) (sym own) ∙ tied.ids key id ∙ ap (is_key cmp key) is ∙ is_itself cmp total exact key ∙ sym same.0
-      | inr apart ↦ by (row_at nat_cmp by_number n id) refl apart.1 ∙ sym apart.0
+      | inl same ↦ ap (λ n. id_in by_number n id) (sym same.1) ∙ ap (λ o. id_at by_number o id) (sym own) ∙ tied.ids key id ∙ ap (is_key cmp key) is ∙ is_itself cmp total exact key ∙ sym same.0
+      | inr apart ↦ by (id_in by_number n id) refl apart.1 ∙ sym apart.0
     ]
       where
-        by : (b : Bool) → row_at nat_cmp by_number n id ≡ b → (number ≡ n → ⊥) → b ≡ false
+        by : (b : Bool) → id_in by_number n id ≡ b → (number ≡ n → ⊥) → b ≡ false
         by false e apart = refl
         by true e apart = absurd (apart (cc (sym own ∙ sym (ap (number_of number_at) is) ∙ tied.alone n id e)))
 
     -- the ids at the numbers of keys
-    pub ids_met : (numbers : List ℕ) (keys : List Key) → ((k : Key) (n : ℕ) → number_at k ≡ Some n → has_row n numbers ≡ has_key cmp keys k) → (id : ℕ) → list_any (λ n. row_at nat_cmp by_number n id) numbers ≡ is_one_of cmp keys (key_at by_id id)
+    pub ids_met : (numbers : List ℕ) (keys : List Key) → ((k : Key) (n : ℕ) → number_at k ≡ Some n → has_row n numbers ≡ has_key cmp keys k) → (id : ℕ) → list_any (λ n. id_in by_number n id) numbers ≡ is_one_of cmp keys (key_at by_id id)
     ids_met numbers keys met id = by (key_at by_id id) refl
       where
-        by : (o : Option Key) → key_at by_id id ≡ o → list_any (λ n. row_at nat_cmp by_number n id) numbers ≡ is_one_of cmp keys o
-        by None e = same_any (λ n. row_at nat_cmp by_number n id) (λ n. false) (unset_nowhere tied id e) numbers ∙ no_number numbers
+        by : (o : Option Key) → key_at by_id id ≡ o → list_any (λ n. id_in by_number n id) numbers ≡ is_one_of cmp keys o
+        by None e = same_any (λ n. id_in by_number n id) (λ n. false) (unset_nowhere tied id e) numbers ∙ no_number numbers
         by (Some k) e =
             let own = some_number by_number (number_at k) (open_there number_at by_number by_id tied id k e) in
-            same_any (λ n. row_at nat_cmp by_number n id) (nat_eq own.0) (own_number id k own.0 e own.1) numbers ∙ met k own.0 own.1
+            same_any (λ n. id_in by_number n id) (nat_eq own.0) (own_number id k own.0 e own.1) numbers ∙ met k own.0 own.1
 
   -- ---- one id more
 
-  module _ (number_at next_at : Key → Option ℕ) (by_number new : ByNumber) (by_id next : BTreeMap ℕ Key) (id : ℕ) (key : Key) (number : ℕ) (tied : AreTied cmp number_at by_number by_id) (free : key_at by_id id ≡ None)
+  module _ (number_at next_at : Key → Option ℕ) (by_number new : NumberedIds) (by_id next : BTreeMap ℕ Key) (id : ℕ) (key : Key) (number : ℕ) (tied : AreTied cmp number_at by_number by_id) (free : key_at by_id id ≡ None)
       (is : next_at key ≡ Some number) (keep : KeepNumbers number_at next_at) (others : (k : Key) → eq_by_cmp cmp k key ≡ false → next_at k ≡ number_at k) (apart : (k other : Key) (n : ℕ) → next_at k ≡ Some n → next_at other ≡ Some n → k ≡ other)
-      (adds : AddsRow nat_cmp (is_number (Some number)) id by_number new) (each : AllHaveRows nat_cmp new) (sets : SetsAt id (Some key) (key_at by_id) (key_at next)) where
+      (adds : AddsId (is_number (Some number)) id by_number new) (sets : SetsAt id (Some key) (key_at by_id) (key_at next)) where
     -- no ids stand at the number of a key that had none
-    none_before : number_at key ≡ None → (r : ℕ) → row_at nat_cmp by_number number r ≡ false
-    none_before none r = by (row_at nat_cmp by_number number r) refl
+    none_before : number_at key ≡ None → (r : ℕ) → id_in by_number number r ≡ false
+    none_before none r = by (id_in by_number number r) refl
       where
         of : (o : Option Key) → number_of number_at o ≡ Some number → ⊥
         of None e = cc e
         of (Some k) e = cc (sym e ∙ ap number_at (apart k key number (keep k number e) is) ∙ none)
 
-        by : (b : Bool) → row_at nat_cmp by_number number r ≡ b → b ≡ false
+        by : (b : Bool) → id_in by_number number r ≡ b → b ≡ false
         by false e = refl
         by true e = absurd (of (key_at by_id r) (tied.alone number r e))
 
-    was : (r : ℕ) → row_at nat_cmp by_number number r ≡ id_at by_number (number_at key) r
+    was : (r : ℕ) → id_in by_number number r ≡ id_at by_number (number_at key) r
     was r = by (number_at key) refl
       where
-        by : (o : Option ℕ) → number_at key ≡ o → row_at nat_cmp by_number number r ≡ id_at by_number o r
+        by : (o : Option ℕ) → number_at key ≡ o → id_in by_number number r ≡ id_at by_number o r
         by None e = none_before e r
         by (Some n) e = ap (λ o. id_at by_number o r) (sym is ∙ keep key n e)
 
@@ -130,7 +128,7 @@ module _ {Key : Type 0} (cmp : Key → Key → Ordering) (total : IsTotalOrder c
 
         by : (o : Option ℕ) → number_at k ≡ o → id_at new o r ≡ id_at by_number o r
         by None e = refl
-        by (Some n) e = adds n r ∙ ap (λ b. (b && nat_eq r id) || row_at nat_cmp by_number n r) (is_other nat_cmp nat_cmp_total nat_cmp-IsAntisymmetric number n (other n e))
+        by (Some n) e = adds n r ∙ ap (λ b. (b && nat_eq r id) || id_in by_number n r) (is_other nat_cmp nat_cmp_total nat_cmp-IsAntisymmetric number n (other n e))
 
     more_at : (k : Key) (r : ℕ) → id_at new (next_at k) r ≡ ((eq_by_cmp cmp key k && nat_eq r id) || id_at by_number (number_at k) r)
     more_at k r = elim (tells cmp total exact key k) [
@@ -138,14 +136,14 @@ module _ {Key : Type 0} (cmp : Key → Key → Ordering) (total : IsTotalOrder c
       | inr out ↦ more_there k out.0 r
     ]
 
-    more_alone : (n r : ℕ) → row_at nat_cmp new n r ≡ true → number_of next_at (key_at next r) ≡ Some n
+    more_alone : (n r : ℕ) → id_in new n r ≡ true → number_of next_at (key_at next r) ≡ Some n
     more_alone n r at = elim (eqb_tells r id) [
       | inl same ↦
-          let none : row_at nat_cmp by_number n r ≡ false = unset_nowhere tied r (ap (key_at by_id) same.1 ∙ free) n in
+          let none : id_in by_number n r ≡ false = unset_nowhere tied r (ap (key_at by_id) same.1 ∙ free) n in
           let mine : eq_by_cmp nat_cmp number n ≡ true = sym (adds n r ∙ (λ i. (eq_by_cmp nat_cmp number n && same.0 i) || none i) ∙ or_plain (eq_by_cmp nat_cmp number n)) ∙ at in
           ap (number_of next_at) (sets r ∙ ap (λ b. cond b (Some key) (key_at by_id r)) same.0) ∙ is ∙ ap Some (is_same nat_cmp nat_cmp_total nat_cmp-IsAntisymmetric number n mine)
       | inr out ↦
-          let old : row_at nat_cmp by_number n r ≡ true = sym (adds n r ∙ ap (λ b. (eq_by_cmp nat_cmp number n && b) || row_at nat_cmp by_number n r) out.0 ∙ or_rest (eq_by_cmp nat_cmp number n) (row_at nat_cmp by_number n r)) ∙ at in
+          let old : id_in by_number n r ≡ true = sym (adds n r ∙ ap (λ b. (eq_by_cmp nat_cmp number n && b) || id_in by_number n r) out.0 ∙ or_rest (eq_by_cmp nat_cmp number n) (id_in by_number n r)) ∙ at in
           ap (number_of next_at) (sets r ∙ ap (λ b. cond b (Some key) (key_at by_id r)) out.0) ∙ kept (key_at by_id r) (tied.alone n r old)
     ]
       where
@@ -154,28 +152,28 @@ module _ {Key : Type 0} (cmp : Key → Key → Ordering) (total : IsTotalOrder c
         kept (Some k) e = keep k n e
 
     pub put_tied : AreTied cmp next_at new next
-    put_tied = record { ids = put_ids cmp total exact (λ k n. id_at by_number (number_at k) n) (λ k n. id_at new (next_at k) n) by_id next id key tied.ids free more_at sets; alone = more_alone; each = each }
+    put_tied = record { ids = put_ids cmp total exact (λ k n. id_at by_number (number_at k) n) (λ k n. id_at new (next_at k) n) by_id next id key tied.ids free more_at sets; alone = more_alone }
 
     pub put_alike : (k : Key) → eq_by_cmp cmp k key ≡ false → is_open next_at new k ≡ is_open number_at by_number k
-    put_alike k out = open_alike by_number new tied.each each (number_at k) (next_at k) (λ r. more_at k r ∙ ap (λ b. (b && nat_eq r id) || id_at by_number (number_at k) r) (turned cmp total exact k key out))
+    put_alike k out = open_alike by_number new (number_at k) (next_at k) (λ r. more_at k r ∙ ap (λ b. (b && nat_eq r id) || id_at by_number (number_at k) r) (turned cmp total exact k key out))
 
     pub put_there : is_open next_at new key ≡ true
     put_there = open_there next_at new next put_tied id key (sets id ∙ ap (λ b. cond b (Some key) (key_at by_id id)) (sym (at_id id id) ∙ itself id))
 
   -- ---- one id less
 
-  module _ (number_at next_at : Key → Option ℕ) (by_number new : ByNumber) (by_id next : BTreeMap ℕ Key) (id : ℕ) (key : Key) (number : ℕ) (tied : AreTied cmp number_at by_number by_id) (is : key_at by_id id ≡ Some key)
+  module _ (number_at next_at : Key → Option ℕ) (by_number new : NumberedIds) (by_id next : BTreeMap ℕ Key) (id : ℕ) (key : Key) (number : ℕ) (tied : AreTied cmp number_at by_number by_id) (is : key_at by_id id ≡ Some key)
       (at : number_at key ≡ Some number) (apart : (k other : Key) (n : ℕ) → number_at k ≡ Some n → number_at other ≡ Some n → k ≡ other) (others : (k : Key) → eq_by_cmp cmp k key ≡ false → next_at k ≡ number_at k)
-      (own : (next_at key ≡ Some number) ⊎ ((next_at key ≡ None) × (has_rows nat_cmp new number ≡ false)))
-      (takes : RemovesRow nat_cmp (is_number (Some number)) id by_number new) (each : AllHaveRows nat_cmp new) (sets : SetsAt id None (key_at by_id) (key_at next)) where
-    none_left : has_rows nat_cmp new number ≡ false → (r : ℕ) → row_at nat_cmp new number r ≡ false
-    none_left none r = by (row_at nat_cmp new number r) refl
+      (own : (next_at key ≡ Some number) ⊎ ((next_at key ≡ None) × (has_ids_in new number ≡ false)))
+      (takes : RemovesId (is_number (Some number)) id by_number new) (sets : SetsAt id None (key_at by_id) (key_at next)) where
+    none_left : has_ids_in new number ≡ false → (r : ℕ) → id_in new number r ≡ false
+    none_left none r = by (id_in new number r) refl
       where
-        by : (b : Bool) → row_at nat_cmp new number r ≡ b → b ≡ false
+        by : (b : Bool) → id_in new number r ≡ b → b ≡ false
         by false e = refl
-        by true e = absurd (false≢true (sym none ∙ has_where nat_cmp nat_cmp_total nat_cmp-IsAntisymmetric new number r e))
+        by true e = absurd (false≢true (sym none ∙ open_where new (Some number) r e))
 
-    mine : (r : ℕ) → id_at new (next_at key) r ≡ row_at nat_cmp new number r
+    mine : (r : ℕ) → id_at new (next_at key) r ≡ id_in new number r
     mine r = elim own [
       | inl keeps ↦ ap (λ o. id_at new o r) keeps
       | inr none ↦ ap (λ o. id_at new o r) none.0 ∙ sym (none_left none.1 r)
@@ -192,7 +190,7 @@ module _ {Key : Type 0} (cmp : Key → Key → Ordering) (total : IsTotalOrder c
 
         by : (o : Option ℕ) → number_at k ≡ o → id_at new o r ≡ id_at by_number o r
         by None e = refl
-        by (Some n) e = takes n r ∙ ap (λ b. not (b && nat_eq r id) && row_at nat_cmp by_number n r) (is_other nat_cmp nat_cmp_total nat_cmp-IsAntisymmetric number n (other n e))
+        by (Some n) e = takes n r ∙ ap (λ b. not (b && nat_eq r id) && id_in by_number n r) (is_other nat_cmp nat_cmp_total nat_cmp-IsAntisymmetric number n (other n e))
 
     less_at : (k : Key) (r : ℕ) → id_at new (next_at k) r ≡ (not (eq_by_cmp cmp key k && nat_eq r id) && id_at by_number (number_at k) r)
     less_at k r = elim (tells cmp total exact key k) [
@@ -201,7 +199,7 @@ module _ {Key : Type 0} (cmp : Key → Key → Ordering) (total : IsTotalOrder c
     ]
 
     -- the number of another id's key
-    still : (n r : ℕ) → row_at nat_cmp new n r ≡ true → (o : Option Key) → number_of number_at o ≡ Some n → number_of next_at o ≡ Some n
+    still : (n r : ℕ) → id_in new n r ≡ true → (o : Option Key) → number_of number_at o ≡ Some n → number_of next_at o ≡ Some n
     still n r there None e = e
     still n r there (Some k) e = elim (tells cmp total exact k key) [
       | inr out ↦ others k out.0 ∙ e
@@ -213,9 +211,9 @@ module _ {Key : Type 0} (cmp : Key → Key → Ordering) (total : IsTotalOrder c
           ]
     ]
 
-    less_alone : (n r : ℕ) → row_at nat_cmp new n r ≡ true → number_of next_at (key_at next r) ≡ Some n
+    less_alone : (n r : ℕ) → id_in new n r ≡ true → number_of next_at (key_at next r) ≡ Some n
     less_alone n r there =
-        let parts = and_parts (not (eq_by_cmp nat_cmp number n && nat_eq r id)) (row_at nat_cmp by_number n r) (sym (takes n r) ∙ there) in
+        let parts = and_parts (not (eq_by_cmp nat_cmp number n && nat_eq r id)) (id_in by_number n r) (sym (takes n r) ∙ there) in
         let alone = tied.alone n r parts.1 in
         elim (eqb_tells r id) [
           | inl same ↦
@@ -225,7 +223,7 @@ module _ {Key : Type 0} (cmp : Key → Key → Ordering) (total : IsTotalOrder c
         ]
 
     pub take_tied : AreTied cmp next_at new next
-    take_tied = record { ids = take_ids cmp total exact (λ k n. id_at by_number (number_at k) n) (λ k n. id_at new (next_at k) n) by_id next id key tied.ids is less_at sets; alone = less_alone; each = each }
+    take_tied = record { ids = take_ids cmp total exact (λ k n. id_at by_number (number_at k) n) (λ k n. id_at new (next_at k) n) by_id next id key tied.ids is less_at sets; alone = less_alone }
 
     pub take_alike : (k : Key) → eq_by_cmp cmp k key ≡ false → is_open next_at new k ≡ is_open number_at by_number k
-    take_alike k out = open_alike by_number new tied.each each (number_at k) (next_at k) (λ r. less_at k r ∙ ap (λ b. not (b && nat_eq r id) && id_at by_number (number_at k) r) (turned cmp total exact k key out))
+    take_alike k out = open_alike by_number new (number_at k) (next_at k) (λ r. less_at k r ∙ ap (λ b. not (b && nat_eq r id) && id_at by_number (number_at k) r) (turned cmp total exact k key out))

@@ -2,7 +2,6 @@
 use Rattle.std.proofs.Common.{◌≡◌, ◌≤◌, ◌+◌, ℕ, Bool, cond, List, [], ◌∷◌, Option, Some, None, refl, sym, ap, subst, ◌∙◌, arith}
 use Rattle.std.proofs.lemmas.List.{append-nil}
 use Rattle.std.specs.BTreeMap.{BTreeMap}
-use Rattle.std.specs.BTreeSet.{BTreeSet}
 use Rattle.std.specs.Cmp.{IsTotalOrder}
 use Rattle.std.specs.FinMap.{IsAntisymmetric}
 use Rattle.std.specs.List.{Contains, flat_map}
@@ -23,6 +22,7 @@ use Rattle.row_views.specs.Costs.{FollowedRows, open_cost}
 use Rattle.row_views.specs.Ids.{AreTied, is_open, key_at}
 use Rattle.row_views.specs.Queries.{reads_one, rows_at, view_at}
 use Rattle.row_views.specs.Standing.{FollowCost, is_met}
+use Rattle.row_views.specs.declared.numbered_ids.NumberedIds.{NumberedIds}
 use Rattle.row_views.proofs.Costs.{followed, in_use, opened_within}
 
 module _ {Key Row : Type 0} (kept : Filter Key Row) (query_for : Key → Query) (config : Config) where
@@ -51,7 +51,7 @@ module _ {Key Row : Type 0} (kept : Filter Key Row) (query_for : Key → Query) 
         opened_within used config held (row key) query (filter.reads held key) old new (ap (rows_at config held) (sym is) ∙ only held key) (reading held key ∙ ap (λ f. f.reads held key) (sym same)) most
 
     -- and as a change is followed
-    module _ (cmp : Key → Key → Ordering) (total : IsTotalOrder cmp) (exact : IsAntisymmetric cmp) (row_exact : (a b : Key) → row a ≡ row b → a ≡ b) (before after : ObjectMap) (changed : List Mark) (number_at : Key → Option ℕ) (by_number : BTreeMap ℕ (BTreeSet ℕ)) (by_id : BTreeMap ℕ Key) where
+    module _ (cmp : Key → Key → Ordering) (total : IsTotalOrder cmp) (exact : IsAntisymmetric cmp) (row_exact : (a b : Key) → row a ≡ row b → a ≡ b) (before after : ObjectMap) (changed : List Mark) (number_at : Key → Option ℕ) (by_number : NumberedIds) (by_id : BTreeMap ℕ Key) where
       own : (key : Key) → Contains (rows config before (query_for key)) (row key)
       own key = subst (λ (keys : List RowKey). Contains keys (row key)) (sym (only before key)) (0, omega arith, refl)
 

@@ -1,12 +1,14 @@
 -- Ids with their values, and the ids of each key.
-use Rattle.std.specs.Prelude.{◌≡◌, ℕ, nat_eq, Bool, true, false, List, Option, Some, None, if◌then◌else◌}
+use Rattle.std.specs.Prelude.{◌≡◌, ◌&&◌, ◌||◌, not, ℕ, nat_eq, nat_lt, Bool, true, false, List, [], Option, Some, None, if◌then◌else◌, is_some, slice_index_or}
 use Rattle.std.specs.BTreeMap as tree
 use Rattle.std.specs.BTreeMap.{BTreeMap}
-use Rattle.std.specs.BTreeSet.{BTreeSet}
+use Rattle.std.specs.BTreeSet.{BTreeSet, btree_set_len, contains}
 use Rattle.std.specs.Ordering.{eq_by_cmp, nat_cmp}
 use Rattle.std.specs.declared.cmp.Ordering.{Ordering}
-use Rattle.mark_graph.specs.RowMarks.{AllHaveRows, has_rows, row_at}
+use Rattle.mark_graph.specs.RowMarks.{has_rows}
 use Rattle.row_table.specs.IndexRows.{OneMore, has_key}
+use Rattle.row_views.specs.declared.id_set.IdSet.{IdSet}
+use Rattle.row_views.specs.declared.numbered_ids.NumberedIds.{NumberedIds}
 
 -- ---- the values of ids
 
@@ -22,12 +24,45 @@ Keeps old new = (id : ℕ) → new id ≡ old id
 abbrev pub key_at : {Key : Type 0} → BTreeMap ℕ Key → ℕ → Option Key
 key_at by_id id = tree.get nat_cmp by_id id
 
--- ---- the ids of rows by number
+-- ---- sets of ids
 
 -- it is this number, if there is one
 abbrev pub is_number : Option ℕ → ℕ → Bool
 is_number None number = false
 is_number (Some n) number = eq_by_cmp nat_cmp n number
+
+-- the id is in the set
+abbrev pub is_in : IdSet → ℕ → Bool
+is_in ids id = is_number ids.first id || contains nat_cmp ids.others id
+
+-- there are ids in the set
+abbrev pub has_some : IdSet → Bool
+has_some ids = is_some ids.first || nat_lt 0 (btree_set_len ids.others)
+
+abbrev pub empty_ids : IdSet
+empty_ids = record { first = None; others = record { keys = [] } }
+
+-- ---- the ids of rows by number
+
+-- the ids at a number, which has none past the last set
+abbrev pub ids_of : NumberedIds → ℕ → IdSet
+ids_of by_number number = slice_index_or by_number.sets.items number empty_ids
+
+-- the id is at the number
+abbrev pub id_in : NumberedIds → ℕ → ℕ → Bool
+id_in by_number number id = is_in (ids_of by_number number) id
+
+-- there are ids at the number
+abbrev pub has_ids_in : NumberedIds → ℕ → Bool
+has_ids_in by_number number = has_some (ids_of by_number number)
+
+-- the id is added at the numbers of the set, and nothing else changes
+abbrev pub AddsId : (ℕ → Bool) → ℕ → NumberedIds → NumberedIds → Type 0
+AddsId set id old new = (n r : ℕ) → id_in new n r ≡ ((set n && nat_eq r id) || id_in old n r)
+
+-- the id is removed from the numbers of the set, and nothing else changes
+abbrev pub RemovesId : (ℕ → Bool) → ℕ → NumberedIds → NumberedIds → Type 0
+RemovesId set id old new = (n r : ℕ) → id_in new n r ≡ (not (set n && nat_eq r id) && id_in old n r)
 
 -- the number of a key, if there is one
 abbrev pub number_of : {Key : Type 0} → (Key → Option ℕ) → Option Key → Option ℕ
@@ -35,17 +70,17 @@ number_of number_at None = None
 number_of number_at (Some key) = number_at key
 
 -- the id is at the number, if there is one
-abbrev pub id_at : BTreeMap ℕ (BTreeSet ℕ) → Option ℕ → ℕ → Bool
+abbrev pub id_at : NumberedIds → Option ℕ → ℕ → Bool
 id_at by_number None id = false
-id_at by_number (Some number) id = row_at nat_cmp by_number number id
+id_at by_number (Some number) id = id_in by_number number id
 
 -- there are ids at the number, if there is one
-abbrev pub has_ids_at : BTreeMap ℕ (BTreeSet ℕ) → Option ℕ → Bool
+abbrev pub has_ids_at : NumberedIds → Option ℕ → Bool
 has_ids_at by_number None = false
-has_ids_at by_number (Some number) = has_rows nat_cmp by_number number
+has_ids_at by_number (Some number) = has_ids_in by_number number
 
 -- ids are open with the key
-abbrev pub is_open : {Key : Type 0} → (Key → Option ℕ) → BTreeMap ℕ (BTreeSet ℕ) → Key → Bool
+abbrev pub is_open : {Key : Type 0} → (Key → Option ℕ) → NumberedIds → Key → Bool
 is_open number_at by_number key = has_ids_at by_number (number_at key)
 
 -- ---- the ids of keys
@@ -66,11 +101,10 @@ module _ {Key : Type 0} (cmp : Key → Key → Ordering) where
   has_ids by_key key = has_rows cmp by_key key
 
   -- The ids at the number of a key are those that are open with it. An id is only at the number of
-  -- its key. A number that is stored has an id.
-  pub record AreTied (number_at : Key → Option ℕ) (by_number : BTreeMap ℕ (BTreeSet ℕ)) (by_id : BTreeMap ℕ Key) : Type 0 where
+  -- its key.
+  pub record AreTied (number_at : Key → Option ℕ) (by_number : NumberedIds) (by_id : BTreeMap ℕ Key) : Type 0 where
     pub ids : (key : Key) (id : ℕ) → id_at by_number (number_at key) id ≡ is_key key (key_at by_id id)
-    pub alone : (number id : ℕ) → row_at nat_cmp by_number number id ≡ true → number_of number_at (key_at by_id id) ≡ Some number
-    pub each : AllHaveRows nat_cmp by_number
+    pub alone : (number id : ℕ) → id_in by_number number id ≡ true → number_of number_at (key_at by_id id) ≡ Some number
 
   -- the key has one more user, unless it has ids, and each other key has as many as before
   abbrev pub OneMoreUnless : Bool → Key → (Key → ℕ) → (Key → ℕ) → Type 0

@@ -6,5 +6,7 @@
 //! subscriptions: views of queries. Each implementation defines which it keeps.
 #![tactic(auto)]
 
+pub mod id_set;
+pub mod numbered_ids;
 pub mod query_views;
 pub mod views;

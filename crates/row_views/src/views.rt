@@ -4,16 +4,15 @@ ghost use Rattle.std.specs.List.Sorted.{IsStrictlySortedBy};
 ghost use Rattle.std.specs.Option.{option_copied};
 ghost use Rattle.std.specs.Ordering.{nat_cmp};
 ghost use Rattle.view_types.specs.Objects.{ObjectMap};
-ghost use Rattle.mark_graph.specs.RowMarks.{AddsRow, AllHaveRows, RemovesRow, has_row};
+ghost use Rattle.mark_graph.specs.RowMarks.{has_row};
 ghost use Rattle.mark_rules.specs.Changes.{Leads};
 ghost use Rattle.mark_rules.specs.Reads.{cost};
 ghost use Rattle.row_table.specs.IndexRows.{KeepNumbers};
 ghost use Rattle.row_table.specs.PeekedRow.{peeked_row};
-ghost use Rattle.row_views.specs.Ids.{Keeps, OneMoreUnless, SetsAt, has_ids_at, is_number, is_one_of, is_open, key_at};
+ghost use Rattle.row_views.specs.Ids.{AddsId, Keeps, OneMoreUnless, RemovesId, SetsAt, has_ids_at, is_number, is_one_of, is_open, key_at};
 ghost use Rattle.row_views.specs.Standing.{FollowCost, HasSameRow, Standing, is_met};
 
-use mark_graph::by_mark::{put_one, rows_at, take_one};
-use mark_graph::sorted_set::SortedSet;
+use crate::numbered_ids::NumberedIds;
 use mesh_base::copied::Copied;
 use mesh_base::list::List;
 use mesh_base::memory::Memory;
@@ -32,7 +31,7 @@ pub struct RowViews<I: RowIndex + Drop> {
     /// Each key that has ids is one user of its row.
     index: I,
     /// The ids of each row, by its number.
-    by_number: BTreeMap<u64, SortedSet<u64>>,
+    by_number: NumberedIds,
     /// The key of each id.
     by_id: BTreeMap<u64, I::Key>,
     alloc: Global,
@@ -49,7 +48,7 @@ impl<I: RowIndex + Drop> RowViews<I> {
     {
         RowViews {
             index,
-            by_number: BTreeMap::new(alloc),
+            by_number: NumberedIds::new(alloc),
             by_id: BTreeMap::new(alloc),
             alloc,
         }
@@ -124,7 +123,7 @@ impl<I: RowIndex + Drop> RowViews<I> {
             return;
         };
         let number = self.index.number(&key);
-        if !take_at(&mut self.by_number, number, id) {
+        if !take_at(self.alloc, &mut self.by_number, number, id) {
             self.index.leave(&key);
         }
     }
@@ -159,7 +158,7 @@ impl<I: RowIndex + Drop> RowViews<I> {
         ensures keys { self.new.by_id ≡ self.old.by_id }
     {
         self.index.on_change(store, change, steps)?;
-        rows_at(self.alloc, &self.by_number, self.index.met())
+        self.by_number.ids_at(self.alloc, self.index.met())
     }
 
     /// Returns the ids of the keys whose rows may differ from those before the last change. All
@@ -171,7 +170,7 @@ impl<I: RowIndex + Drop> RowViews<I> {
             self.now.by_id id)) }
     {
         let numbers = self.numbers_of(self.index.differing())?;
-        rows_at(self.alloc, &self.by_number, numbers.as_slice())
+        self.by_number.ids_at(self.alloc, numbers.as_slice())
     }
 
     // Returns the numbers of the rows of these keys, without those that have no users.
@@ -224,32 +223,22 @@ impl<I: RowIndex + Drop> RowViews<I> {
 }
 
 // Puts the id at the number, if there is one.
-fn put_at(
-    alloc: Global,
-    by: &mut BTreeMap<u64, SortedSet<u64>>,
-    number: Option<u64>,
-    id: u64,
-) -> Result<(), Memory>
-    ensures added { OnOk result (AddsRow nat_cmp (is_number number) id by.old by.new) }
-    ensures kept { AllHaveRows nat_cmp by.old → OnOk result (AllHaveRows nat_cmp by.new) }
+fn put_at(alloc: Global, by: &mut NumberedIds, number: Option<u64>, id: u64) -> Result<(), Memory>
+    ensures { OnOk result (AddsId (is_number number) id by.old by.new) }
 {
     match number {
-        Some(number) => {
-            put_one(alloc, by, &number, id)?;
-            Ok(())
-        }
+        Some(number) => by.put(alloc, number, id),
         None => Ok(()),
     }
 }
 
 // Removes the id from the number, if there is one. Returns whether others are left there.
-fn take_at(by: &mut BTreeMap<u64, SortedSet<u64>>, number: Option<u64>, id: u64) -> bool
-    ensures taken { RemovesRow nat_cmp (is_number number) id by.old by.new }
-    ensures kept { AllHaveRows nat_cmp by.old → AllHaveRows nat_cmp by.new }
+fn take_at(alloc: Global, by: &mut NumberedIds, number: Option<u64>, id: u64) -> bool
+    ensures taken { RemovesId (is_number number) id by.old by.new }
     ensures others { result ≡ has_ids_at by.new number }
 {
     match number {
-        Some(number) => take_one(by, &number, id),
+        Some(number) => by.take(alloc, number, id),
         None => false,
     }
 }

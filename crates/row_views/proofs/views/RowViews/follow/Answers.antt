@@ -1,8 +1,6 @@
 use Rattle.std.proofs.Common.{Some, ap, ◌∙◌}
 use Rattle.std.specs.List.{list_any}
-use Rattle.std.specs.Ordering.{nat_cmp}
-use Rattle.mark_graph.specs.RowMarks.{row_at}
-use Rattle.row_views.specs.Ids.{is_open, key_at}
+use Rattle.row_views.specs.Ids.{id_in, is_open, key_at}
 use Rattle.row_views.proofs.Costs.{met_cost}
 use Rattle.row_views.proofs.Standing.{followed_stand, ids_touched, if_then, on_any, row_is, same_row}
 use Rattle.row_views.proofs.views.RowViews.follow.Goals as goal
@@ -11,22 +9,22 @@ pub returns-clause-touched : goal.returns-clause-touched
 returns-clause-touched g c =
     let self = c.args.self.now in
     let numbers = g.I.RowIndex.met c.on_change.new.self in
-    if_then c.rows_at.result c.rows_at.ensures.rows (λ ids are held st.
+    if_then c.ids_at.result c.ids_at.ensures.ids (λ ids are held st.
     ids_touched g.I.Key.Ord.cmp g.met.I.Key.Ord.total g.met.I.RowIndex.exact g.I.RowIndex.users g.I.RowIndex.number_at g.I.RowIndex.stands (g.I.RowIndex.filter self.index) g.I.RowIndex.row_at g.I.RowIndex.marks_at held self.index self.by_number self.by_id
     (g.met.I.RowIndex.current self.index held) st c.args.change.now.marks (g.I.RowIndex.met_keys c.on_change.new.self) c.in_ok-on_change.ensures.keys numbers ids
-    (c.in_ok-on_change.ensures.met held st.rows) (λ n. are n ∙ ap (list_any (λ m. row_at nat_cmp self.by_number m n)) c.met.ensures))
+    (c.in_ok-on_change.ensures.met held st.rows) (λ n. are n ∙ ap (list_any (λ m. id_in self.by_number m n)) c.met.ensures))
 
 pub returns-clause-stands : goal.returns-clause-stands
 returns-clause-stands g c =
     let self = c.args.self.now in
-    on_any c.rows_at.result (λ held st leads.
+    on_any c.ids_at.result (λ held st leads.
     followed_stand g.I.Key.Ord.cmp g.met.I.Key.Ord.total g.met.I.RowIndex.exact g.I.RowIndex.users g.I.RowIndex.number_at g.I.RowIndex.stands held c.args.store.now.objects self.index c.on_change.new.self self.by_number self.by_id
     c.in_ok-on_change.ensures.users (c.in_ok-on_change.ensures.numbers held st.rows) (c.in_ok-on_change.ensures.stands held st.rows leads) st)
 
 pub returns-clause-steps : goal.returns-clause-steps
 returns-clause-steps g c =
     let self = c.args.self.now in
-    on_any c.rows_at.result (λ held st.
+    on_any c.ids_at.result (λ held st.
     met_cost g.I.Key.Ord.cmp g.met.I.Key.Ord.total g.met.I.RowIndex.exact g.I.RowIndex.users (g.I.RowIndex.filter self.index) g.I.RowIndex.row_at g.I.RowIndex.marks_at held c.args.store.now.objects c.args.change.now.marks self.index
     (g.met.I.RowIndex.current self.index held st.rows) (is_open (g.I.RowIndex.number_at self.index) self.by_number) st.one_user (g.I.RowIndex.met_keys c.on_change.new.self) c.in_ok-on_change.ensures.keys c.args.steps.now c.on_change.new.steps c.in_ok-on_change.ensures.steps)
 
@@ -38,7 +36,7 @@ returns-clause-differ g c =
     let cmp = g.I.Key.Ord.cmp in
     let total = g.met.I.Key.Ord.total in
     let exact = g.met.I.RowIndex.exact in
-    on_any c.rows_at.result (λ held st leads id.
+    on_any c.ids_at.result (λ held st leads id.
     let now = followed_stand cmp total exact g.I.RowIndex.users g.I.RowIndex.number_at g.I.RowIndex.stands held after self.index next self.by_number self.by_id c.in_ok-on_change.ensures.users (c.in_ok-on_change.ensures.numbers held st.rows) (c.in_ok-on_change.ensures.stands held st.rows leads) st in
     same_row cmp (g.I.RowIndex.filter self.index) held after (g.I.RowIndex.differing next) (g.I.RowIndex.row_at self.index) (g.I.RowIndex.row_at next) (key_at self.by_id id) c.in_ok-on_change.ensures.differ.others
     (row_is cmp total exact g.I.RowIndex.users g.I.RowIndex.number_at g.I.RowIndex.stands (g.I.RowIndex.filter self.index) g.I.RowIndex.row_at g.I.RowIndex.marks_at held self.index self.by_number self.by_id (g.met.I.RowIndex.current self.index held) st id)
