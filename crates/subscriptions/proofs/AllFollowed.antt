@@ -1,5 +1,5 @@
 -- What an event leads to, once those are due whose views or streams it touches.
-use Rattle.std.proofs.Common.{◌≡◌, ◌&&◌, ◌||◌, ℕ, Bool, true, false, List, Option, Some, None, refl, sym, ap, ◌∙◌, subst}
+use Rattle.std.proofs.Common.{◌≡◌, ◌||◌, ℕ, Bool, true, false, List, Option, Some, None, refl, sym, ap, ◌∙◌, subst}
 use Rattle.std.specs.Prelude.{flat_map, option_and_then, option_map}
 use Rattle.std.specs.Option.{is_some}
 use Rattle.std.proofs.Math.Bool.{or-false, or_self}
@@ -27,7 +27,7 @@ use Rattle.feed_history.specs.Due.{is_touched, marks_of_event}
 use Rattle.feed_history.specs.Events.{objects_after}
 use Rattle.subscriptions.specs.DueIds.{is_among}
 use Rattle.subscriptions.specs.Live.{Covers, LiveSubscription, endpoint_key, kept_at, key_at, query_at, sub_at}
-use Rattle.subscriptions.specs.Standing.{AreStreamed, IsAfter, MakesDue, Stands}
+use Rattle.subscriptions.specs.Standing.{AreLive, AreStreamed, IsAfter, MakesDue, Stands}
 use Rattle.subscriptions.specs.declared.roster.Roster.{Roster}
 use Rattle.subscriptions.proofs.AllKept.{kept_where}
 
@@ -63,10 +63,27 @@ module _ (kept_query : Query → Option Query) (covers : Covers kept_query) (sam
       by None (Some key) is asks = as_streamed key asks
       by None None is other = absurd (cc (sym (ap is_some is) ∙ kept_where kept_query covers q other))
 
-  told_in : (found : Option LiveSubscription) → (is_some found && (reads_one config before changed (option_and_then kept_query (query_in found)) || is_met before changed (option_and_then endpoint_key (query_in found))))
+  told_in : (found : Option LiveSubscription) → (reads_one config before changed (option_and_then kept_query (query_in found)) || is_met before changed (option_and_then endpoint_key (query_in found)))
       ≡ reads_one config before changed (query_in found)
   told_in None = refl
   told_in (Some sub) = told sub.query
+
+-- ---- those that are told are live
+
+module _ (config : Config) (before : ObjectMap) (changed : List Mark) (old : Roster) (ids : List ℕ) where
+  pub viewed_live : (kept_query : Query → Option Query) → ((n : ℕ) → has_row n ids ≡ reads_one config before changed (kept_at kept_query n old.subs)) → AreLive ids old
+  viewed_live kept_query read n has = by (sub_at n old.subs) (sym (read n) ∙ has)
+    where
+      by : (found : Option LiveSubscription) → reads_one config before changed (option_and_then kept_query (query_in found)) ≡ true → is_some found ≡ true
+      by None reads = reads
+      by (Some sub) reads = refl
+
+  pub streamed_live : ((n : ℕ) → has_row n ids ≡ is_met before changed (key_at n old.subs)) → AreLive ids old
+  streamed_live touched n has = by (sub_at n old.subs) (sym (touched n) ∙ has)
+    where
+      by : (found : Option LiveSubscription) → is_met before changed (option_and_then endpoint_key (query_in found)) ≡ true → is_some found ≡ true
+      by None meets = meets
+      by (Some sub) meets = refl
 
 -- ---- what stands after an event
 
@@ -96,7 +113,7 @@ module _ (stay : EndpointsStay) (untouched : UntouchedQueriesStay) (kept_query :
   all_due n =
       made.each n
       ∙ ap (λ (b : Bool). b || is_among n old.due)
-      (ap (λ (b : Bool). is_some (sub_at n old.subs) && b) (by_reads n) ∙ told_in kept_query covers same config before changed (sub_at n old.subs) ∙ as_touched (query_at n old.subs))
+      (by_reads n ∙ told_in kept_query covers same config before changed (sub_at n old.subs) ∙ as_touched (query_at n old.subs))
 
   -- what is shown to those that aren't
   calm : (n : ℕ) (sub : LiveSubscription) → sub_at n old.subs ≡ Some sub → is_among n new.due ≡ false → (is_touched config before event (Some sub.query) || is_among n old.due) ≡ false

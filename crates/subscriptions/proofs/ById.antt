@@ -1,5 +1,5 @@
 -- What stands under an id, in the entries of a map by ids.
-use Rattle.std.proofs.Common.{◌≡◌, ◌<◌, ℕ, Bool, true, false, cond, eqb, nat_eq, List, [], ◌∷◌, ◌++◌, map, Option, Some, refl, sym, ap, ◌∙◌, arith, inl, inr, eqb-true, eq-eqb}
+use Rattle.std.proofs.Common.{◌≡◌, ◌<◌, ◌^◌, ℕ, Bool, true, false, cond, eqb, nat_eq, List, [], ◌∷◌, ◌++◌, map, Option, Some, refl, sym, ap, subst, ◌∙◌, arith, inl, inr, eqb-true, eq-eqb}
 use Rattle.std.specs.BTreeMap.{insert_entry}
 use Rattle.std.specs.Cmp.{nat_cmp_is, unsigned_tied}
 use Rattle.std.specs.List.{AllByRecursion}
@@ -26,11 +26,15 @@ above id k lt = sym (nat_cmp_is id k Greater lt)
 
 module _ {S : Type 0} (id_of : S → ℕ) where
   abbrev pub ByIds : List (ℕ × S) → Type 0
-  ByIds entries = AllByRecursion (λ entry. id_of entry.1 ≡ entry.0) entries
+  ByIds entries = AllByRecursion (λ entry. (id_of entry.1 ≡ entry.0) × (entry.0 < 2 ^ 32)) entries
 
   pub ids_are_keys : (entries : List (ℕ × S)) → ByIds entries → keys_of entries ≡ map id_of (values_of entries)
   ids_are_keys [] by = refl
-  ids_are_keys (e ∷ es) by = (λ i. sym by.0 i ∷ ids_are_keys es by.1 i)
+  ids_are_keys (e ∷ es) by = (λ i. sym by.0.0 i ∷ ids_are_keys es by.1 i)
+
+  pub all_in_range : (entries : List (ℕ × S)) → ByIds entries → AllByRecursion (λ s. id_of s < 2 ^ 32) (values_of entries)
+  all_in_range [] by = tt
+  all_in_range (e ∷ es) by = (subst (λ n. n < 2 ^ 32) (sym by.0.0) by.0.1, all_in_range es by.1)
 
   module _ (id : ℕ) where
     abbrev test : ℕ → Bool
@@ -42,11 +46,11 @@ module _ {S : Type 0} (id_of : S → ℕ) where
 
     pub found : (entries : List (ℕ × S)) → ByIds entries → lookup test entries ≡ at_id id_of id (values_of entries)
     found [] by = refl
-    found (e ∷ es) by = ap (λ b. cond b (Some e.1) (lookup test es)) (tied e.0 e.1 by.0) ∙ ap (λ rest. cond (eqb (id_of e.1) id) (Some e.1) rest) (found es by.1)
+    found (e ∷ es) by = ap (λ b. cond b (Some e.1) (lookup test es)) (tied e.0 e.1 by.0.0) ∙ ap (λ rest. cond (eqb (id_of e.1) id) (Some e.1) rest) (found es by.1)
 
     pub removed : (entries : List (ℕ × S)) → ByIds entries → values_of (remove_entry test entries) ≡ in_place id_of id ended (values_of entries)
     removed [] by = refl
-    removed (e ∷ es) by = by_test (removed es by.1) (test e.0) (tied e.0 e.1 by.0)
+    removed (e ∷ es) by = by_test (removed es by.1) (test e.0) (tied e.0 e.1 by.0.0)
       where
         by_test : values_of (remove_entry test es) ≡ in_place id_of id ended (values_of es) → (b : Bool) → b ≡ eqb (id_of e.1) id → values_of (cond b es (e ∷ remove_entry test es)) ≡ cond (eqb (id_of e.1) id) (values_of es) (e.1 ∷ in_place id_of id ended (values_of es))
         by_test rest true is = rw (← is) refl
@@ -63,7 +67,7 @@ module _ {S : Type 0} (id_of : S → ℕ) where
     pub replaced : (entries : List (ℕ × S)) (f : S → S) (new : S) → ByIds entries → ((s : S) → lookup test entries ≡ Some s → f s ≡ new)
         → values_of (set_value test entries new) ≡ in_place id_of id (λ s. f s ∷ []) (values_of entries)
     replaced [] f new by is = refl
-    replaced (e ∷ es) f new by is = by_test (λ same. replaced es f new by.1 same) (test e.0) refl (tied e.0 e.1 by.0)
+    replaced (e ∷ es) f new by is = by_test (λ same. replaced es f new by.1 same) (test e.0) refl (tied e.0 e.1 by.0.0)
       where
         by_test : (((s : S) → lookup test es ≡ Some s → f s ≡ new) → values_of (set_value test es new) ≡ in_place id_of id (λ s. f s ∷ []) (values_of es)) → (b : Bool) → test e.0 ≡ b → b ≡ eqb (id_of e.1) id
             → values_of (cond b ((e.0, new) ∷ es) (e ∷ set_value test es new)) ≡ cond (eqb (id_of e.1) id) (f e.1 ∷ values_of es) (e.1 ∷ in_place id_of id (λ s. f s ∷ []) (values_of es))
@@ -75,19 +79,19 @@ module _ {S : Type 0} (id_of : S → ℕ) where
     replaced_by (e ∷ es) new by is = by_test (replaced_by es new by.1 is) (test e.0) refl
       where
         by_test : ByIds (set_value test es new) → (b : Bool) → test e.0 ≡ b → ByIds (cond b ((e.0, new) ∷ es) (e ∷ set_value test es new))
-        by_test rest true here = (is ∙ tied_ids id e.0 (sym (unsigned_tied id e.0) ∙ here), by.1)
+        by_test rest true here = ((is ∙ tied_ids id e.0 (sym (unsigned_tied id e.0) ∙ here), by.0.1), by.1)
         by_test rest false here = (by.0, rest)
 
   -- one above all others stands behind them
   pub behind : (entries : List (ℕ × S)) (id : ℕ) (s : S) → ByIds entries → AllByRecursion (λ other. id_of other < id) (values_of entries) → insert_entry nat_cmp entries id s ≡ entries ++ (id, s) ∷ []
   behind [] id s by below = refl
   behind (e ∷ es) id s by below =
-      ap (λ r. match_ordering r ((id, s) ∷ e ∷ es) ((e.0, s) ∷ es) (e ∷ insert_entry nat_cmp es id s)) (above id e.0 (omega (arith, below.0, by.0)))
+      ap (λ r. match_ordering r ((id, s) ∷ e ∷ es) ((e.0, s) ∷ es) (e ∷ insert_entry nat_cmp es id s)) (above id e.0 (omega (arith, below.0, by.0.0)))
       ∙ ap (λ rest. e ∷ rest) (behind es id s by.1 below.1)
 
-  pub behind_by : (entries : List (ℕ × S)) (id : ℕ) (s : S) → ByIds entries → id_of s ≡ id → ByIds (entries ++ (id, s) ∷ [])
-  behind_by [] id s by is = (is, tt)
-  behind_by (e ∷ es) id s by is = (by.0, behind_by es id s by.1 is)
+  pub behind_by : (entries : List (ℕ × S)) (id : ℕ) (s : S) → ByIds entries → id_of s ≡ id → id < 2 ^ 32 → ByIds (entries ++ (id, s) ∷ [])
+  behind_by [] id s by is fits = ((is, fits), tt)
+  behind_by (e ∷ es) id s by is fits = (by.0, behind_by es id s by.1 is fits)
 
   pub values_behind : (entries : List (ℕ × S)) (id : ℕ) (s : S) → values_of (entries ++ (id, s) ∷ []) ≡ values_of entries ++ s ∷ []
   values_behind [] id s = refl

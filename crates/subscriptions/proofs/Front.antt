@@ -1,8 +1,8 @@
 -- A list that begins at a place of a longer one.
-use Rattle.std.proofs.Common.{◌≡◌, ◌+◌, ◌<◌, ◌≤◌, ℕ, suc, zero, List, [], ◌∷◌, ◌++◌, take, drop, length, sym, ap, ◌∙◌, arith, append_assoc}
-use Rattle.std.proofs.lemmas.List.{drop-drop, drop_at, length-drop, length-take-le, take-append-le, take_all}
-use Rattle.std.proofs.Math.Seq.{paste}
-use Rattle.std.specs.List.{insert, remove}
+use Rattle.std.proofs.Common.{◌≡◌, ◌+◌, ◌-◌, ◌<◌, ◌≤◌, ℕ, suc, zero, List, [], ◌∷◌, ◌++◌, take, drop, length, sym, ap, ◌∙◌, arith, append_assoc}
+use Rattle.std.proofs.lemmas.List.{drop_at, length-append, length-drop, length-take-le, take-append-le, take-take, take_all}
+use Rattle.std.specs.List.{insert, remove, slice_rotate_right}
+use borrow.Rule.Slice.PartMut.{mid_of, put_mid}
 
 module _ {X : Type 0} where
   pub insert_behind : (n i : ℕ) (x : X) (xs : List X) → n ≤ length xs → drop n (insert xs (n + i) x) ≡ insert (drop n xs) i x
@@ -36,16 +36,21 @@ module _ {X : Type 0} where
       let rest = remove_longer n i ys less in
       rw on (omega (arith, rest))
 
-  -- the items before a place are moved up by one, onto it
-  pub moved_up : (n i : ℕ) (xs : List X) → i < length (drop n xs) → drop (n + 1) (paste xs (n + 1) (drop n xs) i) ≡ remove (drop n xs) i
-  moved_up n i xs within =
-      let dropped = length-drop n xs in
-      let fits : n + 1 ≤ length xs = omega (arith, within, dropped) in
-      let on : n + 1 + i ≡ n + suc i = omega arith in
-      ap (drop (n + 1)) (append_assoc (take (n + 1) xs) (take i (drop n xs)) (drop (n + 1 + i) xs))
-      ∙ drop_at (take (n + 1) xs) (take i (drop n xs) ++ drop (n + 1 + i) xs) (n + 1) (length-take-le (n + 1) xs fits)
-      ∙ ap (λ k. take i (drop n xs) ++ drop k xs) on
-      ∙ ap (λ rest. take i (drop n xs) ++ rest) (sym (drop-drop (suc i) n xs))
+  -- the item at a place is moved to the front, and the items before it up by one
+  pub moved_up : (n i k : ℕ) (xs : List X) → k ≡ suc i → i < length (drop n xs) → drop (n + 1) (put_mid n k xs (slice_rotate_right (mid_of n k xs) 1)) ≡ remove (drop n xs) i
+  moved_up n i k xs one within =
+      let front = take n xs in
+      let part = take k (drop n xs) in
+      let last = length part - 1 in
+      let long = length-take-le k (drop n xs) (omega (arith, one, within)) in
+      let fits = length-take-le n xs (omega (arith, within, length-drop n xs)) in
+      let ahead : length (front ++ drop last part) ≡ n + 1 = omega (arith, one, long, fits, length-append front (drop last part), length-drop last part) in
+      ap (λ ys. drop (n + 1) (front ++ ys)) (append_assoc (drop last part) (take last part) (drop k (drop n xs)))
+      ∙ ap (drop (n + 1)) (sym (append_assoc front (drop last part) (take last part ++ drop k (drop n xs))))
+      ∙ drop_at (front ++ drop last part) (take last part ++ drop k (drop n xs)) (n + 1) ahead
+      ∙ ap (λ ys. ys ++ drop k (drop n xs)) (take-take last k (drop n xs) (omega (arith, long)))
+      ∙ ap (λ m. take m (drop n xs) ++ drop k (drop n xs)) (omega (arith, long, one))
+      ∙ ap (λ m. take i (drop n xs) ++ drop m (drop n xs)) one
 
   -- the first items go behind the others, and away
   pub rotated : (n left : ℕ) (xs : List X) → n + left ≡ length xs → take left (drop n xs ++ take n xs) ≡ drop n xs

@@ -18,7 +18,7 @@ use Rattle.subscriptions.proofs.ById.{found, puts, replaced, replaced_by, tied_i
 has_id : (id : ℕ) (entries : List (ℕ × LiveSubscription)) (sub : LiveSubscription) → AreByIds entries → lookup (λ k. is_eq (nat_cmp id k)) entries ≡ Some sub → id_of sub ≡ id
 has_id id [] sub by is = absurd (cc is)
 has_id id (e ∷ es) sub by is = elim (is_eq (nat_cmp id e.0)) as (λ b. is_eq (nat_cmp id e.0) ≡ b → cond b (Some e.1) (lookup (λ k. is_eq (nat_cmp id k)) es) ≡ Some sub → id_of sub ≡ id) [
-  | true ↦ λ here same. let it : e.1 ≡ sub = cc same in ap id_of (sym it) ∙ by.0 ∙ sym (tied_ids id e.0 (sym (unsigned_tied id e.0) ∙ here))
+  | true ↦ λ here same. let it : e.1 ≡ sub = cc same in ap id_of (sym it) ∙ by.0.0 ∙ sym (tied_ids id e.0 (sym (unsigned_tied id e.0) ∙ here))
   | false ↦ λ here rest. has_id id es sub by.1 rest
 ] refl is
 

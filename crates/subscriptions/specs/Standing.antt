@@ -1,5 +1,5 @@
 -- The state of the live subscriptions over the objects held, which of them are due, and how an event changes this.
-use Rattle.std.specs.Prelude.{◌≡◌, ◌&&◌, ◌||◌, ℕ, Bool, true, false, List, Option, Some, None, is_some}
+use Rattle.std.specs.Prelude.{◌≡◌, ◌||◌, ℕ, Bool, true, false, List, Option, Some, None, is_some}
 use Rattle.mesh_base.specs.declared.limits.Limits.{Limits}
 use Rattle.mesh_base.specs.declared.sub_id.SubId.{SubId}
 use Rattle.view_types.specs.Objects.{ObjectMap}
@@ -10,6 +10,7 @@ use Rattle.view_types.specs.declared.query.Query.{Query}
 use Rattle.view_types.specs.declared.view.View.{View}
 use Rattle.view_rules.specs.PolicyLaws.{AreLawful}
 use Rattle.view_rules.specs.Views.{view_of}
+use Rattle.mark_graph.specs.RowMarks.{has_row}
 use Rattle.mark_rules.specs.Changes.{Leads}
 use Rattle.mark_rules.specs.Rows.{endpoint_row}
 use Rattle.mark_rules.specs.declared.keys.EndpointKey.{EndpointKey}
@@ -47,13 +48,13 @@ IsShownNow config held view sub = (found : LiveSubscription) → sub ≡ Some fo
 
 -- ---- changes
 
--- the id is live and passes the test
-abbrev pub is_one : (ℕ → Bool) → Roster → ℕ → Bool
-is_one test all id = is_some (sub_at id all.subs) && test id
+-- each of the ids is live
+abbrev pub AreLive : List ℕ → Roster → Type 0
+AreLive ids all = (id : ℕ) → has_row id ids ≡ true → is_some (sub_at id all.subs) ≡ true
 
--- The live ids that pass the test become due; the others stay as they were.
+-- The ids that pass the test become due; the others stay as they were.
 pub record MakesDue (test : ℕ → Bool) (old new : Roster) : Type 0 where
-  pub each : (id : ℕ) → is_among id new.due ≡ (is_one test old id || is_among id old.due)
+  pub each : (id : ℕ) → is_among id new.due ≡ (test id || is_among id old.due)
 
 -- a lawful event changed the objects `before` to these, and these are its marks
 pub record IsAfter (before held : ObjectMap) (marks : List Mark) (event : Event) : Type 0 where

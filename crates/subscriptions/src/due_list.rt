@@ -116,7 +116,7 @@ impl DueList {
         ensures { self.new ≡ remove self.old at }
     {
         let start = self.start + 1;
-        self.ids.copy_within(self.start..self.start + at, start);
+        self.ids[self.start..start + at].rotate_right(1);
         let left = self.ids.len() - start;
         if left < start {
             self.ids.rotate_left(start);

@@ -1,5 +1,5 @@
 // The live subscriptions by their ids.
-ghost use Rattle.std.specs.Prelude.{◌≡◌, ◌++◌, ◌∷◌, [], None, Some, OnOk, OnErr, is_some, length, option_map};
+ghost use Rattle.std.specs.Prelude.{◌≡◌, ◌<◌, ◌^◌, ◌++◌, ◌∷◌, [], None, Some, OnOk, OnErr, is_some, length, option_map};
 ghost use Rattle.std.specs.Option.{option_copied};
 ghost use Rattle.view_rules.specs.Fold.{IsOrderlyIfShown};
 ghost use Rattle.feed_history.specs.Ids.{ended, in_place};
@@ -51,6 +51,14 @@ impl Subscription {
             query,
             shown: None,
         }
+    }
+
+    // Returns the number of the id, which is below 2 ^ 32.
+    fn number(&self) -> u64
+        ensures value { result ≡ id_of self.now }
+        ensures range { result < 2 ^ 32 }
+    {
+        self.id.0 as u64
     }
 
     /// Returns the view that the subscriber was last shown.
@@ -120,6 +128,13 @@ impl Subscriptions {
         let _len = self.by_id.len();
     }
 
+    /// States that the ids are below 2 ^ 32.
+    pub fn stand_in_range(&self)
+        ensures { AreBelow (2 ^ 32) self.now }
+    {
+        let _len = self.by_id.len();
+    }
+
     /// Returns the subscription under the id.
     pub fn get(&self, id: u64) -> Option<&Subscription>
         ensures { option_copied result ≡ sub_at id self.now }
@@ -134,7 +149,7 @@ impl Subscriptions {
         ensures at { OnOk result (PutsAt (id_of sub) (Some sub) self.old self.new) }
         ensures err { OnErr result (self.new ≡ self.old) }
     {
-        self.by_id.insert(sub.id.0 as u64, sub)?;
+        self.by_id.insert(sub.number(), sub)?;
         Ok(())
     }
 

@@ -1,5 +1,5 @@
 // The live subscriptions, and which of them are due.
-ghost use Rattle.std.specs.Prelude.{◌≡◌, ◌&&◌, ◌||◌, ◌++◌, ◌∷◌, [], ℕ, nat_eq, not, true, None, OnErr, OnOk, is_some, length, Some, option_map};
+ghost use Rattle.std.specs.Prelude.{◌≡◌, ◌<◌, ◌^◌, ◌&&◌, ◌||◌, ◌++◌, ◌∷◌, [], ℕ, nat_eq, not, true, None, OnErr, OnOk, is_some, length, Some, option_map};
 ghost use Rattle.std.specs.Option.{option_copied};
 ghost use Rattle.view_types.specs.Objects.{ObjectMap};
 ghost use Rattle.view_types.specs.declared.config.Config.{Config};
@@ -8,7 +8,7 @@ ghost use Rattle.feed_history.specs.Ids.{ended, in_place};
 ghost use Rattle.mark_graph.specs.RowMarks.{has_row};
 ghost use Rattle.subscriptions.specs.DueIds.{Rises, is_among};
 ghost use Rattle.subscriptions.specs.Live.{AreBelow, IdsRise, PutsAt, id_of, key_at, showing, shown_in_place, sub_at};
-ghost use Rattle.subscriptions.specs.Standing.{IsShownNow, MakesDue, Stands, new_sub};
+ghost use Rattle.subscriptions.specs.Standing.{AreLive, IsShownNow, MakesDue, Stands, new_sub};
 
 use crate::boxed_view::BoxedView;
 use crate::due_list::DueList;
@@ -133,12 +133,14 @@ impl Roster {
         self.due.take(id);
     }
 
-    /// Makes those of these ids due that are live. While they ascend, each is looked for first
-    /// beside the one before it.
+    /// Makes these ids due. They must be live; otherwise it is not known which ids are due. While
+    /// they ascend, each is looked for first beside the one before it.
     pub fn make_due(&mut self, ids: &[u64]) -> Result<(), Memory>
         ensures subs { self.new.subs ≡ self.old.subs }
-        ensures due { OnOk result (MakesDue (λ id. has_row id ids.now) self.old self.new) }
+        ensures due { OnOk result (AreLive ids.now self.old
+            → MakesDue (λ id. has_row id ids.now) self.old self.new) }
     {
+        self.subs.stand_in_range();
         let mut near = 0;
         for id in ids {
             near = self.make_one_due(*id, near)?;
@@ -146,16 +148,15 @@ impl Roster {
         Ok(())
     }
 
-    // Makes the id due, if it is live. The index `near` of the list is tried first. Returns the
-    // index for the next id.
+    // Makes the id due, unless it is out of the range of ids. The index `near` of the list is tried
+    // first. Returns the index for the next id.
     fn make_one_due(&mut self, id: u64, near: usize) -> Result<usize, Memory>
         ensures subs { self.new.subs ≡ self.old.subs }
-        ensures due { OnOk result (MakesDue (λ n. nat_eq n id) self.old self.new) }
+        ensures due { OnOk result (id < 2 ^ 32 → MakesDue (λ n. nat_eq n id) self.old self.new) }
     {
-        let Some(sub) = self.subs.get(id) else {
+        let Ok(number) = u32::try_from(id) else {
             return Ok(near);
         };
-        let due = sub.id;
-        Ok(self.due.put_near(due, near)?)
+        Ok(self.due.put_near(SubId(number), near)?)
     }
 }
