@@ -27,6 +27,7 @@ use Rattle.row_views.specs.Ids.{key_at}
 use Rattle.row_views.specs.InUse.{AreInUse, IsInUse}
 use Rattle.row_views.specs.Queries.{rows_at}
 use Rattle.row_views.specs.Standing as views
+use Rattle.row_views.specs.declared.numbered_ids.NumberedIds.{NumberedIds}
 use Rattle.row_views.proofs.InUse.{none_there}
 use Rattle.row_views.proofs.InUse as one_key
 use Rattle.row_sets.specs.Standing as sets
@@ -96,7 +97,7 @@ module _ (config : Config) (held : ObjectMap) (port : ServerKey) where
 -- ---- the rows that have users
 
 module _ {Servers Routes Authz : Type 0} {server_users : Servers → ServerKey → ℕ} {route_users : Routes → RouteKey → ℕ} {authz_users : Authz → ObjKey → ℕ} {server_numbers : Servers → ServerKey → Option ℕ} {server_stand : Servers → ObjectMap → Type 0} {route_stand : Routes → ObjectMap → Type 0} {authz_stand : Authz → ObjectMap → Type 0}
-    {held : ObjectMap} {servers : Servers} {routes : Routes} {authz : Authz} {of_servers : BTreeMap ℕ (BTreeSet ℕ)} {of_routes : BTreeMap RouteKey (BTreeSet ℕ)} {of_authz : BTreeMap ObjKey (BTreeSet ℕ)} {ports : BTreeMap ℕ ServerKey} {routes_at : BTreeMap ℕ (List RouteKey)} {authz_at : BTreeMap ℕ (List ObjKey)}
+    {held : ObjectMap} {servers : Servers} {routes : Routes} {authz : Authz} {of_servers : NumberedIds} {of_routes : BTreeMap RouteKey (BTreeSet ℕ)} {of_authz : BTreeMap ObjKey (BTreeSet ℕ)} {ports : BTreeMap ℕ ServerKey} {routes_at : BTreeMap ℕ (List RouteKey)} {authz_at : BTreeMap ℕ (List ObjKey)}
     (config : Config) (servers_stand : views.Standing server_order.TheImpl.cmp-value.it server_users server_numbers server_stand held servers of_servers ports)
     (routes_stand : sets.Standing route_order.TheImpl.cmp-value.it route_users route_stand held routes of_routes routes_at)
     (authz_stands : sets.Standing key_order.TheImpl.cmp-value.it authz_users authz_stand held authz of_authz authz_at)

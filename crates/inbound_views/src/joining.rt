@@ -4,8 +4,7 @@ ghost use Rattle.std.specs.Option.{option_copied};
 ghost use Rattle.view_types.specs.Objects.{ObjectMap};
 ghost use Rattle.view_types.specs.declared.config.Config.{Config};
 ghost use Rattle.view_types.specs.declared.server_view.ServerView.TheVariants.{Present};
-ghost use Rattle.mark_rules.specs.Reads.{authz_reads, cost};
-ghost use Rattle.mark_rules.specs.Rows.{authz_behind, join_inbound, key_of_row, keys_behind, name_in, routes_behind, row_joined, server_part, with_authz};
+ghost use Rattle.mark_rules.specs.Rows.{authz_behind, join_inbound, name_in, routes_behind, row_joined, server_part, with_authz};
 ghost use Rattle.row_views.specs.Costs.{cost_of};
 ghost use Rattle.row_views.specs.Ids.{key_at};
 ghost use Rattle.inbound_views.specs.BarePorts.{bare_behind, join_bare};
@@ -39,8 +38,7 @@ impl InboundViews {
         match self.servers.row(id) {
             Some(part) => {
                 let part = copied_part(self.alloc, part)?;
-                let mut none = Steps::<()>::new();
-                joined_port(self, self.alloc, &key.ns, part, &mut none)
+                joined_port(self, self.alloc, &key.ns, part)
             }
             None => Ok(ServerView::Absent),
         }
@@ -48,27 +46,25 @@ impl InboundViews {
 }
 
 /// Returns the view of a port in a namespace with this server part.
-pub(crate) fn joined_port<S: RowSource, L>(
+pub(crate) fn joined_port<S: RowSource>(
     source: &S,
     alloc: Global,
     ns: &Text,
     part: Option<ServerPart>,
-    steps: &mut Steps<L>,
 ) -> Result<ServerView, Memory>
-    ensures view { IfOk result (λ view. (config : Config) (held : ObjectMap)
+    ensures { IfOk result (λ view. (config : Config) (held : ObjectMap)
         → S.stand source.now config held
         → view ≡ join_inbound (S.routes_at source.now held) (S.authz_at source.now config held)
         ns.now part) }
-    ensures steps { (config : Config) (held : ObjectMap) → S.stand source.now config held
-        → steps.new ≤ steps.old + cost_of config held
-        (keys_behind (S.routes_at source.now held) ns.now (name_in part)) }
 {
-    match part {
-        Some(part) => {
-            let row = joined_row(source, alloc, ns, part, steps)?;
+    let mut none = Steps::<()>::new();
+    match bare_port(source, alloc, ns, part, &mut none)? {
+        ServerView::Present(row) => {
+            let mut row = row;
+            row.routes = joined_routes(source, alloc, ns, row.routes)?;
             Ok(ServerView::Present(row))
         }
-        None => Ok(ServerView::Absent),
+        ServerView::Absent => Ok(ServerView::Absent),
     }
 }
 
@@ -98,6 +94,7 @@ pub(crate) fn bare_port<S: RowSource, L>(
 }
 
 // Returns the row of a port with this server part. Its routes are without their authorizations.
+#[tactic(auto, using(crate::proofs::Bare::bare_parts))]
 fn bare_row<S: RowSource, L>(
     source: &S,
     alloc: Global,
@@ -114,27 +111,6 @@ fn bare_row<S: RowSource, L>(
     let server = part.2.as_ref();
     let authz = server_authz(source, alloc, ns, server, steps)?;
     let routes = bare_routes(source, alloc, ns, server, steps)?;
-    Ok(row_of_part(alloc, part, authz, routes))
-}
-
-// Returns the row of a port with this server part.
-fn joined_row<S: RowSource, L>(
-    source: &S,
-    alloc: Global,
-    ns: &Text,
-    part: ServerPart,
-    steps: &mut Steps<L>,
-) -> Result<ServerRow, Memory>
-    ensures row { IfOk result (λ row. (config : Config) (held : ObjectMap)
-        → S.stand source.now config held → Present row ≡ join_inbound
-        (S.routes_at source.now held) (S.authz_at source.now config held) ns.now (Some part)) }
-    ensures steps { (config : Config) (held : ObjectMap) → S.stand source.now config held
-        → steps.new ≤ steps.old
-        + cost_of config held (keys_behind (S.routes_at source.now held) ns.now part.2) }
-{
-    let server = part.2.as_ref();
-    let authz = server_authz(source, alloc, ns, server, steps)?;
-    let routes = server_routes(source, alloc, ns, server, steps)?;
     Ok(row_of_part(alloc, part, authz, routes))
 }
 
@@ -180,29 +156,8 @@ fn server_authz<S: RowSource, L>(
     }
 }
 
-// Returns the routes of a Server, if there is one, each with its authorizations.
-fn server_routes<S: RowSource, L>(
-    source: &S,
-    alloc: Global,
-    ns: &Text,
-    server: Option<&Text>,
-    steps: &mut Steps<L>,
-) -> Result<List<RouteRow>, Memory>
-    ensures rows { IfOk result (λ rows. (config : Config) (held : ObjectMap)
-        → S.stand source.now config held
-        → rows ≡ map (with_authz (S.authz_at source.now config held) ns.now)
-        (routes_behind (S.routes_at source.now held) ns.now (option_copied server.entry))) }
-    ensures steps { (config : Config) (held : ObjectMap) → S.stand source.now config held
-        → steps.new ≤ steps.old
-        + (cost_of_routes held (listed ns.now (option_copied server.entry))
-        + cost_of_authz held (map (key_of_row ns.now) (routes_behind
-        (S.routes_at source.now held) ns.now (option_copied server.entry)))) }
-{
-    let routes = bare_routes(source, alloc, ns, server, steps)?;
-    joined_routes(source, alloc, ns, routes, steps)
-}
-
 // Returns the routes of a Server, if there is one, without their authorizations.
+#[tactic(auto, using(crate::proofs::Costs::one_route))]
 fn bare_routes<S: RowSource, L>(
     source: &S,
     alloc: Global,
@@ -223,42 +178,34 @@ fn bare_routes<S: RowSource, L>(
     }
 }
 
-fn joined_routes<S: RowSource, L>(
+// Adds the authorizations of each of these routes.
+fn joined_routes<S: RowSource>(
     source: &S,
     alloc: Global,
     ns: &Text,
     routes: List<RouteRow>,
-    steps: &mut Steps<L>,
 ) -> Result<List<RouteRow>, Memory>
-    ensures rows { IfOk result (λ rows. (config : Config) (held : ObjectMap)
+    ensures { IfOk result (λ rows. (config : Config) (held : ObjectMap)
         → S.stand source.now config held
         → rows ≡ map (with_authz (S.authz_at source.now config held) ns.now) routes) }
-    ensures steps { (config : Config) (held : ObjectMap) → S.stand source.now config held
-        → steps.new ≤ steps.old + cost_of_authz held (map (key_of_row ns.now) routes) }
 {
     let mut rows = List::new(alloc);
     for route in routes.into_vec() {
-        rows.add(joined_route(source, ns, route, steps)?)?;
+        rows.add(joined_route(source, ns, route)?)?;
     }
     Ok(rows)
 }
 
-// Returns a route with its authorizations.
-fn joined_route<S: RowSource, L>(
-    source: &S,
-    ns: &Text,
-    route: RouteRow,
-    steps: &mut Steps<L>,
-) -> Result<RouteRow, Memory>
-    ensures row { IfOk result (λ row. (config : Config) (held : ObjectMap)
+// Adds the authorizations of a route.
+fn joined_route<S: RowSource>(source: &S, ns: &Text, route: RouteRow) -> Result<RouteRow, Memory>
+    ensures { IfOk result (λ row. (config : Config) (held : ObjectMap)
         → S.stand source.now config held
         → row ≡ with_authz (S.authz_at source.now config held) ns.now route) }
-    ensures steps { (config : Config) (held : ObjectMap) → S.stand source.now config held
-        → steps.new ≤ steps.old + cost held (authz_reads held (key_of_row ns.now route)) }
 {
     let mut route = route;
+    let mut none = Steps::<()>::new();
     let key = key_of_row(ns, &route)?;
-    route.authz = source.authz(&key, steps)?;
+    route.authz = source.authz(&key, &mut none)?;
     Ok(route)
 }
 

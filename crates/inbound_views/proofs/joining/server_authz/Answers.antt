@@ -1,22 +1,12 @@
-use Rattle.std.proofs.Common.{◌≡◌, ◌≤◌, ◌+◌, ◌∷◌, [], ℕ, List, Option, sym, ap, subst, ◌∙◌, arith}
-use Rattle.std.proofs.lemmas.Result.{IfOk-weaker}
+use Rattle.std.proofs.Common.{◌≡◌, ◌≤◌, ◌+◌, ◌∷◌, [], ℕ, List, Option, sym, ap, subst, arith}
 use Rattle.std.specs.Option.{option_copied}
 use Rattle.mesh_base.specs.declared.key.ObjKey.{ObjKey}
 use Rattle.mark_rules.specs.Reads.{authz_reads, cost}
-use Rattle.mark_rules.specs.Rows.{authz_behind}
 use Rattle.view_rules.specs.PolicyLaws.{server_key}
 use Rattle.inbound_views.specs.Costs.{cost_of_authz}
 use Rattle.inbound_views.specs.PortRows.{own_authz}
 use Rattle.inbound_views.proofs.Costs.{more_authz}
 use Rattle.inbound_views.proofs.joining.server_authz.Goals as goal
-
-pub returns-in_ok-server_key-in-Some-clause-rows : goal.returns-in_ok-server_key-in-Some-clause-rows
-returns-in_ok-server_key-in-Some-clause-rows g c =
-    IfOk-weaker c.authz.result _ _
-    (λ rows is config held stand.
-    let authz = g.S.RowSource.authz_at c.args.source.now config held in
-    is config held stand ∙ ap authz c.in_ok-server_key-in-Some.ensures ∙ sym (ap (λ server. authz_behind authz c.args.ns.now (option_copied server)) c.in-Some.is))
-    c.authz.ensures.rows
 
 pub returns-in_ok-server_key-in-Some-clause-steps : goal.returns-in_ok-server_key-in-Some-clause-steps
 returns-in_ok-server_key-in-Some-clause-steps g c = λ config held stand.

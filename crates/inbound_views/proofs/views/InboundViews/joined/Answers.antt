@@ -18,7 +18,7 @@ returns-in_ok-part-in-Some c =
     let found : c.in-Some.part.now ≡ server_part config held key = cc same in
     let part = c.in_ok-part-in-Some.ensures ∙ found in
     is config held kept ∙ ap (join_inbound (kept_routes self held) (kept_authz self config held) key.ns) part)
-    c.joined_port.ensures.view
+    c.joined_port.ensures
 
 pub returns-in-None : goal.returns-in-None
 returns-in-None c = λ config held kept.
