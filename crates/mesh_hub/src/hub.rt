@@ -284,13 +284,7 @@ impl Hub {
             request,
             authz: &authz,
         };
-        let verdict = decide(self.alloc, &simulation, &view, patterns, steps);
-        let Simulation {
-            config: _,
-            request: _,
-            authz: _,
-        } = simulation;
-        verdict
+        decide(self.alloc, &simulation, &view, patterns, steps)
     }
 
     /// States that after every call, unless memory ran out, the rows that have users in the indexes are exactly those of the queries of

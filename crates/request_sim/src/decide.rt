@@ -32,6 +32,7 @@ use view_types::server_view::{AuthzRow, RouteRow, ServerRow, ServerView};
 use view_types::verdict::{Decider, Verdict};
 
 /// A simulated request, and what is needed for the decision besides the view of its port.
+#[derive(Drop)]
 pub struct Simulation<'a, S> {
     pub config: &'a Config,
     pub request: &'a Request,

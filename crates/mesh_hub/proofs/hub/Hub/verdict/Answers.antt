@@ -20,8 +20,8 @@ returns-clause-simulated g c =
     let stands = views_stand self.config self.limits _ self.subscribers _ _ (sym same) (sym c.views-views.ensures) (self.stands c.requires.going) in
     let at_keys = subst (λ (held : Held). AtKeys held.objects) (sym same) c.get-store.ensures.at_keys in
     let lawful = subst (λ (held : Held). AreLawful held.objects) (sym same) (c.get-store.ensures.lawful (self.going c.requires.going)) in
-    subst (λ (held : Held). Simulated self.config held.objects (facts_of g.P.Patterns c.args.patterns.now) request c.decide-verdict.result) same
-    (c.decide-verdict.ensures.simulated held (authz_of_route self.config held request.ns) at_keys (record { config = self.config; stands = stands; each = λ route. refl })
+    subst (λ (held : Held). Simulated self.config held.objects (facts_of g.P.Patterns c.args.patterns.now) request c.decide.result) same
+    (c.decide.ensures.simulated held (authz_of_route self.config held request.ns) at_keys (record { config = self.config; stands = stands; each = λ route. refl })
     (full_port self.config held request at_keys lawful c.in-Ok.view (c.in-Ok.ensures.view self.config stands)))
 
 pub returns-clause-steps : goal.returns-clause-steps
@@ -31,6 +31,6 @@ returns-clause-steps g c =
     let same = c.get-store.ensures.value in
     let held = c.get-store.result.now.objects in
     let stands = views_stand self.config self.limits _ self.subscribers _ _ (sym same) (sym c.views-views.ensures) (self.stands c.requires.going) in
-    subst (λ (held : Held). c.decide-verdict.new.steps ≤ c.args.steps.now + cost_of self.config held.objects (rows self.config held.objects (Port request.ns request.pod request.port))) same
-    (finds_one self.config held request c.in-Ok.view (c.in-Ok.ensures.view self.config stands) c.args.steps.now c.peek_port.new.steps c.decide-verdict.new.steps (c.peek_port.ensures.steps self.config stands)
-    (c.decide-verdict.ensures.steps (route_cost held request.ns) (record { config = self.config; stands = stands; each = λ route. refl })))
+    subst (λ (held : Held). c.decide.new.steps ≤ c.args.steps.now + cost_of self.config held.objects (rows self.config held.objects (Port request.ns request.pod request.port))) same
+    (finds_one self.config held request c.in-Ok.view (c.in-Ok.ensures.view self.config stands) c.args.steps.now c.peek_port.new.steps c.decide.new.steps (c.peek_port.ensures.steps self.config stands)
+    (c.decide.ensures.steps (route_cost held request.ns) (record { config = self.config; stands = stands; each = λ route. refl })))
