@@ -32,9 +32,9 @@ use run_report::{
     Report, Run, StartTime, WrongWords,
 };
 use std::alloc::Global;
-use std::io;
 use std::io::{IsTerminal, Stderr};
 use std::process::ExitCode;
+use std::{io, mem};
 use view_types::config::Config;
 
 // Creates a hub without objects and subscriptions, under the default configuration and limits.
@@ -168,7 +168,11 @@ fn run<'a>(rt: &'a HostRuntime, start: StartTime, words: &'a [Text], last: &'a L
         held: held_in(&hub),
         elapsed: start.elapsed(rt),
     });
-    Outcome::Ended(tell(rt, status, last.get(), run))
+    let status = tell(rt, status, last.get(), run);
+    // The exit of the process frees the memory of the hub at once. To free its parts one by one took
+    // a fifth of the time of a run over 20,000 objects.
+    mem::forget(hub);
+    Outcome::Ended(status)
 }
 
 fn main(rt: HostRuntime) -> ExitCode {
