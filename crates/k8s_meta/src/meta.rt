@@ -16,7 +16,7 @@ use serde_json::Value;
 use std::alloc::Global;
 
 /// The metadata of an object (ObjectMeta, meta/v1).
-#[derive(Debug, Drop)]
+#[derive(Debug)]
 pub struct Meta {
     /// `default` if the object has no namespace.
     pub ns: Text,
@@ -25,6 +25,19 @@ pub struct Meta {
     pub notes: Labels,
     /// A time of the form `dddd-dd-ddTdd:dd:ddZ`. Any other string counts as absent.
     pub created: Option<Text>,
+}
+
+/// Written by hand, as that of `Text`.
+impl Drop for Meta {
+    fn drop(self) {
+        let Meta {
+            ns: _ns,
+            name: _name,
+            labels: _labels,
+            notes: _notes,
+            created: _created,
+        } = self;
+    }
 }
 
 impl Copied for Meta {

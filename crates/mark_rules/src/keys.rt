@@ -8,33 +8,75 @@ use std::alloc::Global;
 use view_types::query::Target;
 
 /// The key of the endpoints of a Service port.
-#[derive(Drop, PartialEq, Eq, PartialOrd, Ord, Hash)]
+#[derive(PartialEq, Eq, PartialOrd, Ord, Hash)]
 pub struct EndpointKey {
     pub name: Text,
     pub ns: Text,
     pub port: u16,
 }
 
+/// Written by hand, as that of `Text`.
+impl Drop for EndpointKey {
+    fn drop(self) {
+        let EndpointKey {
+            name: _name,
+            ns: _ns,
+            port: _,
+        } = self;
+    }
+}
+
 /// The key of a target's profile, for a client in this namespace if it declares one.
-#[derive(Drop, PartialEq, Eq, PartialOrd, Ord, Hash)]
+#[derive(PartialEq, Eq, PartialOrd, Ord, Hash)]
 pub struct ProfileKey {
     pub target: Target,
     pub client: Option<Text>,
 }
 
+/// Written by hand, as that of `Text`.
+impl Drop for ProfileKey {
+    fn drop(self) {
+        let ProfileKey {
+            target: _target,
+            client: _client,
+        } = self;
+    }
+}
+
 /// The key of the protocol, the policy and the Server of a port of a Pod.
-#[derive(Drop, PartialEq, Eq, PartialOrd, Ord, Hash)]
+#[derive(PartialEq, Eq, PartialOrd, Ord, Hash)]
 pub struct ServerKey {
     pub pod: Text,
     pub ns: Text,
     pub port: u16,
 }
 
+/// Written by hand, as that of `Text`.
+impl Drop for ServerKey {
+    fn drop(self) {
+        let ServerKey {
+            pod: _pod,
+            ns: _ns,
+            port: _,
+        } = self;
+    }
+}
+
 /// The key of a Server's routes.
-#[derive(Drop, PartialEq, Eq, PartialOrd, Ord, Hash)]
+#[derive(PartialEq, Eq, PartialOrd, Ord, Hash)]
 pub struct RouteKey {
     pub server: Text,
     pub ns: Text,
+}
+
+/// Written by hand, as that of `Text`.
+impl Drop for RouteKey {
+    fn drop(self) {
+        let RouteKey {
+            server: _server,
+            ns: _ns,
+        } = self;
+    }
 }
 
 /// The key of any row.

@@ -10,7 +10,6 @@ use net_cidr::ip::Ip;
 use std::alloc::Global;
 
 /// An endpoint of a Service.
-#[derive(Drop)]
 pub struct EndpointRow {
     pub ip: Ip,
     pub port: u16,
@@ -24,11 +23,35 @@ pub struct EndpointRow {
     pub h2: bool,
 }
 
+/// Written by hand, as that of `Text`.
+impl Drop for EndpointRow {
+    fn drop(self) {
+        let EndpointRow {
+            ip: _ip,
+            port: _,
+            weight: _,
+            labels: _labels,
+            identity: _identity,
+            tunnel: _tunnel,
+            h2: _,
+        } = self;
+    }
+}
+
 /// The endpoints of a Service, by address and port, each pair once. A Service with rows exists.
-#[derive(Drop)]
 pub struct EndpointView {
     pub exists: bool,
     pub rows: List<EndpointRow>,
+}
+
+/// Written by hand, as that of `Text`.
+impl Drop for EndpointView {
+    fn drop(self) {
+        let EndpointView {
+            exists: _,
+            rows: _rows,
+        } = self;
+    }
 }
 
 impl Copied for EndpointRow {

@@ -10,7 +10,7 @@ use net_cidr::ip::Ip;
 use std::alloc::Global;
 
 /// What a change of an object affects, and what a view reads.
-#[derive(Drop, PartialEq, Eq, PartialOrd, Ord)]
+#[derive(PartialEq, Eq, PartialOrd, Ord)]
 pub enum Mark {
     /// The object under a key.
     Obj(ObjKey),
@@ -28,6 +28,22 @@ pub enum Mark {
     IpService(Ip),
     /// The Pods at an address.
     IpPod(Ip),
+}
+
+/// Written by hand, as that of `Text`.
+impl Drop for Mark {
+    fn drop(self) {
+        match self {
+            Mark::Obj(_value) => {}
+            Mark::SlicesOf(_a, _b) => {}
+            Mark::ServersIn(_value) => {}
+            Mark::ServerAuthzIn(_value) => {}
+            Mark::PolicyOn(_a, _b, _c) => {}
+            Mark::RouteOn(_a, _b, _c) => {}
+            Mark::IpService(_value) => {}
+            Mark::IpPod(_value) => {}
+        }
+    }
 }
 
 impl Copied for Mark {

@@ -11,7 +11,6 @@ use mesh_base::text::Text;
 use std::alloc::Global;
 
 /// The profile of a target.
-#[derive(Drop)]
 pub struct ProfileView {
     /// The full name of the Service, or empty.
     pub fqn: Text,
@@ -21,8 +20,20 @@ pub struct ProfileView {
     pub endpoint: Option<EndpointRow>,
 }
 
+/// Written by hand, as that of `Text`.
+impl Drop for ProfileView {
+    fn drop(self) {
+        let ProfileView {
+            fqn: _fqn,
+            opaque: _,
+            routes: _routes,
+            overrides: _overrides,
+            endpoint: _endpoint,
+        } = self;
+    }
+}
+
 /// The outbound view of a target.
-#[derive(Drop)]
 pub enum OutboundView {
     Absent,
     Forward {
@@ -36,6 +47,26 @@ pub enum OutboundView {
         opaque: bool,
         routes: List<RouteRow>,
     },
+}
+
+/// Written by hand, as that of `Text`.
+impl Drop for OutboundView {
+    fn drop(self) {
+        match self {
+            OutboundView::Absent => {}
+            OutboundView::Forward {
+                endpoint: _endpoint,
+                opaque: _opaque,
+            } => {}
+            OutboundView::Service {
+                ns: _ns,
+                name: _name,
+                port: _port,
+                opaque: _opaque,
+                routes: _routes,
+            } => {}
+        }
+    }
 }
 
 impl Copied for ProfileView {

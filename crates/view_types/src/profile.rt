@@ -38,7 +38,6 @@ pub struct RespClass {
 }
 
 /// A route of a profile.
-#[derive(Drop)]
 pub struct ProfileRoute {
     pub name: Text,
     pub condition: ReqMatch,
@@ -48,12 +47,34 @@ pub struct ProfileRoute {
     pub timeout: Option<u64>,
 }
 
+/// Written by hand, as that of `Text`.
+impl Drop for ProfileRoute {
+    fn drop(self) {
+        let ProfileRoute {
+            name: _name,
+            condition: _condition,
+            classes: _classes,
+            retryable: _,
+            timeout: _timeout,
+        } = self;
+    }
+}
+
 /// A destination of traffic that replaces the Service.
-#[derive(Drop)]
 pub struct Override {
     pub authority: Text,
     /// In thousandths.
     pub weight: u32,
+}
+
+/// Written by hand, as that of `Text`.
+impl Drop for Override {
+    fn drop(self) {
+        let Override {
+            authority: _authority,
+            weight: _,
+        } = self;
+    }
 }
 
 /// A ServiceProfile, linkerd.io/v1alpha2.

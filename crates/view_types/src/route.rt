@@ -42,7 +42,6 @@ pub struct NameMatch {
 }
 
 /// Which requests match: those that match all parts.
-#[derive(Drop)]
 pub struct HttpMatch {
     pub path: PathMatch,
     pub headers: List<NameMatch>,
@@ -50,8 +49,19 @@ pub struct HttpMatch {
     pub method: Option<Text>,
 }
 
+/// Written by hand, as that of `Text`.
+impl Drop for HttpMatch {
+    fn drop(self) {
+        let HttpMatch {
+            path: _path,
+            headers: _headers,
+            query: _query,
+            method: _method,
+        } = self;
+    }
+}
+
 /// A filter of requests. It is passed on, and has no effect here.
-#[derive(Drop)]
 pub enum Filter {
     Headers {
         add: List<(Text, Text)>,
@@ -64,6 +74,25 @@ pub enum Filter {
         port: Option<u16>,
         status: u16,
     },
+}
+
+/// Written by hand, as that of `Text`.
+impl Drop for Filter {
+    fn drop(self) {
+        match self {
+            Filter::Headers {
+                add: _add,
+                set: _set,
+                remove: _remove,
+            } => {}
+            Filter::Redirect {
+                scheme: _scheme,
+                host: _host,
+                port: _port,
+                status: _status,
+            } => {}
+        }
+    }
 }
 
 /// A destination of requests.

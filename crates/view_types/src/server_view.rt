@@ -33,7 +33,6 @@ pub enum Authn {
 }
 
 /// An authorization in a view.
-#[derive(Drop)]
 pub struct AuthzRow {
     pub kind: AuthzKind,
     pub name: Text,
@@ -41,8 +40,19 @@ pub struct AuthzRow {
     pub authn: Authn,
 }
 
+/// Written by hand, as that of `Text`.
+impl Drop for AuthzRow {
+    fn drop(self) {
+        let AuthzRow {
+            kind: _kind,
+            name: _name,
+            blocks: _blocks,
+            authn: _authn,
+        } = self;
+    }
+}
+
 /// A backend in a view.
-#[derive(Drop)]
 pub struct BackendRow {
     pub ns: Text,
     pub name: Text,
@@ -52,8 +62,20 @@ pub struct BackendRow {
     pub missing: bool,
 }
 
+/// Written by hand, as that of `Text`.
+impl Drop for BackendRow {
+    fn drop(self) {
+        let BackendRow {
+            ns: _ns,
+            name: _name,
+            port: _,
+            weight: _,
+            missing: _,
+        } = self;
+    }
+}
+
 /// A rule in a view.
-#[derive(Drop)]
 pub struct RuleRow {
     pub matches: List<HttpMatch>,
     pub filters: List<Filter>,
@@ -64,8 +86,20 @@ pub struct RuleRow {
     pub backend_timeout: Option<u64>,
 }
 
+/// Written by hand, as that of `Text`.
+impl Drop for RuleRow {
+    fn drop(self) {
+        let RuleRow {
+            matches: _matches,
+            filters: _filters,
+            backends: _backends,
+            request_timeout: _request_timeout,
+            backend_timeout: _backend_timeout,
+        } = self;
+    }
+}
+
 /// A route in a view.
-#[derive(Drop)]
 pub struct RouteRow {
     pub kind: Kind,
     pub name: Text,
@@ -73,6 +107,20 @@ pub struct RouteRow {
     pub hosts: List<Text>,
     pub rules: List<RuleRow>,
     pub authz: List<AuthzRow>,
+}
+
+/// Written by hand, as that of `Text`.
+impl Drop for RouteRow {
+    fn drop(self) {
+        let RouteRow {
+            kind: _,
+            name: _name,
+            created: _created,
+            hosts: _hosts,
+            rules: _rules,
+            authz: _authz,
+        } = self;
+    }
 }
 
 /// The policy of a port of a Pod.
