@@ -1,5 +1,5 @@
 -- The keys that ids are opened with.
-use Rattle.std.proofs.Common.{◌≡◌, ◌↔◌, ◌==◌, IsTrue, ◌++◌, ◌||◌, ◌+◌, ◌<◌, inl, inr, ℕ, Bool, true, false, cond, nat_eq, get_or, length, take, List, [], ◌∷◌, map, Option, Some, None, refl, sym, ap, subst, ◌∙◌}
+use Rattle.std.proofs.Common.{◌≡◌, ◌↔◌, ◌==◌, IsTrue, ◌++◌, ◌||◌, ◌+◌, ◌<◌, inl, inr, ℕ, Bool, true, false, cond, nat_eq, get_or, length, take, List, [], ◌∷◌, Option, Some, None, refl, sym, ap, subst, ◌∙◌}
 use Rattle.std.proofs.lemmas.Bool.{false≢true}
 use Rattle.std.proofs.lemmas.Bool.Decides.{eqb_tells}
 use Rattle.std.proofs.lemmas.Grind.{flat_map-append}
