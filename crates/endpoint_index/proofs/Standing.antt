@@ -44,3 +44,30 @@ module _ (own : List Mark) (old new : KeysByMark) where
       in_both new m ∙ ap (λ b. has_mark own m || b) (lead m)
       ∙ by_cases (has_mark own m) (has_mark come m) (has_mark gone m) (is_read old m)
       ∙ (λ i. sym (ap (λ ms. has_mark ms m) is ∙ list_any-append (same_mark m) come own) i || (not (has_mark gone m) && sym (in_both old m) i))
+
+-- ---- a row at the own marks, and at those that slices read
+
+module _ (own read : List Mark) (m : Mark) (here old mid new : Bool) where
+  pub both_put : mid ≡ ((has_mark own m && here) || old) → new ≡ ((has_mark read m && here) || mid) → new ≡ ((has_mark (own ++ read) m && here) || old)
+  both_put first second = second ∙ ap (λ b. (has_mark read m && here) || b) first ∙ cases_put (has_mark own m) (has_mark read m) here ∙ ap (λ b. (b && here) || old) (sym (list_any-append (same_mark m) own read))
+    where
+      cases_put : (o r e : Bool) → ((r && e) || ((o && e) || old)) ≡ (((o || r) && e) || old)
+      cases_put true true true = refl
+      cases_put true true false = refl
+      cases_put true false true = refl
+      cases_put true false false = refl
+      cases_put false true true = refl
+      cases_put false true false = refl
+      cases_put false false e = refl
+
+  pub both_taken : mid ≡ (not (has_mark own m && here) && old) → new ≡ (not (has_mark read m && here) && mid) → new ≡ (not (has_mark (own ++ read) m && here) && old)
+  both_taken first second = second ∙ ap (λ b. not (has_mark read m && here) && b) first ∙ cases_taken (has_mark own m) (has_mark read m) here ∙ ap (λ b. not (b && here) && old) (sym (list_any-append (same_mark m) own read))
+    where
+      cases_taken : (o r e : Bool) → (not (r && e) && (not (o && e) && old)) ≡ (not ((o || r) && e) && old)
+      cases_taken true true true = refl
+      cases_taken true true false = refl
+      cases_taken true false true = refl
+      cases_taken true false false = refl
+      cases_taken false true true = refl
+      cases_taken false true false = refl
+      cases_taken false false e = refl

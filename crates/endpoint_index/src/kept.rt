@@ -7,8 +7,10 @@ ghost use Rattle.view_types.specs.Objects.{ObjectMap};
 ghost use Rattle.view_types.specs.declared.mark.Mark.TheVariants.{SlicesOf};
 ghost use Rattle.view_rules.specs.Endpoints.{slices_held};
 ghost use Rattle.mark_rules.specs.Changes.{Leads};
+ghost use Rattle.mark_rules.specs.Marks.{has_mark};
 ghost use Rattle.mark_rules.specs.Reads.{cost, endpoint_reads, pods_of};
 ghost use Rattle.endpoint_rows.specs.Kept.{Keeps};
+ghost use Rattle.row_table.specs.AtMarks.{AddsAt, RemovesAt};
 ghost use Rattle.row_table.specs.MarksAfter.{MarksFollow};
 ghost use Rattle.slice_marks.specs.Marked.{KeysByMark, OthersStay, marks_read};
 ghost use Rattle.endpoint_index.specs.Given.{IsPort, own_reads};
@@ -31,6 +33,7 @@ use mesh_base::text::Text;
 use policy_rows::snapshot::Snapshot;
 use row_reads::references::add_key;
 use row_table::row_rule::MarksAfter;
+use row_table::rows_at_marks::RowsAtMarks;
 use slice_marks::slices::add_copies;
 use std::alloc::Global;
 use view_types::mark::Mark;
@@ -54,6 +57,23 @@ impl KeptEndpoints {
         let pods = self.slices.read.all(alloc)?;
         append(&mut marks, pods)?;
         Ok(marks)
+    }
+
+    /// Adds the row with this number at the marks that the endpoints read.
+    pub(crate) fn watch(&self, at_marks: &mut RowsAtMarks, number: u64) -> Result<(), Memory>
+        ensures { OnOk result
+            (AddsAt (has_mark (marks_in self.now)) number at_marks.old at_marks.new) }
+    {
+        at_marks.put(self.own.as_slice(), number)?;
+        self.slices.read.put_row(&mut at_marks.by_mark, number)
+    }
+
+    /// Removes the row with this number from the marks that the endpoints read.
+    pub(crate) fn unwatch(&self, at_marks: &mut RowsAtMarks, number: u64)
+        ensures { RemovesAt (has_mark (marks_in self.now)) number at_marks.old at_marks.new }
+    {
+        at_marks.take(self.own.as_slice(), number);
+        self.slices.read.take_row(&mut at_marks.by_mark, number);
     }
 
     /// Returns roughly how many marks the endpoints read.
@@ -112,8 +132,9 @@ pub(crate) fn follow<L>(
     if changed.len() <= kept.count() && has_port(kept, &port) {
         return follow_in_place(&source, changed, kept, steps);
     }
+    let before = kept.marks(from.alloc)?;
     find_again(&source, kept, steps)?;
-    Ok(MarksAfter::Other)
+    Ok(MarksAfter::Other(before))
 }
 
 /// Whether the endpoints are those of the port in the Service.

@@ -13,6 +13,7 @@ use mesh_base::steps::Steps;
 use object_store::store::Store;
 use policy_rows::snapshot::Snapshot;
 use row_table::row_rule::{Followed, RowRule, StoreChange};
+use row_table::rows_at_marks::RowsAtMarks;
 use std::alloc::Global;
 use view_types::config::Config;
 use view_types::endpoint::EndpointView;
@@ -95,6 +96,14 @@ impl RowRule for EndpointRule {
 
     fn marks(alloc: Global, kept: &KeptEndpoints) -> Result<List<Mark>, Memory> {
         kept.marks(alloc)
+    }
+
+    fn watch(kept: &KeptEndpoints, at_marks: &mut RowsAtMarks, number: u64) -> Result<(), Memory> {
+        kept.watch(at_marks, number)
+    }
+
+    fn unwatch(kept: &KeptEndpoints, at_marks: &mut RowsAtMarks, number: u64) {
+        kept.unwatch(at_marks, number);
     }
 
     ghost shows = { λ rule. stands_show rule.config };

@@ -19,6 +19,7 @@ use object_store::store::Store;
 use row_reads::rows::route_reads;
 use row_table::plain_row::PlainRow;
 use row_table::row_rule::{Followed, MarksAfter, RowRule, StoreChange};
+use row_table::rows_at_marks::RowsAtMarks;
 use std::alloc::Global;
 use view_types::mark::Mark;
 use view_types::server_view::RouteRow;
@@ -94,6 +95,18 @@ impl RowRule for RouteRule {
 
     fn marks(alloc: Global, kept: &PlainRow<List<RouteRow>>) -> Result<List<Mark>, Memory> {
         kept.marks.copy(alloc)
+    }
+
+    fn watch(
+        kept: &PlainRow<List<RouteRow>>,
+        at_marks: &mut RowsAtMarks,
+        number: u64,
+    ) -> Result<(), Memory> {
+        at_marks.put(kept.marks.as_slice(), number)
+    }
+
+    fn unwatch(kept: &PlainRow<List<RouteRow>>, at_marks: &mut RowsAtMarks, number: u64) {
+        at_marks.take(kept.marks.as_slice(), number);
     }
 
     ghost shows = { λ rule held key kept stands. stands };

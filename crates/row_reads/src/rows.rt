@@ -33,7 +33,7 @@ use view_types::service::Service;
 pub fn server_reads(alloc: Global, key: &ServerKey) -> Result<List<Mark>, Memory>
     ensures { IfOk result (λ marks. marks ≡ server_reads key.now) }
 {
-    let mut marks = List::new(alloc);
+    let mut marks = List::from_vec(Vec::with_capacity(alloc, 2)?);
     add_key(&mut marks, Kind::Pod, &key.ns, &key.pod)?;
     marks.add(Mark::ServersIn(key.ns.copy()?))?;
     Ok(marks)

@@ -1,4 +1,4 @@
--- The order by which the graph keeps marks is that of the definitions.
+-- The order by which rows stand at marks is that of the definitions.
 use Rattle.std.proofs.Common.{◌≡◌, subst}
 use Rattle.std.specs.declared.cmp.Ordering.{Ordering}
 use Rattle.view_types.specs.contracts.mark.MarkOrd as order

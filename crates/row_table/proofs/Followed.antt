@@ -1,7 +1,5 @@
 -- Rows that have followed a change, one after the other.
 use Rattle.std.proofs.Common.{◌≡◌, inl, inr, ℕ, zero, suc, ◌<◌, ◌||◌, Bool, true, false, List, [], ◌∷◌, ◌++◌, Option, Some, None, length, get_or, take, nat_eq, refl, sym, ap, subst, ◌∙◌, arith}
-use Rattle.std.specs.BTreeMap.{BTreeMap}
-use Rattle.std.specs.BTreeSet.{BTreeSet}
 use Rattle.std.specs.Cmp.{IsTotalOrder, tied_itself}
 use Rattle.std.specs.FinMap.{IsAntisymmetric}
 use Rattle.std.specs.List.{AllByRecursion, IsDistinct, list_any}
@@ -16,18 +14,19 @@ use Rattle.std.proofs.lemmas.Bool.{eq-eqb, eqb-true, false≢true, ne_eqb, or_fr
 use Rattle.slab.specs.Slab.{Slab}
 use Rattle.view_types.specs.Objects.{ObjectMap}
 use Rattle.view_types.specs.declared.mark.Mark.{Mark}
-use Rattle.mark_graph.specs.RowMarks.{has_row, watches}
+use Rattle.mark_graph.specs.RowMarks.{has_row}
 use Rattle.mark_rules.specs.Changes.{Leads}
-use Rattle.mark_rules.specs.Marks.{has_mark, mark_cmp, meets}
+use Rattle.mark_rules.specs.Marks.{has_mark, meets}
 use Rattle.row_table.specs.IndexRows.{AreMet, Filter, KeptShows, KeptStays, has_key}
 use Rattle.row_table.specs.KeyNumbers.{PutsAt, number_at, used_at}
 use Rattle.row_table.specs.TableRows.{AllStand, AreTied, Follow, KeptFollows, RowAfter, StandsAt, is_among, kept_at, key_in, keys_of, marks_of, row_at, row_of}
 use Rattle.row_table.specs.declared.key_numbers.KeyNumbers.{KeyNumbers}
 use Rattle.row_table.specs.declared.key_numbers.UsedKey.{UsedKey}
 use Rattle.row_table.specs.declared.table_rows.KeptRow.{KeptRow}
+use Rattle.row_table.specs.declared.watched_marks.WatchedMarks.{WatchedMarks}
 use Rattle.row_table.proofs.Gathered.{alike}
 use Rattle.row_table.proofs.Keys.{distinct_more, has_more, is_itself, tells}
-use Rattle.row_table.proofs.MarkLists.{meets_back, meets_same, same_any}
+use Rattle.row_table.proofs.MarkLists.{meets_back, meets_same}
 use Rattle.row_table.proofs.Puts.{none_is_not_some, put_here, put_other, some_is}
 
 module _ {Key Kept : Type 0} (cmp : Key → Key → Ordering) (total : IsTotalOrder cmp) (exact : IsAntisymmetric cmp) where
@@ -82,7 +81,7 @@ module _ {Key Kept : Type 0} (cmp : Key → Key → Ordering) (total : IsTotalOr
 
   -- ---- the keys of the numbers that are due
 
-  module _ (marks_in : Kept → List Mark) (used : KeyNumbers Key) (rows : Slab (KeptRow Key Kept)) (watched : BTreeMap ℕ (BTreeSet Mark)) (tied : AreTied cmp marks_in used rows watched) where
+  module _ (marks_in : Kept → List Mark) (used : KeyNumbers Key) (rows : Slab (KeptRow Key Kept)) (watched : WatchedMarks) (tied : AreTied cmp marks_in used rows watched) where
     -- the keys are those of rows with these numbers
     abbrev pub Among : List ℕ → List Key → Type 0
     Among numbers found = (k : Key) → has_key cmp found k ≡ is_among numbers (number_at cmp used k)
@@ -162,7 +161,7 @@ module _ {Key Kept : Type 0} (cmp : Key → Key → Ordering) (total : IsTotalOr
         by (Some key) apart = distinct_more cmp total exact found key once (apart key (ap (λ b. b || false) (is_itself cmp total exact key)))
 
     -- the keys of all numbers that are due are those whose rows read a mark of the change
-    pub all_met : (changed : List Mark) (due : List ℕ) (found : List Key) → ((n : ℕ) → has_row n due ≡ list_any (λ mark. watches mark_cmp watched n mark) changed)
+    pub all_met : (changed : List Mark) (due : List ℕ) (found : List Key) → ((n : ℕ) → has_row n due ≡ list_any (has_mark (marks_of marks_in (kept_at rows n))) changed)
         → Among due found → IsDistinct (eq_by_cmp cmp) found → AreMet cmp changed (λ k. marks_of marks_in (row_at cmp used rows k)) found
     all_met changed due found due_is among once = record {
       each = λ k. among k ∙ by (number_at cmp used k);
@@ -172,8 +171,7 @@ module _ {Key Kept : Type 0} (cmp : Key → Key → Ordering) (total : IsTotalOr
         by : (o : Option ℕ) → is_among due o ≡ meets (marks_of marks_in (row_of rows o)) changed
         by None = refl
         by (Some n) =
-            due_is n ∙ same_any (λ mark. watches mark_cmp watched n mark) (has_mark (marks_of marks_in (kept_at rows n))) (tied.watch n) changed
-            ∙ meets_back (marks_of marks_in (kept_at rows n)) changed
+            due_is n ∙ meets_back (marks_of marks_in (kept_at rows n)) changed
 
 -- the keys of numbers are those of before, where each row has its old key
 pub found_all : {Key Kept : Type 0} (old new : Slab (KeptRow Key Kept)) → ((n : ℕ) → key_in (kept_at new n) ≡ key_in (kept_at old n)) → (numbers others : List ℕ) → numbers ≡ others → keys_of old numbers ≡ keys_of new others

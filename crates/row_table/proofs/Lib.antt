@@ -8,3 +8,4 @@ pub mod MarkLists
 pub mod Puts
 mod Tied
 mod Users
+mod Watched

@@ -1,7 +1,5 @@
 -- The parts of a table stay tied when a row is put, changed or removed.
-use Rattle.std.proofs.Common.{◌≡◌, inl, inr, ℕ, ◌&&◌, ◌||◌, not, Bool, false, cond, nat_eq, List, Option, Some, None, refl, sym, ap, ◌∙◌}
-use Rattle.std.specs.BTreeMap.{BTreeMap}
-use Rattle.std.specs.BTreeSet.{BTreeSet}
+use Rattle.std.proofs.Common.{◌≡◌, inl, inr, ℕ, ◌&&◌, not, false, List, [], Option, Some, None, refl, sym, ap, subst, ◌∙◌}
 use Rattle.std.specs.Cmp.{IsTotalOrder}
 use Rattle.std.specs.FinMap.{IsAntisymmetric, nat_cmp-IsAntisymmetric}
 use Rattle.std.specs.Ordering.{nat_cmp}
@@ -10,19 +8,17 @@ use Rattle.std.proofs.lemmas.Bool.Decides.{eqb_tells}
 use Rattle.std.proofs.lemmas.Cmp.{nat_cmp_total}
 use Rattle.slab.specs.Slab.{Slab}
 use Rattle.view_types.specs.declared.mark.Mark.{Mark}
-use Rattle.mark_graph.specs.Moves.{has_after}
-use Rattle.mark_graph.specs.RowMarks.{Rewatches, watches}
-use Rattle.mark_rules.specs.Marks.{has_mark, mark_cmp}
-use Rattle.row_table.specs.MarksAfter.{MarksFollow}
+use Rattle.mark_rules.specs.Marks.{has_mark}
+use Rattle.row_table.specs.AtMarks.{Rewatches, Watches, at_mark, is_new}
 use Rattle.row_table.specs.KeyNumbers.{PutsAt, number_at, number_in, used_at}
-use Rattle.row_table.specs.TableRows.{AreTied, Rewatched, kept_at, key_in, marks_of, row_at, row_of}
-use Rattle.row_table.specs.declared.row_rule.MarksAfter.{MarksAfter}
-use Rattle.row_table.specs.declared.row_rule.MarksAfter.TheVariants.{Same, Moved, Other}
+use Rattle.row_table.specs.TableRows.{AreTied, WatchTheirs, kept_at, key_in, marks_of, row_at, row_of}
 use Rattle.row_table.specs.declared.key_numbers.KeyNumbers.{KeyNumbers}
 use Rattle.row_table.specs.declared.key_numbers.UsedKey.{UsedKey}
 use Rattle.row_table.specs.declared.table_rows.KeptRow.{KeptRow}
+use Rattle.row_table.specs.declared.watched_marks.WatchedMarks.{WatchedMarks}
 use Rattle.row_table.proofs.Keys.{tells}
 use Rattle.row_table.proofs.Puts.{none_is_not_some, put_here, put_other, put_same, puts, some_is}
+use Rattle.row_table.proofs.Watched.{and_false}
 
 -- a row that is put at its number
 module _ {X : Type 0} (n : ℕ) (x : X) (old new : ℕ → X) (put : PutsAt nat_cmp n x old new) where
@@ -38,17 +34,17 @@ module _ {X : Type 0} (n : ℕ) (x : X) (old new : ℕ → X) (put : PutsAt nat_
 module _ {Key Kept : Type 0} (cmp : Key → Key → Ordering) (total : IsTotalOrder cmp) (exact : IsAntisymmetric cmp) (marks_in : Kept → List Mark) where
   -- ---- nothing
 
-  pub tied_empty : (used : KeyNumbers Key) (rows : Slab (KeptRow Key Kept)) (watched : BTreeMap ℕ (BTreeSet Mark)) → ((k : Key) → used_at cmp used k ≡ None) → ((n : ℕ) → kept_at rows n ≡ None)
-      → ((n : ℕ) (mark : Mark) → watches mark_cmp watched n mark ≡ false) → AreTied cmp marks_in used rows watched
+  pub tied_empty : (used : KeyNumbers Key) (rows : Slab (KeptRow Key Kept)) (watched : WatchedMarks) → ((k : Key) → used_at cmp used k ≡ None) → ((n : ℕ) → kept_at rows n ≡ None)
+      → ((n : ℕ) (mark : Mark) → at_mark watched.at_marks mark n ≡ false) → AreTied cmp marks_in used rows watched
   tied_empty used rows watched no_keys no_rows idle = record {
     rows_of = λ key n e. none_is_not_some (number_at cmp used key) n (ap number_in (no_keys key)) e;
     numbers = λ n key e. none_is_not_some (key_in (kept_at rows n)) key (ap key_in (no_rows n)) e;
-    watch = λ n mark. idle n mark ∙ ap (λ row. has_mark (marks_of marks_in row) mark) (sym (no_rows n));
+    watch = λ n mark. idle n mark ∙ sym (ap (λ row. not (is_new watched n) && has_mark (marks_of marks_in row) mark) (no_rows n) ∙ and_false (not (is_new watched n)));
   }
 
   -- ---- other counts of users
 
-  pub tied_counted : (old new : KeyNumbers Key) (rows : Slab (KeptRow Key Kept)) (watched : BTreeMap ℕ (BTreeSet Mark)) → AreTied cmp marks_in old rows watched
+  pub tied_counted : (old new : KeyNumbers Key) (rows : Slab (KeptRow Key Kept)) (watched : WatchedMarks) → AreTied cmp marks_in old rows watched
       → ((k : Key) → number_at cmp new k ≡ number_at cmp old k) → AreTied cmp marks_in new rows watched
   tied_counted old new rows watched tied same = record {
     rows_of = λ key n e. tied.rows_of key n (sym (same key) ∙ e);
@@ -56,23 +52,20 @@ module _ {Key Kept : Type 0} (cmp : Key → Key → Ordering) (total : IsTotalOr
     watch = tied.watch;
   }
 
-  -- ---- a row that is put at its number, whose marks the graph watches there
+  -- ---- a row that is put at its number, which then watches the marks of the row
 
-  watch_put : (old new : Slab (KeptRow Key Kept)) (watched after : BTreeMap ℕ (BTreeSet Mark)) (n : ℕ) (row : Option (KeptRow Key Kept))
-      → ((i : ℕ) (mark : Mark) → watches mark_cmp watched i mark ≡ has_mark (marks_of marks_in (kept_at old i)) mark) → PutsAt nat_cmp n row (kept_at old) (kept_at new)
-      → (set : Mark → Bool) → Rewatches mark_cmp set n watched after → ((mark : Mark) → set mark ≡ has_mark (marks_of marks_in row) mark)
-      → (i : ℕ) (mark : Mark) → watches mark_cmp after i mark ≡ has_mark (marks_of marks_in (kept_at new i)) mark
-  watch_put old new watched after n row before put set rewatch is_set i mark =
-      rewatch i mark ∙ elim (eqb_tells i n) as (λ _. cond (nat_eq i n) (set mark) (watches mark_cmp watched i mark) ≡ has_mark (marks_of marks_in (kept_at new i)) mark) [
-        | inl is ↦ ap (λ b. cond b (set mark) (watches mark_cmp watched i mark)) is.0 ∙ is_set mark
-            ∙ ap (λ row. has_mark (marks_of marks_in row) mark) (sym (ap (kept_at new) is.1 ∙ at_number n row (kept_at old) (kept_at new) put))
-        | inr apart ↦ ap (λ b. cond b (set mark) (watches mark_cmp watched i mark)) apart.0 ∙ before i mark
-            ∙ ap (λ row. has_mark (marks_of marks_in row) mark) (sym (at_other n row (kept_at old) (kept_at new) put i apart.1))
-      ]
+  watch_put : (old new : Slab (KeptRow Key Kept)) (watched after : WatchedMarks) (n : ℕ) (row : Option (KeptRow Key Kept)) → WatchTheirs marks_in old watched → PutsAt nat_cmp n row (kept_at old) (kept_at new)
+      → Rewatches (marks_of marks_in (kept_at old n)) (marks_of marks_in row) n watched after → WatchTheirs marks_in new after
+  watch_put old new watched after n row before put rewatch i = elim (eqb_tells i n) as (λ _. Watches after i (marks_of marks_in (kept_at new i))) [
+    | inl is ↦ subst (λ (j : ℕ). Watches after j (marks_of marks_in (kept_at new j))) (sym is.1)
+        (subst (λ (r : Option (KeptRow Key Kept)). Watches after n (marks_of marks_in r)) (sym (at_number n row (kept_at old) (kept_at new) put)) (rewatch (before n)).own)
+    | inr apart ↦ subst (λ (r : Option (KeptRow Key Kept)). Watches after i (marks_of marks_in r)) (sym (at_other n row (kept_at old) (kept_at new) put i apart.1))
+        ((rewatch (before n)).others i apart.0 (marks_of marks_in (kept_at old i)) (before i))
+  ]
 
   -- ---- what is kept of one row, brought up to a change
 
-  module _ (used : KeyNumbers Key) (old new : Slab (KeptRow Key Kept)) (watched after : BTreeMap ℕ (BTreeSet Mark)) (n : ℕ) (row row_after : KeptRow Key Kept) (tied : AreTied cmp marks_in used old watched)
+  module _ (used : KeyNumbers Key) (old new : Slab (KeptRow Key Kept)) (watched after : WatchedMarks) (n : ℕ) (row row_after : KeptRow Key Kept) (tied : AreTied cmp marks_in used old watched)
       (there : kept_at old n ≡ Some row) (same_key : row_after.key ≡ row.key) (put : PutsAt nat_cmp n (Some row_after) (kept_at old) (kept_at new)) where
     pub keys_stay : (i : ℕ) → key_in (kept_at new i) ≡ key_in (kept_at old i)
     keys_stay = as_before n (Some row_after) (kept_at old) (kept_at new) put key_in (ap Some same_key ∙ ap key_in (sym there))
@@ -80,24 +73,13 @@ module _ {Key Kept : Type 0} (cmp : Key → Key → Ordering) (total : IsTotalOr
     others : (i : ℕ) → (i ≡ n → ⊥) → kept_at new i ≡ kept_at old i
     others = at_other n (Some row_after) (kept_at old) (kept_at new) put
 
-    -- the marks that the graph watches at the number before the change
-    stood : (mark : Mark) → watches mark_cmp watched n mark ≡ has_mark (marks_in row.kept) mark
-    stood mark = tied.watch n mark ∙ ap (λ row. has_mark (marks_of marks_in row) mark) there
-
-    tied_put : ((i : ℕ) (mark : Mark) → watches mark_cmp after i mark ≡ has_mark (marks_of marks_in (kept_at new i)) mark) → AreTied cmp marks_in used new after
-    tied_put watch = record {
+    pub tied_followed : Rewatches (marks_in row.kept) (marks_in row_after.kept) n watched after → AreTied cmp marks_in used new after
+    tied_followed rewatch = record {
       rows_of = λ key i e. keys_stay i ∙ tied.rows_of key i e;
       numbers = λ i key e. tied.numbers i key (sym (keys_stay i) ∙ e);
-      watch = watch;
+      watch = watch_put old new watched after n (Some row_after) tied.watch put
+          (subst (λ (r : Option (KeptRow Key Kept)). Rewatches (marks_of marks_in r) (marks_in row_after.kept) n watched after) (sym there) rewatch);
     }
-
-    pub tied_followed : (marks : MarksAfter) → MarksFollow marks (marks_in row.kept) (marks_in row_after.kept) → Rewatched marks (marks_in row_after.kept) n watched after → AreTied cmp marks_in used new after
-    tied_followed Same same watch = tied_put (λ i mark.
-        ap (λ (w : BTreeMap ℕ (BTreeSet Mark)). watches mark_cmp w i mark) watch ∙ tied.watch i mark
-        ∙ sym (as_before n (Some row_after) (kept_at old) (kept_at new) put (λ row. has_mark (marks_of marks_in row) mark) (same mark ∙ ap (λ row. has_mark (marks_of marks_in row) mark) (sym there)) i))
-    tied_followed (Moved moves) moved watch = tied_put (watch_put old new watched after n (Some row_after) tied.watch put (has_after mark_cmp moves (watches mark_cmp watched n)) watch
-        (λ mark. ap (λ b. has_mark moves.come mark || (not (has_mark moves.gone mark) && b)) (stood mark) ∙ sym (moved mark)))
-    tied_followed Other same watch = tied_put (watch_put old new watched after n (Some row_after) tied.watch put (has_mark (marks_in row_after.kept)) watch (λ mark. refl))
 
     number : number_at cmp used row.key ≡ Some n
     number = tied.numbers n row.key (ap key_in there)
@@ -119,7 +101,7 @@ module _ {Key Kept : Type 0} (cmp : Key → Key → Ordering) (total : IsTotalOr
 
   -- ---- one row more, or one less
 
-  module _ (used used_after : KeyNumbers Key) (old new : Slab (KeptRow Key Kept)) (watched after : BTreeMap ℕ (BTreeSet Mark)) (key : Key) (tied : AreTied cmp marks_in used old watched) where
+  module _ (used used_after : KeyNumbers Key) (old new : Slab (KeptRow Key Kept)) (watched after : WatchedMarks) (key : Key) (tied : AreTied cmp marks_in used old watched) where
     module _ (n : ℕ) (free : kept_at old n ≡ None) (u : UsedKey) (r : KeptRow Key Kept) (its_number : u.number ≡ n) (its_key : r.key ≡ key) (none : used_at cmp used key ≡ None)
         (put : PutsAt cmp key (Some u) (used_at cmp used) (used_at cmp used_after)) (put_row : PutsAt nat_cmp n (Some r) (kept_at old) (kept_at new)) where
       number_here : number_at cmp used_after key ≡ Some n
@@ -160,11 +142,12 @@ module _ {Key Kept : Type 0} (cmp : Key → Key → Ordering) (total : IsTotalOr
             number_other k (not_key i k before) ∙ tied.numbers i k before
       ]
 
-      pub tied_more : Rewatches mark_cmp (has_mark (marks_in r.kept)) n watched after → AreTied cmp marks_in used_after new after
+      pub tied_more : Rewatches [] (marks_in r.kept) n watched after → AreTied cmp marks_in used_after new after
       tied_more rewatch = record {
         rows_of = rows_now;
         numbers = numbers_now;
-        watch = watch_put old new watched after n (Some r) tied.watch put_row (has_mark (marks_in r.kept)) rewatch (λ mark. refl);
+        watch = watch_put old new watched after n (Some r) tied.watch put_row
+            (subst (λ (row : Option (KeptRow Key Kept)). Rewatches (marks_of marks_in row) (marks_in r.kept) n watched after) (sym free) rewatch);
       }
 
       pub row_more : PutsAt cmp key (Some r) (row_at cmp used old) (row_at cmp used_after new)
@@ -205,9 +188,9 @@ module _ {Key Kept : Type 0} (cmp : Key → Key → Ordering) (total : IsTotalOr
             left_key k (λ is. ne.1 (some_is i n (sym at ∙ ap (number_at cmp used) is ∙ number))) ∙ at
       ]
 
-      pub tied_less : Rewatches mark_cmp (λ mark. false) n watched after → AreTied cmp marks_in used_after new after
+      pub tied_less : Rewatches (marks_of marks_in (kept_at old n)) [] n watched after → AreTied cmp marks_in used_after new after
       tied_less rewatch = record {
         rows_of = rows_left;
         numbers = numbers_left;
-        watch = watch_put old new watched after n None tied.watch put_row (λ mark. false) rewatch (λ mark. refl);
+        watch = watch_put old new watched after n None tied.watch put_row rewatch;
       }

@@ -1,8 +1,6 @@
 -- Users that are counted, and rows that stand while they are.
-use Rattle.std.proofs.Common.{◌≡◌, inl, inr, ℕ, ◌+◌, ◌-◌, Bool, true, false, cond, List, Option, Some, None, Result, Ok, Err, OnOk, ltb, refl, sym, ap, subst, ◌∙◌, arith}
+use Rattle.std.proofs.Common.{◌≡◌, inl, inr, ℕ, ◌+◌, ◌-◌, Bool, true, false, cond, List, Option, Some, None, Result, Ok, Err, IfOk, OnOk, ltb, refl, sym, ap, subst, ◌∙◌, arith}
 use Rattle.std.specs.Prelude.{option_map}
-use Rattle.std.specs.BTreeMap.{BTreeMap}
-use Rattle.std.specs.BTreeSet.{BTreeSet}
 use Rattle.std.specs.Cmp.{IsTotalOrder}
 use Rattle.std.specs.FinMap.{IsAntisymmetric, nat_cmp-IsAntisymmetric}
 use Rattle.std.specs.Ordering.{eq_by_cmp, nat_cmp}
@@ -19,12 +17,21 @@ use Rattle.row_table.specs.TableRows.{AllStand, AreTied, StandsAt, kept_at, kept
 use Rattle.row_table.specs.declared.key_numbers.KeyNumbers.{KeyNumbers}
 use Rattle.row_table.specs.declared.key_numbers.UsedKey.{UsedKey}
 use Rattle.row_table.specs.declared.table_rows.KeptRow.{KeptRow}
+use Rattle.row_table.specs.declared.watched_marks.WatchedMarks.{WatchedMarks}
 use Rattle.row_table.proofs.Keys.{tells}
 use Rattle.row_table.proofs.Puts.{none_is_not_some, put_here, put_other, puts, some_is}
 
 pub ok_then : {A E P Q : Type 0} (r : Result A E) → OnOk r P → (P → Q) → OnOk r Q
 ok_then (Ok a) p f = f p
 ok_then (Err e) p f = tt
+
+pub if_ok_then : {A E : Type 0} {P Q : A → Type 0} (r : Result A E) → IfOk r P → ((a : A) → P a → Q a) → IfOk r Q
+if_ok_then (Ok a) p f = f a p
+if_ok_then (Err e) p f = tt
+
+pub ok_with : {A E P : Type 0} (r : Result A E) → P → OnOk r P
+ok_with (Ok a) p = p
+ok_with (Err e) p = tt
 
 pub number_more : (o : Option UsedKey) → number_in (option_map one_more o) ≡ number_in o
 number_more None = refl
@@ -145,7 +152,7 @@ module _ {Key Kept : Type 0} (keeps : ObjectMap → Key → Kept → Type 0) (he
                 (λ is. ne (some_is k key (sym (own k i e) ∙ ap (λ i. key_in (kept_at old i)) is ∙ own key n number)))
 
 -- a key for which nothing is kept has no users
-pub no_users : {Key Kept : Type 0} (cmp : Key → Key → Ordering) (marks_in : Kept → List Mark) (used : KeyNumbers Key) (rows : Slab (KeptRow Key Kept)) (watched : BTreeMap ℕ (BTreeSet Mark)) → AreTied cmp marks_in used rows watched
+pub no_users : {Key Kept : Type 0} (cmp : Key → Key → Ordering) (marks_in : Kept → List Mark) (used : KeyNumbers Key) (rows : Slab (KeptRow Key Kept)) (watched : WatchedMarks) → AreTied cmp marks_in used rows watched
     → (key : Key) → kept_in (row_at cmp used rows key) ≡ None → users_in (used_at cmp used key) ≡ 0
 no_users {Key} {Kept} cmp marks_in used rows watched tied key none = by (used_at cmp used key) (tied.rows_of key) none
   where

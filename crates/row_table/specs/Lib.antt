@@ -1,3 +1,4 @@
+pub mod AtMarks
 pub mod IndexRows
 pub mod KeyNumbers
 pub mod MarksAfter

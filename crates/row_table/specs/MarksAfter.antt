@@ -11,4 +11,4 @@ use Rattle.row_table.specs.declared.row_rule.MarksAfter.TheVariants.{Same, Moved
 abbrev pub MarksFollow : MarksAfter → List Mark → List Mark → Type 0
 MarksFollow Same old new = HaveSame new old
 MarksFollow (Moved moves) old new = (mark : Mark) → has_mark new mark ≡ has_after mark_cmp moves (has_mark old) mark
-MarksFollow Other old new = Unit {0}
+MarksFollow (Other before) old new = before ≡ old

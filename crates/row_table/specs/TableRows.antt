@@ -1,33 +1,23 @@
 -- The parts of a table: the number of each key, the row of each number, and its watched marks.
 use Rattle.std.specs.Prelude.{◌≡◌, ◌<◌, ℕ, Bool, true, false, List, [], Option, Some, None, option_map}
-use Rattle.std.specs.BTreeMap.{BTreeMap}
-use Rattle.std.specs.BTreeSet.{BTreeSet}
 use Rattle.std.specs.List.{filter_map}
 use Rattle.std.specs.declared.cmp.Ordering.{Ordering}
 use Rattle.slab.specs.Slab.{Slab, get}
 use Rattle.view_types.specs.Objects.{ObjectMap}
 use Rattle.view_types.specs.declared.mark.Mark.{Mark}
-use Rattle.mark_graph.specs.Moves.{has_after}
-use Rattle.mark_graph.specs.RowMarks.{Rewatches, has_row, watches}
+use Rattle.mark_graph.specs.RowMarks.{has_row}
 use Rattle.mark_rules.specs.Changes.{Leads}
-use Rattle.mark_rules.specs.Marks.{has_mark, mark_cmp}
+use Rattle.row_table.specs.AtMarks.{Watches}
 use Rattle.row_table.specs.KeyNumbers.{number_at, used_at}
 use Rattle.row_table.specs.declared.key_numbers.KeyNumbers.{KeyNumbers}
 use Rattle.row_table.specs.declared.key_numbers.UsedKey.{UsedKey}
-use Rattle.row_table.specs.declared.row_rule.MarksAfter.{MarksAfter}
-use Rattle.row_table.specs.declared.row_rule.MarksAfter.TheVariants.{Same, Moved, Other}
 use Rattle.row_table.specs.declared.table_rows.KeptRow.{KeptRow}
+use Rattle.row_table.specs.declared.watched_marks.WatchedMarks.{WatchedMarks}
 
 -- the number of a row, if there is one, is among these
 abbrev pub is_among : List ℕ → Option ℕ → Bool
 is_among numbers None = false
 is_among numbers (Some n) = has_row n numbers
-
--- the number watches these marks, unless they are reported as the same
-abbrev pub Rewatched : MarksAfter → List Mark → ℕ → BTreeMap ℕ (BTreeSet Mark) → BTreeMap ℕ (BTreeSet Mark) → Type 0
-Rewatched Same marks n old new = new ≡ old
-Rewatched (Moved moves) marks n old new = Rewatches mark_cmp (has_after mark_cmp moves (watches mark_cmp old n)) n old new
-Rewatched Other marks n old new = Rewatches mark_cmp (has_mark marks) n old new
 
 module _ {Key Kept : Type 0} where
   abbrev pub key_in : Option (KeptRow Key Kept) → Option Key
@@ -54,6 +44,10 @@ module _ {Key Kept : Type 0} where
   row_of rows None = None
   row_of rows (Some n) = kept_at rows n
 
+  -- each number watches the marks of its row
+  abbrev pub WatchTheirs : (Kept → List Mark) → Slab (KeptRow Key Kept) → WatchedMarks → Type 0
+  WatchTheirs marks_in rows watched = (n : ℕ) → Watches watched n (marks_of marks_in (kept_at rows n))
+
   -- the keys of the rows with these numbers
   abbrev pub keys_of : Slab (KeptRow Key Kept) → List ℕ → List Key
   keys_of rows numbers = filter_map (λ n. key_in (kept_at rows n)) numbers
@@ -63,12 +57,12 @@ module _ {Key : Type 0} (cmp : Key → Key → Ordering) where
   abbrev pub row_at : {Kept : Type 0} → KeyNumbers Key → Slab (KeptRow Key Kept) → Key → Option (KeptRow Key Kept)
   row_at used rows key = row_of rows (number_at cmp used key)
 
-  -- Each key with users has its own number. The row of a key is at its number, for which the graph
-  -- watches the marks of the row.
-  pub record AreTied {Kept : Type 0} (marks_in : Kept → List Mark) (used : KeyNumbers Key) (rows : Slab (KeptRow Key Kept)) (watched : BTreeMap ℕ (BTreeSet Mark)) : Type 0 where
+  -- Each key with users has its own number. The row of a key is at its number, which watches the
+  -- marks of the row.
+  pub record AreTied {Kept : Type 0} (marks_in : Kept → List Mark) (used : KeyNumbers Key) (rows : Slab (KeptRow Key Kept)) (watched : WatchedMarks) : Type 0 where
     pub rows_of : (key : Key) (n : ℕ) → number_at cmp used key ≡ Some n → key_in (kept_at rows n) ≡ Some key
     pub numbers : (n : ℕ) (key : Key) → key_in (kept_at rows n) ≡ Some key → number_at cmp used key ≡ Some n
-    pub watch : (n : ℕ) (mark : Mark) → watches mark_cmp watched n mark ≡ has_mark (marks_of marks_in (kept_at rows n)) mark
+    pub watch : WatchTheirs marks_in rows watched
 
 module _ {Key Kept : Type 0} (keeps : ObjectMap → Key → Kept → Type 0) where
   -- a key with users has its own row, which is valid for the objects held

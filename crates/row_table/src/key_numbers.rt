@@ -11,7 +11,7 @@ use std::hash::{BuildHasherDefault, FoldHasher, Hash};
 /// The number and the users of a key.
 #[derive(Drop)]
 pub struct UsedKey {
-    /// The number of the key's row in the graph.
+    /// The number of the key's row.
     pub number: u64,
     pub users: u64,
 }

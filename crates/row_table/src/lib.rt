@@ -11,6 +11,7 @@ pub mod peeked;
 pub mod plain_row;
 pub mod row_index;
 pub mod row_rule;
+pub mod rows_at_marks;
 pub mod table;
 pub mod table_rows;
-mod watching;
+pub mod watched_marks;

@@ -7,6 +7,7 @@ ghost use Rattle.row_table.specs.IndexRows.{Filter, IsRow};
 ghost use Rattle.row_table.specs.RowLaws.{found_stays};
 
 use crate::row_rule::{Followed, MarksAfter, RowRule, StoreChange};
+use crate::rows_at_marks::RowsAtMarks;
 use mesh_base::copied::Copied;
 use mesh_base::list::List;
 use mesh_base::memory::Memory;
@@ -14,6 +15,7 @@ use mesh_base::steps::Steps;
 use object_store::store::Store;
 use std::alloc::Global;
 use std::hash::Hash;
+use std::mem;
 use view_types::mark::Mark;
 
 /// A row and the marks that it reads.
@@ -101,10 +103,11 @@ impl<F: RowFinder> RowRule for FindAnew<F> {
         _notes: &mut (),
         steps: &mut Steps<L>,
     ) -> Result<Followed, Memory> {
-        *kept = self.finder.find(after.alloc, after.store, key, steps)?;
+        let found = self.finder.find(after.alloc, after.store, key, steps)?;
+        let before = mem::replace(kept, found);
         Ok(Followed {
             differs: true,
-            marks: MarksAfter::Other,
+            marks: MarksAfter::Other(before.marks),
         })
     }
 
@@ -118,6 +121,18 @@ impl<F: RowFinder> RowRule for FindAnew<F> {
 
     fn marks(alloc: Global, kept: &PlainRow<F::Row>) -> Result<List<Mark>, Memory> {
         kept.marks.copy(alloc)
+    }
+
+    fn watch(
+        kept: &PlainRow<F::Row>,
+        at_marks: &mut RowsAtMarks,
+        number: u64,
+    ) -> Result<(), Memory> {
+        at_marks.put(kept.marks.as_slice(), number)
+    }
+
+    fn unwatch(kept: &PlainRow<F::Row>, at_marks: &mut RowsAtMarks, number: u64) {
+        at_marks.take(kept.marks.as_slice(), number);
     }
 
     ghost shows = { λ rule held key kept stands. stands };

@@ -4,11 +4,14 @@ ghost use Rattle.std.specs.FinMap.{IsAntisymmetric};
 ghost use Rattle.view_types.specs.Objects.{ObjectMap};
 ghost use Rattle.view_types.specs.declared.mark.Mark.{Mark};
 ghost use Rattle.mark_rules.specs.Changes.{Leads};
+ghost use Rattle.mark_rules.specs.Marks.{has_mark};
 ghost use Rattle.mark_rules.specs.Reads.{cost};
 ghost use Rattle.object_store.specs.declared.change.Change.{Change};
+ghost use Rattle.row_table.specs.AtMarks.{AddsAt, RemovesAt};
 ghost use Rattle.row_table.specs.IndexRows.{Filter, KeptShows, KeptStays};
 ghost use Rattle.row_table.specs.MarksAfter.{MarksFollow};
 
+use crate::rows_at_marks::RowsAtMarks;
 use mark_graph::moves::MarkMoves;
 use mesh_base::copied::Copied;
 use mesh_base::list::List;
@@ -35,8 +38,8 @@ pub enum MarksAfter {
     Same,
     /// The marks of before, with these removed and added.
     Moved(MarkMoves<Mark>),
-    /// Possibly other marks.
-    Other,
+    /// Possibly other marks than those of before, which are these.
+    Other(List<Mark>),
 }
 
 /// The result of the update of a row for a change.
@@ -130,6 +133,15 @@ pub trait RowRule: Drop {
     /// Returns the marks in a kept value as a list.
     fn marks(alloc: Global, kept: &Self::Kept) -> Result<List<Mark>, Memory>
         ensures { IfOk result (λ marks. marks ≡ marks_in kept.now) };
+
+    /// Adds the row with this number at the marks in its kept value.
+    fn watch(kept: &Self::Kept, at_marks: &mut RowsAtMarks, number: u64) -> Result<(), Memory>
+        ensures { OnOk result
+            (AddsAt (has_mark (marks_in kept.now)) number at_marks.old at_marks.new) };
+
+    /// Removes the row with this number from the marks in its kept value.
+    fn unwatch(kept: &Self::Kept, at_marks: &mut RowsAtMarks, number: u64)
+        ensures { RemovesAt (has_mark (marks_in kept.now)) number at_marks.old at_marks.new };
 
     /// A valid kept value has the row of its key and the marks that the row reads.
     ghost shows: { (rule : Self) → KeptShows (filter rule) (keeps rule) row_in marks_in };

@@ -30,7 +30,7 @@ pub struct RowTable<F: RowRule> {
     spent: bool,
     alloc: Global,
     ghost tied: { spent ≡ false → AreTied F.Key.Ord.cmp F.marks_in table.used table.rows
-        table.graph.rows },
+        table.watched },
 }
 
 impl<F: RowRule> RowTable<F> {

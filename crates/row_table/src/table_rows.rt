@@ -1,4 +1,4 @@
-// The rows of a table, each with its number in the graph.
+// The rows of a table, each with its number.
 ghost use Rattle.std.specs.Prelude.{◌≡◌, ◌≤◌, ◌+◌, ◌++◌, ◌∷◌, ℕ, List, Option, [], false, Some, None, IfOk, OnOk, if◌then◌else◌, is_some, nat_lt, option_map};
 ghost use Rattle.std.specs.List.{sum_by};
 ghost use Rattle.std.specs.Option.{option_copied, option_to_list};
@@ -8,12 +8,11 @@ ghost use Rattle.mark_graph.specs.RowMarks.{has_row};
 ghost use Rattle.mark_rules.specs.Reads.{cost};
 ghost use Rattle.row_table.specs.IndexRows.{AreMet, DifferAmong, KeepNumbers, OneMore, has_key};
 ghost use Rattle.row_table.specs.KeyNumbers.{PutsAt, number_at, one_less, one_more, used_at, users_in};
-ghost use Rattle.row_table.specs.TableRows.{AllStand, AreTied, Follow, Rewatched, kept_at, key_in, keys_of, marks_of, row_at, shown_in};
+ghost use Rattle.row_table.specs.TableRows.{AllStand, AreTied, Follow, kept_at, key_in, keys_of, marks_of, row_at, shown_in};
 
 use crate::key_numbers::KeyNumbers;
-use crate::row_rule::{Followed, MarksAfter, RowRule, StoreChange};
-use crate::watching::{due, move_marks, new_graph, unwatch, watch};
-use mark_graph::graph::Graph;
+use crate::row_rule::{RowRule, StoreChange};
+use crate::watched_marks::WatchedMarks;
 use mesh_base::copied::Copied;
 use mesh_base::list::List;
 use mesh_base::memory::Memory;
@@ -21,7 +20,6 @@ use mesh_base::steps::Steps;
 use object_store::store::Store;
 use slab::Slab;
 use std::alloc::Global;
-use view_types::mark::Mark;
 
 /// A row and its key, kept while the key has users.
 #[derive(Drop)]
@@ -30,13 +28,13 @@ pub struct KeptRow<K, T> {
     pub kept: T,
 }
 
-/// The keys that have users, the row of each key by its number, and the marks that each number
-/// watches. A change finds its rows by number, without a search by key.
+/// The keys that have users, the row of each key by its number, and the numbers of the rows at each
+/// mark. A change finds its rows by number, without a search by key.
 #[derive(Drop)]
 pub struct TableRows<F: RowRule> {
     pub used: KeyNumbers<F::Key>,
     pub rows: Slab<KeptRow<F::Key, F::Kept>>,
-    pub graph: Graph<Mark>,
+    pub watched: WatchedMarks,
     /// The keys whose rows may differ from those before the last change.
     pub differing: List<F::Key>,
     /// The numbers of the rows that read a mark of the last change, ascending.
@@ -54,12 +52,12 @@ pub struct RuleChange<'a, F: RowRule> {
 impl<F: RowRule> TableRows<F> {
     pub fn new(alloc: Global) -> TableRows<F>
         ensures none { (key : F.Key) → used_at F.Key.Ord.cmp result.used key ≡ None }
-        ensures tied { AreTied F.Key.Ord.cmp F.marks_in result.used result.rows result.graph.rows }
+        ensures tied { AreTied F.Key.Ord.cmp F.marks_in result.used result.rows result.watched }
     {
         TableRows {
             used: KeyNumbers::new(alloc),
             rows: Slab::new(alloc),
-            graph: new_graph(alloc),
+            watched: WatchedMarks::new(alloc),
             differing: List::new(alloc),
             met: List::new(alloc),
             alloc,
@@ -76,7 +74,7 @@ impl<F: RowRule> TableRows<F> {
     ) -> Result<(), Memory>
         requires going { store.now.spent ≡ false }
         requires tied { AreTied F.Key.Ord.cmp F.marks_in self.old.used self.old.rows
-            self.old.graph.rows }
+            self.old.watched }
         ensures users { OnOk result (OneMore F.Key.Ord.cmp key
             (λ k. users_in (used_at F.Key.Ord.cmp self.old.used k))
             (λ k. users_in (used_at F.Key.Ord.cmp self.new.used k))) }
@@ -86,7 +84,7 @@ impl<F: RowRule> TableRows<F> {
         ensures numbers { OnOk result (KeepNumbers (number_at F.Key.Ord.cmp self.old.used)
             (number_at F.Key.Ord.cmp self.new.used)) }
         ensures tied { OnOk result (AreTied F.Key.Ord.cmp F.marks_in self.new.used self.new.rows
-            self.new.graph.rows) }
+            self.new.watched) }
         ensures steps { steps.new ≤ steps.old
             + (if nat_lt 0 (users_in (used_at F.Key.Ord.cmp self.old.used key)) then 0
             else cost store.now.objects ((F.filter rule.now).reads store.now.objects key)) }
@@ -107,8 +105,8 @@ impl<F: RowRule> TableRows<F> {
             (used_at F.Key.Ord.cmp self.old.used) (used_at F.Key.Ord.cmp self.new.used)) }
         ensures same { self.new.rows ≡ self.old.rows }
         ensures tied { AreTied F.Key.Ord.cmp F.marks_in self.old.used self.old.rows
-            self.old.graph.rows → OnOk result (AreTied F.Key.Ord.cmp F.marks_in
-            self.new.used self.new.rows self.new.graph.rows) }
+            self.old.watched → OnOk result (AreTied F.Key.Ord.cmp F.marks_in
+            self.new.used self.new.rows self.new.watched) }
     {
         self.used.add_user(key)
     }
@@ -117,7 +115,7 @@ impl<F: RowRule> TableRows<F> {
     fn add_row(&mut self, key: F::Key, kept: F::Kept) -> Result<(), Memory>
         requires none { used_at F.Key.Ord.cmp self.old.used key ≡ None }
         requires tied { AreTied F.Key.Ord.cmp F.marks_in self.old.used self.old.rows
-            self.old.graph.rows }
+            self.old.watched }
         ensures put { OnOk result (PutsAt F.Key.Ord.cmp key
             (Some (record { number = self.old.rows.vacant_key; users = 1 }))
             (used_at F.Key.Ord.cmp self.old.used) (used_at F.Key.Ord.cmp self.new.used)) }
@@ -126,12 +124,11 @@ impl<F: RowRule> TableRows<F> {
             (row_at F.Key.Ord.cmp self.old.used self.old.rows)
             (row_at F.Key.Ord.cmp self.new.used self.new.rows)) }
         ensures tied { OnOk result (AreTied F.Key.Ord.cmp F.marks_in self.new.used self.new.rows
-            self.new.graph.rows) }
+            self.new.watched) }
     {
-        let marks = F::marks(self.alloc, &kept)?;
         let own = key.copy(self.alloc)?;
         let number = self.rows.insert(KeptRow { key: own, kept })? as u64;
-        watch(&mut self.graph, number, marks)?;
+        self.watched.add(number)?;
         self.used.insert(key, number)
     }
 
@@ -144,8 +141,8 @@ impl<F: RowRule> TableRows<F> {
             self.old.used self.old.rows → AllStand (F.keeps rule) F.Key.Ord.cmp held self.new.used
             self.new.rows }
         ensures tied { AreTied F.Key.Ord.cmp F.marks_in self.old.used self.old.rows
-            self.old.graph.rows → AreTied F.Key.Ord.cmp F.marks_in self.new.used
-            self.new.rows self.new.graph.rows }
+            self.old.watched → AreTied F.Key.Ord.cmp F.marks_in self.new.used
+            self.new.rows self.new.watched }
     {
         if let Some(number) = self.used.take_user(key) {
             self.remove_row(key, number);
@@ -159,19 +156,20 @@ impl<F: RowRule> TableRows<F> {
             (used_at F.Key.Ord.cmp self.new.used) }
         ensures rows { PutsAt nat_cmp number None (kept_at self.old.rows) (kept_at self.new.rows) }
         ensures tied { AreTied F.Key.Ord.cmp F.marks_in self.old.used self.old.rows
-            self.old.graph.rows → AreTied F.Key.Ord.cmp F.marks_in self.new.used
-            self.new.rows self.new.graph.rows }
+            self.old.watched → AreTied F.Key.Ord.cmp F.marks_in self.new.used
+            self.new.rows self.new.watched }
     {
         self.used.remove(key);
-        self.rows.try_remove(number as usize);
-        unwatch(&mut self.graph, number);
+        if let Some(row) = self.rows.try_remove(number as usize) {
+            self.watched.unwatch::<F>(&row.kept, number);
+        }
     }
 
     /// Updates the rows that read a mark of a change. `met_keys` returns their keys.
     pub fn follow<L>(&mut self, by: &RuleChange<F>, steps: &mut Steps<L>) -> Result<(), Memory>
         requires going { by.now.after.store.now.spent ≡ false }
         requires tied { AreTied F.Key.Ord.cmp F.marks_in self.old.used self.old.rows
-            self.old.graph.rows }
+            self.old.watched }
         ensures keys { OnOk result (AreMet F.Key.Ord.cmp by.now.after.change.now.marks
             (λ key. marks_of F.marks_in (row_at F.Key.Ord.cmp self.old.used self.old.rows key))
             (keys_of self.new.rows self.new.met)) }
@@ -189,13 +187,15 @@ impl<F: RowRule> TableRows<F> {
             → number_at F.Key.Ord.cmp self.old.used k ≡ Some n → has_row n self.new.met
             ≡ has_key F.Key.Ord.cmp (keys_of self.new.rows self.new.met) k) }
         ensures tied { OnOk result (AreTied F.Key.Ord.cmp F.marks_in self.new.used self.new.rows
-            self.new.graph.rows) }
+            self.new.watched) }
         ensures steps { OnOk result (steps.new ≤ steps.old + sum_by
             (λ key. cost by.now.after.store.now.objects
             ((F.filter by.now.rule.now).reads by.now.after.store.now.objects key))
             (keys_of self.new.rows self.new.met)) }
     {
-        let numbers = due(&mut self.graph, by.after.change.marks.as_slice())?;
+        let numbers = self
+            .watched
+            .due::<F>(&self.rows, by.after.change.marks.as_slice())?;
         let mut notes = by.rule.no_notes(self.alloc);
         self.differing = List::new(self.alloc);
         for number in numbers.as_slice() {
@@ -217,7 +217,7 @@ impl<F: RowRule> TableRows<F> {
         requires notes { F.notes_hold by.now.rule.now by.now.after.store.now.objects
             by.now.after.change.now notes.old }
         requires tied { AreTied F.Key.Ord.cmp F.marks_in self.old.used self.old.rows
-            self.old.graph.rows }
+            self.old.watched }
         ensures rows { OnOk result (Follow (F.keeps by.now.rule.now) F.tells
             by.now.after.change.now.marks by.now.after.store.now.objects (has_key F.Key.Ord.cmp
             (option_to_list (key_in (kept_at self.old.rows number))))
@@ -233,7 +233,7 @@ impl<F: RowRule> TableRows<F> {
         ensures notes { OnOk result (F.notes_hold by.now.rule.now by.now.after.store.now.objects
             by.now.after.change.now notes.new) }
         ensures tied { OnOk result (AreTied F.Key.Ord.cmp F.marks_in self.new.used self.new.rows
-            self.new.graph.rows) }
+            self.new.watched) }
         ensures used { self.new.used ≡ self.old.used }
         ensures same { OnOk result ((n : ℕ) → key_in (kept_at self.new.rows n)
             ≡ key_in (kept_at self.old.rows n)) }
@@ -247,13 +247,8 @@ impl<F: RowRule> TableRows<F> {
                 let followed = by
                     .rule
                     .follow(&by.after, &row.key, &mut row.kept, notes, steps)?;
-                rewatch::<F>(
-                    self.alloc,
-                    &mut self.graph,
-                    number,
-                    followed.marks,
-                    &row.kept,
-                )?;
+                self.watched
+                    .rewatch::<F>(number, followed.marks, &row.kept)?;
                 note_differing(self.alloc, &mut self.differing, &row.key, followed.differs)
             }
             None => Ok(()),
@@ -284,24 +279,6 @@ fn add_key<K: Copied, T>(
     match row {
         Some(row) => keys.add(row.key.copy(alloc)?),
         None => Ok(()),
-    }
-}
-
-// Updates the marks that the number of a row watches, unless they are the same.
-fn rewatch<F: RowRule>(
-    alloc: Global,
-    graph: &mut Graph<Mark>,
-    number: u64,
-    marks: MarksAfter,
-    kept: &F::Kept,
-) -> Result<(), Memory>
-    ensures { OnOk result
-        (Rewatched marks (F.marks_in kept.now) number graph.old.rows graph.new.rows) }
-{
-    match marks {
-        MarksAfter::Same => Ok(()),
-        MarksAfter::Moved(moves) => move_marks(graph, number, moves),
-        MarksAfter::Other => watch(graph, number, F::marks(alloc, kept)?),
     }
 }
 

@@ -17,6 +17,7 @@ use mesh_base::steps::Steps;
 use object_store::store::Store;
 use policy_rows::snapshot::Snapshot;
 use row_table::row_rule::{Followed, MarksAfter, RowRule, StoreChange};
+use row_table::rows_at_marks::RowsAtMarks;
 use std::alloc::Global;
 use view_types::config::Config;
 use view_types::mark::Mark;
@@ -102,6 +103,14 @@ impl RowRule for ServerRule {
 
     fn marks(alloc: Global, kept: &KeptServer) -> Result<List<Mark>, Memory> {
         kept.marks.copy(alloc)
+    }
+
+    fn watch(kept: &KeptServer, at_marks: &mut RowsAtMarks, number: u64) -> Result<(), Memory> {
+        at_marks.put(kept.marks.as_slice(), number)
+    }
+
+    fn unwatch(kept: &KeptServer, at_marks: &mut RowsAtMarks, number: u64) {
+        at_marks.take(kept.marks.as_slice(), number);
     }
 
     ghost shows = { λ rule. stands_show rule.config };

@@ -2,7 +2,7 @@
 use Rattle.std.proofs.Common.{◌≡◌, Bool, true, false, cond, not, ◌&&◌, ◌||◌, List, [], ◌∷◌, ◌++◌, Option, Some, refl, sym, ap, ◌∙◌}
 use Rattle.std.proofs.lemmas.List.Folds.{list_any-append}
 use Rattle.std.specs.BTreeMap as tree
-use Rattle.std.specs.Cmp.{Equal-is}
+use Rattle.std.specs.Cmp.{Equal-is, eq_by_cmp_equiv}
 use Rattle.std.specs.List.{filter, list_any, slice_get}
 use Rattle.std.specs.Map.{keys_of, lookup}
 use Rattle.std.specs.Option.{is_some}
@@ -10,7 +10,7 @@ use Rattle.std.specs.Ordering.{is_eq}
 use Rattle.key_lists.specs.Keys.{has_key, is_key, key_at, keys_at, listed}
 use Rattle.mark_graph.specs.Moves.{has_after}
 use Rattle.mark_graph.specs.declared.moves.MarkMoves.{MarkMoves}
-use Rattle.mark_rules.proofs.MarkOrder.{marks_exact}
+use Rattle.mark_rules.proofs.MarkOrder.{marks_exact, marks_total}
 use Rattle.mark_rules.proofs.MarkTests.{neither_first, neither_second}
 use Rattle.mark_rules.specs.Marks.{has_mark, mark_cmp, same_mark}
 use Rattle.mesh_base.specs.declared.key.ObjKey.{ObjKey}
@@ -124,6 +124,43 @@ module _ (p : Mark → Bool) where
   pub has_passing : (xs : List Mark) (m : Mark) → has_mark (filter p xs) m ≡ (has_mark xs m && p m)
   has_passing [] m = refl
   has_passing (x ∷ xs) m = has_cond (p x) m x (filter p xs) ∙ passing m x xs refl (same_mark m x) (p x) refl refl (has_mark (filter p xs) m) (has_mark xs m) (has_passing xs m)
+
+  -- ---- a row at the marks that pass
+
+  module _ (m : Mark) (here : Bool) (x : Mark) (left rest : List Mark) (all old new : Bool) (is : left ≡ x ∷ rest) where
+    has_first : has_mark (filter p left) m ≡ ((p x && same_mark x m) || has_mark (filter p rest) m)
+    has_first = ap (λ xs. has_mark (filter p xs) m) is ∙ has_cond (p x) m x (filter p rest) ∙ (λ i. cond (p x) (flipped i || has_mark (filter p rest) m) (has_mark (filter p rest) m)) ∙ by_cases (p x)
+      where
+        flipped : same_mark m x ≡ same_mark x m
+        flipped = (eq_by_cmp_equiv marks_total).symm m x
+
+        by_cases : (b : Bool) → cond b (same_mark x m || has_mark (filter p rest) m) (has_mark (filter p rest) m) ≡ ((b && same_mark x m) || has_mark (filter p rest) m)
+        by_cases true = refl
+        by_cases false = refl
+
+    -- the row is put at the first mark that is left
+    pub put_next : new ≡ (((p x && same_mark x m) && here) || old) → ((has_mark (filter p left) m && here) || old) ≡ all → ((has_mark (filter p rest) m && here) || new) ≡ all
+    put_next put before = ap (λ b. (has_mark (filter p rest) m && here) || b) put ∙ by_cases (p x && same_mark x m) (has_mark (filter p rest) m) here ∙ ap (λ b. (b && here) || old) (sym has_first) ∙ before
+      where
+        by_cases : (a h e : Bool) → ((h && e) || ((a && e) || old)) ≡ (((a || h) && e) || old)
+        by_cases true true true = refl
+        by_cases true true false = refl
+        by_cases true false e = refl
+        by_cases false true true = refl
+        by_cases false true false = refl
+        by_cases false false e = refl
+
+    -- the row is taken from the first mark that is left
+    pub take_next : new ≡ (not ((p x && same_mark x m) && here) && old) → (not (has_mark (filter p left) m && here) && old) ≡ all → (not (has_mark (filter p rest) m && here) && new) ≡ all
+    take_next take before = ap (λ b. not (has_mark (filter p rest) m && here) && b) take ∙ by_cases (p x && same_mark x m) (has_mark (filter p rest) m) here ∙ ap (λ b. not (b && here) && old) (sym has_first) ∙ before
+      where
+        by_cases : (a h e : Bool) → (not (h && e) && (not (a && e) && old)) ≡ (not ((a || h) && e) && old)
+        by_cases true true true = refl
+        by_cases true true false = refl
+        by_cases true false e = refl
+        by_cases false true true = refl
+        by_cases false true false = refl
+        by_cases false false e = refl
 
 -- ---- the marks that are read
 

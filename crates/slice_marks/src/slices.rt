@@ -1,14 +1,17 @@
 //! The marks of slices by their keys, and the slices by those marks.
-ghost use Rattle.std.specs.Prelude.{◌≡◌, ◌++◌, ◌∷◌, [], IfOk, OnOk, true, not, filter, if◌then◌else◌};
+ghost use Rattle.std.specs.Prelude.{◌≡◌, ◌&&◌, ◌++◌, ◌∷◌, [], IfOk, OnOk, true, not, filter, if◌then◌else◌};
 ghost use Rattle.std.specs.BTreeMap.{btree_map_len};
 ghost use Rattle.mesh_base.specs.declared.key.ObjKey.{ObjKey};
 ghost use Rattle.key_lists.specs.Keys.{Rises, is_key, keys_at};
-ghost use Rattle.mark_rules.specs.Marks.{has_mark, mark_cmp};
+ghost use Rattle.mark_graph.specs.RowMarks.{AddsRow, RemovesRow};
+ghost use Rattle.mark_rules.specs.Marks.{has_mark, mark_cmp, same_mark};
 ghost use Rattle.slice_marks.specs.Marked.{Agree, Leaves, OthersStay, is_read, marks_at, marks_read};
 
 use crate::keys::{add_copy, keys_at, put_keys, take_keys};
 use key_lists::key_list::KeyList;
+use mark_graph::by_mark::{put_one, take_one};
 use mark_graph::moves::MarkMoves;
+use mark_graph::sorted_set::SortedSet;
 use mark_rules::marks::is_same_mark;
 use mesh_base::copied::Copied;
 use mesh_base::key::ObjKey;
@@ -86,6 +89,53 @@ impl SliceMarks {
             }
         }
         Ok(marks)
+    }
+
+    /// Adds a row at each mark that slices read.
+    pub fn put_row(&self, by: &mut BTreeMap<Mark, SortedSet<u64>>, row: u64) -> Result<(), Memory>
+        ensures { OnOk result
+            (AddsRow mark_cmp (has_mark (marks_read self.now.by_mark)) row by.old by.new) }
+    {
+        for mark in self.by_mark.keys() {
+            self.put_if_read(by, mark, row)?;
+        }
+        Ok(())
+    }
+
+    /// Removes a row from each mark that slices read.
+    pub fn take_row(&self, by: &mut BTreeMap<Mark, SortedSet<u64>>, row: u64)
+        ensures { RemovesRow mark_cmp (has_mark (marks_read self.now.by_mark)) row by.old by.new }
+    {
+        for mark in self.by_mark.keys() {
+            self.take_if_read(by, mark, row);
+        }
+    }
+
+    /// Adds a row at a mark, if slices read it.
+    fn put_if_read(
+        &self,
+        by: &mut BTreeMap<Mark, SortedSet<u64>>,
+        mark: &Mark,
+        row: u64,
+    ) -> Result<(), Memory>
+        ensures { OnOk result (AddsRow mark_cmp
+            (λ m. is_read self.now.by_mark mark.now && same_mark mark.now m) row by.old by.new) }
+    {
+        if !self.is_read(mark) {
+            return Ok(());
+        }
+        put_one(self.alloc, by, mark, row)?;
+        Ok(())
+    }
+
+    /// Removes a row from a mark, if slices read it.
+    fn take_if_read(&self, by: &mut BTreeMap<Mark, SortedSet<u64>>, mark: &Mark, row: u64)
+        ensures { RemovesRow mark_cmp
+            (λ m. is_read self.now.by_mark mark.now && same_mark mark.now m) row by.old by.new }
+    {
+        if self.is_read(mark) {
+            take_one(by, mark, row);
+        }
     }
 
     /// Sets the marks that the slice reads. Returns the marks that may have changed: all others are read as before. If one mark is added,

@@ -14,7 +14,7 @@ returns-in_err-kept-in-None-clause-steps g c =
     let key = c.args.key.now in
     let held = c.args.store.now.objects in
     let none : kept_in (row_at cmp self.table.used self.table.rows key) ≡ None = sym c.kept.ensures ∙ ap option_copied c.in-None.is in
-    let unused : users_in (used_at cmp self.table.used key) ≡ 0 = no_users cmp g.F.RowRule.marks_in self.table.used self.table.rows self.table.graph.rows (self.tied c.if-self.false) key none in
+    let unused : users_in (used_at cmp self.table.used key) ≡ 0 = no_users cmp g.F.RowRule.marks_in self.table.used self.table.rows self.table.watched (self.tied c.if-self.false) key none in
     subst (λ (n : ℕ). c.find.new.steps ≤ c.args.steps.now + cond (nat_lt 0 n) 0 (cost held ((g.F.RowRule.filter self.rule).reads held key))) (sym unused) c.find.ensures.steps
 
 pub returns-in_ok-kept-in-None-clause-steps : goal.returns-in_ok-kept-in-None-clause-steps
@@ -24,5 +24,5 @@ returns-in_ok-kept-in-None-clause-steps g c =
     let key = c.args.key.now in
     let held = c.args.store.now.objects in
     let none : kept_in (row_at cmp self.table.used self.table.rows key) ≡ None = sym c.kept.ensures ∙ ap option_copied c.in-None.is in
-    let unused : users_in (used_at cmp self.table.used key) ≡ 0 = no_users cmp g.F.RowRule.marks_in self.table.used self.table.rows self.table.graph.rows (self.tied c.if-self.false) key none in
+    let unused : users_in (used_at cmp self.table.used key) ≡ 0 = no_users cmp g.F.RowRule.marks_in self.table.used self.table.rows self.table.watched (self.tied c.if-self.false) key none in
     subst (λ (n : ℕ). c.find.new.steps ≤ c.args.steps.now + cond (nat_lt 0 n) 0 (cost held ((g.F.RowRule.filter self.rule).reads held key))) (sym unused) c.find.ensures.steps

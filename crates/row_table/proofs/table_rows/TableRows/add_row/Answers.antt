@@ -1,7 +1,4 @@
-use Rattle.std.proofs.Common.{Some, List, subst, refl}
-use Rattle.view_types.specs.declared.mark.Mark.{Mark}
-use Rattle.mark_graph.specs.RowMarks.{Rewatches}
-use Rattle.mark_rules.specs.Marks.{has_mark, mark_cmp}
+use Rattle.std.proofs.Common.{Some, subst, refl}
 use Rattle.row_table.specs.KeyNumbers.{PutsAt}
 use Rattle.row_table.specs.TableRows.{row_at}
 use Rattle.row_table.specs.declared.key_numbers.UsedKey.{UsedKey}
@@ -23,7 +20,7 @@ returns-clause-row g c =
     let row : KeptRow g.row.F-Key.Denot g.row.F-Kept.Denot = record { key = c.in_ok-own.own; kept = c.args.kept } in
     ok_then c.insert-2.result c.insert-2.ensures (λ put.
     subst (λ (own : g.row.F-Key.Denot). PutsAt cmp key (Some (record { key = own; kept = c.args.kept })) (row_at cmp self.used self.rows) (row_at cmp c.insert-2.new.self c.insert.new.self)) c.in_ok-own.ensures
-    (row_more cmp total exact g.F.RowRule.marks_in self.used c.insert-2.new.self self.rows c.insert.new.self self.graph.rows c.watch.new.graph.rows key c.requires.tied n c.in_ok-number.ensures.was_vacant at row refl c.in_ok-own.ensures c.requires.none put
+    (row_more cmp total exact g.F.RowRule.marks_in self.used c.insert-2.new.self self.rows c.insert.new.self self.watched c.add.new.self key c.requires.tied n c.in_ok-number.ensures.was_vacant at row refl c.in_ok-own.ensures c.requires.none put
     (updated n (Some row) self.rows c.insert.new.self c.in_ok-number.ensures.updates)))
 
 pub returns-clause-tied : goal.returns-clause-tied
@@ -37,9 +34,7 @@ returns-clause-tied g c =
     let n = c.in_ok-number.number in
     let at : UsedKey = record { number = n; users = 1 } in
     let row : KeptRow g.row.F-Key.Denot g.row.F-Kept.Denot = record { key = c.in_ok-own.own; kept = c.args.kept } in
-    let watched : Rewatches mark_cmp (has_mark (marks_in c.args.kept)) n self.graph.rows c.watch.new.graph.rows =
-    subst (λ (marks : List Mark). Rewatches mark_cmp (has_mark marks) n self.graph.rows c.watch.new.graph.rows) c.in_ok-marks.ensures c.in_ok-watch.ensures.watched in
     ok_then c.insert-2.result c.insert-2.ensures (λ put.
-    (tied_more cmp total exact marks_in self.used c.insert-2.new.self self.rows c.insert.new.self self.graph.rows c.watch.new.graph.rows key c.requires.tied n c.in_ok-number.ensures.was_vacant at row refl c.in_ok-own.ensures c.requires.none put
+    (tied_more cmp total exact marks_in self.used c.insert-2.new.self self.rows c.insert.new.self self.watched c.add.new.self key c.requires.tied n c.in_ok-number.ensures.was_vacant at row refl c.in_ok-own.ensures c.requires.none put
     (updated n (Some row) self.rows c.insert.new.self c.in_ok-number.ensures.updates)
-    watched))
+    (c.in_ok-add.ensures (marks_in c.args.kept))))

@@ -15,5 +15,5 @@ returns-clause-tied g c = λ tied.
     let new = c.add_user.new.self in
     let used = used_at cmp self.used key in
     ok_then c.add_user.result c.add_user.ensures.put (λ put.
-    tied_counted cmp total exact g.F.RowRule.marks_in self.used new self.rows self.graph.rows tied
+    tied_counted cmp total exact g.F.RowRule.marks_in self.used new self.rows self.watched tied
     (put_same cmp total exact key (option_map one_more used) (used_at cmp self.used) (used_at cmp new) put number_in (number_more used)))

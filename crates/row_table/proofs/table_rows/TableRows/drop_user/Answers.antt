@@ -14,7 +14,7 @@ returns-in_default-clause-tied g c = λ tied.
     let key = c.args.key.now in
     let new = c.take_user.new.self in
     let taken = rw c.in_default.is at c.take_user.ensures in
-    tied_counted cmp total exact g.F.RowRule.marks_in self.used new self.rows self.graph.rows tied
+    tied_counted cmp total exact g.F.RowRule.marks_in self.used new self.rows self.watched tied
     (put_same cmp total exact key (one_less (used_at cmp self.used key)) (used_at cmp self.used) (used_at cmp new) taken.0 number_in taken.1)
 
 pub returns-in_default-clause-stands : goal.returns-in_default-clause-stands
@@ -33,7 +33,7 @@ returns-in-Some-clause-tied g c = λ tied.
     let key = c.args.key.now in
     let new = c.take_user.new.self in
     let taken = rw c.in-Some.is at c.take_user.ensures in
-    c.remove_row.ensures.tied (tied_counted cmp total exact g.F.RowRule.marks_in self.used new self.rows self.graph.rows tied
+    c.remove_row.ensures.tied (tied_counted cmp total exact g.F.RowRule.marks_in self.used new self.rows self.watched tied
     (put_same cmp total exact key (used_at cmp self.used key) (used_at cmp self.used) (used_at cmp new) taken.0 number_in refl))
 
 pub returns-in-Some-clause-stands : goal.returns-in-Some-clause-stands

@@ -1,6 +1,4 @@
-use Rattle.std.proofs.Common.{◌≡◌, ◌≤◌, ◌+◌, ◌++◌, ◌∷◌, [], ℕ, false, List, Option, get_or, take, sym, ap, subst, ◌∙◌, refl, arith}
-use Rattle.std.specs.BTreeMap.{BTreeMap}
-use Rattle.std.specs.BTreeSet.{BTreeSet}
+use Rattle.std.proofs.Common.{◌≡◌, ◌≤◌, ◌+◌, ◌++◌, ◌∷◌, [], false, List, Option, get_or, take, sym, ap, subst, ◌∙◌, refl, arith}
 use Rattle.std.specs.List.{IsDistinct, sum_by}
 use Rattle.std.specs.List.Sorted.{IsStrictlySortedBy}
 use Rattle.std.specs.Option.{option_to_list}
@@ -12,7 +10,7 @@ use Rattle.mark_graph.specs.RowMarks.{has_row}
 use Rattle.mark_rules.specs.Reads.{cost}
 use Rattle.row_table.specs.IndexRows.{AreMet, DifferAmong, has_key}
 use Rattle.row_table.specs.KeyNumbers.{number_at}
-use Rattle.row_table.specs.TableRows.{AreTied, Follow, is_among, kept_at, key_in, keys_of, marks_of, row_at, shown_in}
+use Rattle.row_table.specs.TableRows.{Follow, is_among, kept_at, key_in, keys_of, marks_of, row_at, shown_in}
 use Rattle.row_table.specs.declared.table_rows.KeptRow.{KeptRow}
 use Rattle.row_table.proofs.Differing.{differ_none}
 use Rattle.row_table.proofs.Followed.{added_apart, all_met, among_start, among_step, follow_more, found_all, fresh_at, once_more}
@@ -30,10 +28,14 @@ loop-number-init g c =
     rw c.new.ensures (record {
       used = refl;
       keys = λ n. refl;
-      tied = subst (λ (watched : BTreeMap ℕ (BTreeSet Mark)). AreTied cmp g.F.RowRule.marks_in self.used self.rows watched) (sym c.in_ok-numbers.ensures.same) c.requires.tied;
+      tied = record {
+        rows_of = c.requires.tied.rows_of;
+        numbers = c.requires.tied.numbers;
+        watch = c.in_ok-numbers.ensures.watch c.requires.tied.watch;
+      };
       notes = c.no_notes-notes.ensures by.after.store.now.objects by.after.change.now;
       rows = λ k. refl;
-      among = among_start cmp total exact g.F.RowRule.marks_in self.used self.rows self.graph.rows c.requires.tied;
+      among = among_start cmp total exact g.F.RowRule.marks_in self.used self.rows self.watched c.requires.tied;
       differ = differ_none cmp (λ k. shown_in g.F.RowRule.row_in (row_at cmp self.used self.rows k));
       once = distinct_none cmp total exact;
       steps = omega arith;
@@ -77,13 +79,13 @@ loop-number-preserved g c =
       rows = subst All (sym is)
           (follow_more cmp total exact (g.F.RowRule.keeps by.rule.now) g.F.RowRule.tells by.after.change.now.marks by.after.store.now.objects found added start middle end so_far.rows
           (subst Followed same c.in_ok-follow_number.ensures.rows)
-          (added_apart cmp total exact marks_in self.used self.rows self.graph.rows c.requires.tied n (take i items) found so_far.among fresh));
+          (added_apart cmp total exact marks_in self.used self.rows self.watched c.requires.tied n (take i items) found so_far.among fresh));
       among = λ k. ap (λ keys. has_key cmp keys k) is
-          ∙ among_step cmp total exact marks_in self.used self.rows self.graph.rows c.requires.tied n (take i items) found so_far.among k
+          ∙ among_step cmp total exact marks_in self.used self.rows self.watched c.requires.tied n (take i items) found so_far.among k
           ∙ ap (λ numbers. is_among numbers (number_at cmp self.used k)) (sym taken);
       differ = subst (λ (keys : List g.row.F-Key.Denot). DifferAmong cmp keys c.follow_number.new.self.differing (shown start) (shown end)) (ap (λ more. found ++ more) same ∙ sym is)
           (c.in_ok-follow_number.ensures.differ (shown start) found so_far.differ);
-      once = subst (IsDistinct (eq_by_cmp cmp)) (sym is) (once_more cmp total exact marks_in self.used self.rows self.graph.rows c.requires.tied n (take i items) found so_far.among fresh so_far.once);
+      once = subst (IsDistinct (eq_by_cmp cmp)) (sym is) (once_more cmp total exact marks_in self.used self.rows self.watched c.requires.tied n (take i items) found so_far.among fresh so_far.once);
       steps = omega (arith, sums, before, more);
     }
 
@@ -102,8 +104,8 @@ returns-clause-keys g c =
     let same = found_all self.rows c.loop-number.self.rows so_far.keys (take i items) c.in_ok-numbers.numbers (all ∙ numbers) in
     subst (λ (keys : List g.row.F-Key.Denot). AreMet cmp c.args.by.now.after.change.now.marks (λ k. marks_of marks_in (row_at cmp self.used self.rows k)) keys) same
     (subst (λ (changed : List Mark). AreMet cmp changed (λ k. marks_of marks_in (row_at cmp self.used self.rows k)) (keys_of self.rows (take i items))) c.as_slice.ensures
-    (all_met cmp total exact marks_in self.used self.rows self.graph.rows c.requires.tied c.as_slice.result.now items (keys_of self.rows (take i items))
-    (λ n. ap (has_row n) numbers ∙ c.in_ok-numbers.ensures.due n)
+    (all_met cmp total exact marks_in self.used self.rows self.watched c.requires.tied c.as_slice.result.now items (keys_of self.rows (take i items))
+    (λ n. ap (has_row n) numbers ∙ c.in_ok-numbers.ensures.due c.requires.tied.watch n)
     (λ k. so_far.among k ∙ ap (λ numbers. is_among numbers (number_at cmp self.used k)) all)
     so_far.once))
 

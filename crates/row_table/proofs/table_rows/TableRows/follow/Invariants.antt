@@ -12,7 +12,7 @@ abbrev pub invariant-loop-number : goal.invariant-loop-number
 invariant-loop-number g l = record {
   used : l.self.used ≡ l.initial.self.used;
   keys : (n : ℕ) → key_in (kept_at l.self.rows n) ≡ key_in (kept_at l.initial.self.rows n);
-  tied : AreTied g.F.Key.Ord.cmp g.F.RowRule.marks_in l.self.used l.self.rows l.self.graph.rows;
+  tied : AreTied g.F.Key.Ord.cmp g.F.RowRule.marks_in l.self.used l.self.rows l.self.watched;
   notes : g.F.RowRule.notes_hold l.by.rule.now l.by.after.store.now.objects l.by.after.change.now l.notes;
   rows : Follow (g.F.RowRule.keeps l.by.rule.now) g.F.RowRule.tells l.by.after.change.now.marks l.by.after.store.now.objects (has_key g.F.Key.Ord.cmp (keys_of l.initial.self.rows (take l.number-index l.number-items))) (row_at g.F.Key.Ord.cmp l.initial.self.used l.initial.self.rows) (row_at g.F.Key.Ord.cmp l.self.used l.self.rows);
   among : (k : _) → has_key g.F.Key.Ord.cmp (keys_of l.initial.self.rows (take l.number-index l.number-items)) k ≡ is_among (take l.number-index l.number-items) (number_at g.F.Key.Ord.cmp l.initial.self.used k);

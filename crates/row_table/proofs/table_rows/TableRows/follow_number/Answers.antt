@@ -26,8 +26,8 @@ returns-in_ok-rewatch-in-Some-clause-tied g c =
     let put : PutsAt nat_cmp n (Some after) (kept_at self.rows) (kept_at new) =
     updated n (Some after) self.rows new (Updates-with_value self.rows n after (subst IsSome c.in-Some.ensures.value refl)) in
     ok_then c.note_differing.result c.note_differing.ensures (λ noted.
-    tied_followed cmp g.met.F.Key.Ord.total g.met.F.RowRule.exact g.F.RowRule.marks_in self.used self.rows new self.graph.rows c.rewatch.new.graph.rows n before after c.requires.tied there refl put
-    c.in_ok-followed-in-Some.followed.marks c.in_ok-followed-in-Some.ensures.marks c.in_ok-rewatch-in-Some.ensures)
+    tied_followed cmp g.met.F.Key.Ord.total g.met.F.RowRule.exact g.F.RowRule.marks_in self.used self.rows new self.watched c.rewatch.new.self n before after c.requires.tied there refl put
+    (c.in_ok-rewatch-in-Some.ensures (g.F.RowRule.marks_in before.kept) c.in_ok-followed-in-Some.ensures.marks))
 
 pub returns-in_ok-rewatch-in-Some-clause-same : goal.returns-in_ok-rewatch-in-Some-clause-same
 returns-in_ok-rewatch-in-Some-clause-same g c =
@@ -41,7 +41,7 @@ returns-in_ok-rewatch-in-Some-clause-same g c =
     let put : PutsAt nat_cmp n (Some after) (kept_at self.rows) (kept_at new) =
     updated n (Some after) self.rows new (Updates-with_value self.rows n after (subst IsSome c.in-Some.ensures.value refl)) in
     ok_then c.note_differing.result c.note_differing.ensures (λ noted.
-    keys_stay cmp g.met.F.Key.Ord.total g.met.F.RowRule.exact g.F.RowRule.marks_in self.used self.rows new self.graph.rows c.rewatch.new.graph.rows n before after c.requires.tied there refl put)
+    keys_stay cmp g.met.F.Key.Ord.total g.met.F.RowRule.exact g.F.RowRule.marks_in self.used self.rows new self.watched c.rewatch.new.self n before after c.requires.tied there refl put)
 
 pub returns-in_ok-rewatch-in-Some-clause-rows : goal.returns-in_ok-rewatch-in-Some-clause-rows
 returns-in_ok-rewatch-in-Some-clause-rows g c =
@@ -63,8 +63,8 @@ returns-in_ok-rewatch-in-Some-clause-rows g c =
     ok_then c.note_differing.result c.note_differing.ensures (λ noted.
     subst (λ (keys : List g.row.F-Key.Denot). Follow (g.F.RowRule.keeps by.rule.now) g.F.RowRule.tells by.after.change.now.marks by.after.store.now.objects (has_key cmp keys) start end) (ap (λ row. option_to_list (key_in row)) (sym there))
     (follow_put cmp total exact (g.F.RowRule.keeps by.rule.now) g.F.RowRule.tells by.after.change.now.marks by.after.store.now.objects before.key before after start end
-    (row_there cmp total exact marks_in self.used self.rows new self.graph.rows c.rewatch.new.graph.rows n before after c.requires.tied there refl put)
-    (row_put cmp total exact marks_in self.used self.rows new self.graph.rows c.rewatch.new.graph.rows n before after c.requires.tied there refl put)
+    (row_there cmp total exact marks_in self.used self.rows new self.watched c.rewatch.new.self n before after c.requires.tied there refl put)
+    (row_put cmp total exact marks_in self.used self.rows new self.watched c.rewatch.new.self n before after c.requires.tied there refl put)
     refl (λ held keeps leads. (c.in_ok-followed-in-Some.ensures.kept held keeps leads, c.in_ok-followed-in-Some.ensures.tells held keeps leads))))
 
 pub returns-in_ok-rewatch-in-Some-clause-differ : goal.returns-in_ok-rewatch-in-Some-clause-differ
@@ -89,8 +89,8 @@ returns-in_ok-rewatch-in-Some-clause-differ g c =
     let differs = c.in_ok-followed-in-Some.followed.differs in
     let stays : (k : g.row.F-Key.Denot) → (differs && eq_by_cmp cmp k key) ≡ false → shown_in row_in (end k) ≡ shown_in row_in (start k) =
     shown_put cmp total exact row_in key before after start end
-    (row_put cmp total exact marks_in self.used self.rows new self.graph.rows c.rewatch.new.graph.rows n before after c.requires.tied there refl put)
-    (row_there cmp total exact marks_in self.used self.rows new self.graph.rows c.rewatch.new.graph.rows n before after c.requires.tied there refl put)
+    (row_put cmp total exact marks_in self.used self.rows new self.watched c.rewatch.new.self n before after c.requires.tied there refl put)
+    (row_there cmp total exact marks_in self.used self.rows new self.watched c.rewatch.new.self n before after c.requires.tied there refl put)
     differs c.in_ok-followed-in-Some.ensures.row in
     ok_then c.note_differing.result c.note_differing.ensures (λ noted first found so_far.
     subst (λ (keys : List g.row.F-Key.Denot). DifferAmong cmp keys c.note_differing.new.differing first shown) (ap (λ row. found ++ option_to_list (key_in row)) (sym there))

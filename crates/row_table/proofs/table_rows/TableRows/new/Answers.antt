@@ -6,4 +6,4 @@ use Rattle.row_table.proofs.table_rows.TableRows.new.Goals as goal
 pub returns-clause-tied : goal.returns-clause-tied
 returns-clause-tied g c =
     let no_rows : (n : ℕ) → kept_at c.new-2.result n ≡ None = λ n. rw c.new-2.ensures.empty refl in
-    tied_empty g.F.Key.Ord.cmp g.met.F.Key.Ord.total g.met.F.RowRule.exact g.F.RowRule.marks_in c.new.result c.new-2.result c.new_graph.result.rows c.new.ensures no_rows c.new_graph.ensures.none
+    tied_empty g.F.Key.Ord.cmp g.met.F.Key.Ord.total g.met.F.RowRule.exact g.F.RowRule.marks_in c.new.result c.new-2.result c.new-3.result c.new.ensures no_rows c.new-3.ensures
