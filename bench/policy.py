@@ -243,7 +243,8 @@ def authorizations_of_a_server(bench):
 # ------------------------------------------------------------------------------------------------ memory
 
 def held(asked):
-    """Pods and Servers of one namespace and slices, and so many subscriptions of ports, each drained."""
+    """Pods and Servers of one namespace and slices, and so many subscriptions of ports, each drained. At the end a Server is set again,
+    since new rows are put at their marks by the first change after them."""
     for number in range(OBJECTS // 4):
         yield text_of(pod_named(f"web-{number}", f"web-{number}", f"10.{number // 62500}.{number // 250 % 250}.{number % 250 + 1}"))
         yield text_of(server_of(f"web-{number}", f"web-{number}"))
@@ -252,6 +253,7 @@ def held(asked):
     for number in range(asked):
         yield watch_line(number + 1, f"web-{number}")
         yield drain_line(number + 1)
+    yield text_of(server_of("web-0", "web-0"))
 
 
 def memory(bench):

@@ -4,7 +4,7 @@ json.loads. Needs the proved program (tools/prove).
 
 The first table is the list of a cluster as an API server sends it, in order of the keys. The second has as many events
 on a tenth of the slices: the memory falls with the objects held. The third has the lines of the first in random order, in
-which each new object moves those after it in the sorted list. The fourth adds a hundred subscriptions to the second, each of
+which each new object moves those after it in a chunk of the list of its kind. The fourth adds a hundred subscriptions to the second, each of
 which costs a pass over the objects held at the end of the input."""
 import os
 import random

@@ -100,7 +100,7 @@ fn held_in(hub: &Hub) -> HeldObjects {
 
 // Counts the objects of a kind in a hub.
 fn add_kind(held: &mut HeldObjects, hub: &Hub, kind: Kind) {
-    for _ in hub.store().of_kind(kind) {
+    for _ in 0..hub.store().of_kind(kind).len() {
         held.add(kind);
     }
 }

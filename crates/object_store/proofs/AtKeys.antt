@@ -1,7 +1,8 @@
 -- Each object of a list whose keys rise is found at its own key.
-use Rattle.std.proofs.Common.{◌≡◌, Bool, true, false, cond, List, [], ◌∷◌, Some, Ordering, refl, sym, ◌∙◌}
+use Rattle.std.proofs.Common.{◌≡◌, Bool, true, false, cond, List, [], ◌∷◌, Option, Some, None, IfSome, Bor, Ordering, refl, sym, ◌∙◌}
 use Rattle.std.specs.Ordering.{eq_by_cmp, is_eq}
-use Rattle.std.specs.FinMap.{find, get-from_sorted}
+use Rattle.std.specs.FinMap.{find, get, get-from_sorted}
+use Rattle.std.specs.Option.{option_copied}
 use Rattle.std.specs.declared.cmp.Ordering.TheVariants.{Less, Equal, Greater}
 use Rattle.mesh_base.specs.declared.key.ObjKey.{ObjKey}
 use Rattle.mesh_base.specs.KeyOrder.{key_cmp}
@@ -27,3 +28,8 @@ found_own k o (x ∷ os) found = own_at k o x os (found_own k o os) (eq_by_cmp k
 
 pub at_keys : (os : List Object) → IsKeyed key_cmp key_of (λ o. o) os → AtKeys (keyed_map key_cmp key_of (λ o. o) os)
 at_keys os h k o found = found_own k o os (sym (get-from_sorted key_cmp _ k h) ∙ found)
+
+-- and so is that which a look-up shows
+pub shown_key : (os : List Object) → IsKeyed key_cmp key_of (λ o. o) os → (k : ObjKey) (shown : Option (Bor Object)) → option_copied shown ≡ get (keyed_map key_cmp key_of (λ o. o) os) k → IfSome shown (λ o. key_of o.now ≡ k)
+shown_key os h k (Some o) is = at_keys os h k o.now (sym is)
+shown_key os h k None is = tt

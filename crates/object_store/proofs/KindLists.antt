@@ -2,7 +2,7 @@
 use Rattle.std.proofs.Common.{◌≡◌, ◌≢◌, ℕ, zero, suc, ◌+◌, ◌-◌, ◌<◌, ◌≤◌, Bool, true, false, cond, not, ◌&&◌, eqb, ltb, List, [], ◌∷◌, ◌++◌, map, set, get_or, flat_map, length, sum_by, Option, Some, None, refl, sym, ap, subst, ◌∙◌, lt-ltb, eq-eqb, arith}
 use lib.Dec.{T}
 use Rattle.std.specs.List as list
-use Rattle.std.specs.List.{AllByRecursion, filter}
+use Rattle.std.specs.List.{AllByRecursion, filter, slice_get}
 use Rattle.std.specs.Option.{option_or}
 use Rattle.std.specs.Ordering.{eq_by_cmp, is_lt}
 use Rattle.std.specs.FinMap as fin
@@ -45,6 +45,17 @@ second false b p = absurd p
 
 abbrev pub Sorted : List Object → Type 0
 Sorted os = IsKeyed key_cmp key_of (λ o. o) os
+
+-- sorted objects of a kind, under another name
+pub good_as : (new ys : List Object) (kind : Kind) (place : ℕ) → new ≡ ys → place ≡ kind_place kind → Sorted ys → AllByRecursion (λ o. kind_of o ≡ kind) ys → AreOfPlace place new × AllByRecursion (λ o. kind_of o ≡ kind) new
+good_as new ys kind place is at rises all =
+    rw is ((rises, weaker (λ o. kind_of o ≡ kind) _ (λ o of. ap kind_place of ∙ sym at) ys all), all)
+
+-- what stands at an index, whatever the default
+at_index : (os : List Object) (i : ℕ) (found : Option Object) → i < length os → ((d : Object) → found ≡ Some (get_or os i d)) → found ≡ slice_get os i
+at_index [] i found lt is = absurd (omega (arith, lt))
+at_index (o ∷ os) zero found lt is = is o
+at_index (o ∷ os) (suc i) found lt is = at_index os i found (omega (arith, lt)) is
 
 -- what is found in a sorted list
 found_in : (os : List Object) (k : ObjKey) → fin.find key_cmp k (keyed key_cmp key_of (λ o. o) os) ≡ item_at k os
@@ -249,6 +260,9 @@ module _ {X : Type 0} (items : X → List Object) where
         pub own_hit : (o : Object) → IsHit (λ o. key_cmp (key_of o) key) (items (get_or lists i d)) at → get (map_of items lists) key ≡ Some (get_or (items (get_or lists i d)) at o)
         own_hit o hit = get_own key of ∙ get_hit keys_total keys_exact key_of (λ o. o) (items (get_or lists i d)) own_good.0 key at o hit
 
+        pub own_found : IsHit (λ o. key_cmp (key_of o) key) (items (get_or lists i d)) at → get (map_of items lists) key ≡ slice_get (items (get_or lists i d)) at
+        own_found hit = at_index (items (get_or lists i d)) at (get (map_of items lists) key) hit.within (λ o. own_hit o hit)
+
         pub own_gap : IsGap (λ o. key_cmp (key_of o) key) (items (get_or lists i d)) at → get (map_of items lists) key ≡ None
         own_gap gap = get_own key of ∙ get_gap keys_total keys_exact key_of (λ o. o) (items (get_or lists i d)) own_good.0 key at gap
 
@@ -262,6 +276,15 @@ module _ {X : Type 0} (items : X → List Object) where
             let before : length (flat_map items lists) ≡ sum_by (λ x. length (items x)) lists = length-flat_map items lists in
             let sums : sum_by (λ x. length (items x)) (set lists i new) + length (items (get_or lists i d)) ≡ sum_by (λ x. length (items x)) lists + length (items new) = sum_by-set (λ x. length (items x)) lists i new d within in
             omega (arith, after, before, sums)
+
+        -- the number of all objects, by that of the others and of the new ones
+        pub count_is : (held all own count : ℕ) → held ≡ (all - own) + count → all ≡ length (flat_map items lists) → own ≡ length (of_kind kind (map_of items lists)) → count ≡ length (items new)
+            → held ≡ length (flat_map items (set lists i new))
+        count_is held all own count is total part more =
+            let sums = set_count in
+            let mine = ap length own_kind in
+            let le = own_within in
+            omega (arith, sums, mine, le, is, total, part, more)
 
         get_set : (k : ObjKey) → get (map_of items (set lists i new)) k ≡ cond (eqb (kind_place k.kind) i) (item_at k (items new)) (get (map_of items lists) k)
         get_set k = get-keyed (flat_map items (set lists i new)) (joined_sorted 0 (set lists i new) set_ok) k

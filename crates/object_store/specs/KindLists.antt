@@ -10,6 +10,10 @@ use Rattle.view_types.specs.Objects.{key_of, kind_of, ObjectMap}
 abbrev pub AreOfPlace : ℕ → List Object → Type 0
 AreOfPlace place os = IsKeyed key_cmp key_of (λ o. o) os × AllByRecursion (λ o. kind_place (kind_of o) ≡ place) os
 
+-- a list seen as its objects
+abbrev pub each : List Object → List Object
+each os = os
+
 module _ {X : Type 0} (items : X → List Object) where
   -- the lists are those of all kinds from this place on
   abbrev pub AreFrom : ℕ → List X → Type 0

@@ -12,6 +12,7 @@ ghost use Rattle.object_store.specs.Held.{key_with};
 
 use crate::change::StoreFault;
 use crate::last_places::{LastPlaces, place_of};
+use chunked_list::list::ChunkedList;
 use mesh_base::key::{Kind, ObjKey};
 use mesh_base::list::List;
 use mesh_base::memory::Memory;
@@ -22,33 +23,33 @@ use std::marker::Model;
 use std::mem;
 use view_types::object::Object;
 
-/// Objects, each at its own key, in a sorted list for each kind. An insertion moves objects of its
-/// own kind alone. Contracts see them as a finite map.
+/// Objects, each at its own key, in a sorted list for each kind. An insertion moves objects of one
+/// chunk of the list of its kind. Contracts see them as a finite map.
 #[derive(Drop)]
 pub struct Objects {
     /// The number of objects of all kinds.
     held: usize,
     /// The objects of each kind, at the index `place_of` of the kind.
-    of_kinds: [Vec<Object>; 11],
+    of_kinds: [ChunkedList<Object>; 11],
     last: LastPlaces,
 }
 
 impl Model for Objects {
-    ghost use Rattle.std.specs.Prelude.{◌≡◌, flat_map, length, vec_items};
+    ghost use Rattle.std.specs.Prelude.{◌≡◌, flat_map, length};
     ghost use Rattle.std.specs.FinMap as map;
     ghost use Rattle.mesh_base.specs.KeyOrder.{coded_key};
     ghost use Rattle.view_types.specs.Objects.{ObjectMap};
     ghost use Rattle.view_types.specs.contracts.object.Object as object;
-    ghost use Rattle.object_store.specs.KindLists.{AreFrom, map_of};
+    ghost use Rattle.object_store.specs.KindLists.{AreFrom, each, map_of};
 
     ghost Value = { ObjectMap };
 
     ghost coded = { map.code coded_key object.the_row.coded };
 
-    ghost view = { λ s. map_of vec_items s.of_kinds };
+    ghost view = { λ s. map_of each s.of_kinds };
 
-    ghost invariant = { λ s. AreFrom vec_items 0 s.of_kinds
-        × (s.held ≡ length (flat_map vec_items s.of_kinds)) };
+    ghost invariant = { λ s. AreFrom each 0 s.of_kinds
+        × (s.held ≡ length (flat_map each s.of_kinds)) };
 }
 
 impl Objects {
@@ -58,17 +59,17 @@ impl Objects {
         Objects {
             held: 0,
             of_kinds: [
-                Vec::new(alloc),
-                Vec::new(alloc),
-                Vec::new(alloc),
-                Vec::new(alloc),
-                Vec::new(alloc),
-                Vec::new(alloc),
-                Vec::new(alloc),
-                Vec::new(alloc),
-                Vec::new(alloc),
-                Vec::new(alloc),
-                Vec::new(alloc),
+                ChunkedList::new(alloc),
+                ChunkedList::new(alloc),
+                ChunkedList::new(alloc),
+                ChunkedList::new(alloc),
+                ChunkedList::new(alloc),
+                ChunkedList::new(alloc),
+                ChunkedList::new(alloc),
+                ChunkedList::new(alloc),
+                ChunkedList::new(alloc),
+                ChunkedList::new(alloc),
+                ChunkedList::new(alloc),
             ],
             last: LastPlaces::new(),
         }
@@ -81,11 +82,11 @@ impl Objects {
     }
 
     /// Returns the objects of the kind, in the order of their keys.
-    pub fn of_kind(&self, kind: Kind) -> &[Object]
+    pub fn of_kind(&self, kind: Kind) -> &ChunkedList<Object>
         ensures value { result.now ≡ of_kind kind self.now }
         ensures at_keys { AtKeys self.now }
     {
-        self.of_kinds[place_of(kind)].as_slice()
+        &self.of_kinds[place_of(kind)]
     }
 
     /// Establishes that each object is at its own key. Reads no object.
@@ -108,12 +109,12 @@ impl Objects {
         ensures value { option_copied result ≡ map.get self.now (key_with kind ns.now name.now) }
         ensures at_key { IfSome result (λ o. key_of o.now ≡ key_with kind ns.now name.now) }
     {
-        let objects = self.of_kinds[place_of(kind)].as_slice();
+        let objects = &self.of_kinds[place_of(kind)];
         let last = self.last.of(kind);
         match place_from(objects, last.get(), kind, ns, name) {
             Ok(at) => {
                 last.set(at);
-                Some(&objects[at])
+                objects.get(at)
             }
             Err(_) => None,
         }
@@ -125,10 +126,10 @@ impl Objects {
         ensures removed { self.new ≡ map.remove self.old key.now }
     {
         let objects = &mut self.of_kinds[place_of(key.kind)];
-        match place(objects.as_slice(), key.kind, &key.ns, &key.name) {
+        match place(objects, key.kind, &key.ns, &key.name) {
             Ok(at) => {
                 self.held -= 1;
-                Some(objects.remove(at))
+                objects.remove(at)
             }
             Err(_) => None,
         }
@@ -137,6 +138,7 @@ impl Objects {
     /// Sets the object at its key, and returns the object that it replaced, if any.
     pub fn set(
         &mut self,
+        alloc: Global,
         limit: u32,
         key: &ObjKey,
         object: Object,
@@ -150,13 +152,13 @@ impl Objects {
         ensures err { OnErr result (self.new ≡ self.old) }
     {
         let objects = &mut self.of_kinds[place_of(key.kind)];
-        match place(objects.as_slice(), key.kind, &key.ns, &key.name) {
-            Ok(at) => Ok(Some(mem::replace(&mut objects[at], object))),
+        match place(objects, key.kind, &key.ns, &key.name) {
+            Ok(at) => Ok(objects.replace(at, object)),
             Err(at) => {
                 if self.held == limit as usize {
                     return Err(StoreFault::Full { held: limit });
                 }
-                objects.insert(at, object)?;
+                objects.insert(alloc, at, object)?;
                 self.held += 1;
                 Ok(None)
             }
@@ -175,7 +177,8 @@ impl Objects {
     }
 
     /// Replaces all objects of the kind by the items, both in the order of their keys, and returns
-    /// the old ones. If their number overflows, drops all objects and returns `Memory`.
+    /// the old ones. If memory runs out or their number overflows, drops all objects and returns
+    /// `Memory`.
     pub fn replace(
         &mut self,
         alloc: Global,
@@ -189,23 +192,44 @@ impl Objects {
         ensures now { OnOk result (of_kind kind self.new ≡ items.items) }
         ensures err { OnErr result (self.new ≡ map.empty) }
     {
-        match (self.held - self.of_kind(kind).len()).checked_add(items.len()) {
-            Some(held) => {
-                self.held = held;
-                let objects = &mut self.of_kinds[place_of(kind)];
-                Ok(List::from_vec(mem::replace(objects, items)))
-            }
-            None => {
+        match self.exchange(alloc, kind, items) {
+            Ok(before) => Ok(before),
+            Err(_) => {
                 *self = Objects::new(alloc);
                 Err(Memory)
             }
+        }
+    }
+
+    /// Does the same as `replace`, but leaves any objects if memory runs out.
+    fn exchange(
+        &mut self,
+        alloc: Global,
+        kind: Kind,
+        items: Vec<Object>,
+    ) -> Result<List<Object>, Memory>
+        requires each { All (λ o. kind_of o ≡ kind) items.items }
+        requires sorted { IsKeyed key_cmp key_of (λ o. o) items.items }
+        ensures ok { OnOk result (self.new ≡ relisted self.old kind items.items) }
+        ensures before { IfOk result (λ before. before ≡ of_kind kind self.old) }
+        ensures now { OnOk result (of_kind kind self.new ≡ items.items) }
+    {
+        match (self.held - self.of_kind(kind).len()).checked_add(items.len()) {
+            Some(held) => {
+                let items = ChunkedList::from_vec(alloc, items)?;
+                self.held = held;
+                let objects = &mut self.of_kinds[place_of(kind)];
+                let before = mem::replace(objects, items);
+                Ok(List::from_vec(before.into_vec(alloc)?))
+            }
+            None => Err(Memory),
         }
     }
 }
 
 /// Does the same as `place`, but tries the index `first` and the next one before a search.
 fn place_from(
-    objects: &[Object],
+    objects: &ChunkedList<Object>,
     first: usize,
     kind: Kind,
     ns: &Text,
@@ -228,7 +252,7 @@ fn place_from(
 }
 
 /// Returns whether the object at an index has the key of this kind, namespace and name.
-fn stands_at(objects: &[Object], at: usize, kind: Kind, ns: &Text, name: &Text) -> bool
+fn stands_at(objects: &ChunkedList<Object>, at: usize, kind: Kind, ns: &Text, name: &Text) -> bool
     ensures { result ≡ true → IsHit (λ o. key_cmp (key_of o) (key_with kind ns.now name.now))
         objects.now at }
 {
@@ -239,7 +263,7 @@ fn stands_at(objects: &[Object], at: usize, kind: Kind, ns: &Text, name: &Text) 
 }
 
 /// Returns the index of the key as `Ok`, or the index to insert it at as `Err`.
-fn place(objects: &[Object], kind: Kind, ns: &Text, name: &Text) -> Result<usize, usize>
+fn place(objects: &ChunkedList<Object>, kind: Kind, ns: &Text, name: &Text) -> Result<usize, usize>
     requires { IsKeyed key_cmp key_of (λ o. o) objects.now }
     ensures hit { IfOk result (IsHit (λ o. key_cmp (key_of o) (key_with kind ns.now name.now))
         objects.now) }

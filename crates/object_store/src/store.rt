@@ -15,6 +15,7 @@ use crate::objects::Objects;
 use crate::relist::relist;
 use crate::store_keys::StoreKeys;
 use crate::upkeep::follow;
+use chunked_list::list::ChunkedList;
 use mark_rules::object_marks::marks_of;
 use mesh_base::key::{Kind, ObjKey};
 use mesh_base::list::List;
@@ -95,7 +96,7 @@ impl Store {
     }
 
     /// Returns the objects of the kind, in the order of their keys.
-    pub fn of_kind(&self, kind: Kind) -> &[Object]
+    pub fn of_kind(&self, kind: Kind) -> &ChunkedList<Object>
         ensures value { result.now ≡ of_kind kind self.now.objects }
         ensures at_keys { AtKeys self.now.objects }
     {
@@ -316,7 +317,7 @@ fn put(
     objects.stand_at_keys();
     let key = object.key(alloc)?;
     let marks = marks_of(alloc, &object)?;
-    let before = objects.set(limit, &key, object)?;
+    let before = objects.set(alloc, limit, &key, object)?;
     let change = Change::put(alloc, marks, before, key)?;
     follow(alloc, objects, keys, &change)?;
     Ok(change)

@@ -1,7 +1,8 @@
 -- An object that stands among those held is found at its own key, and counts there.
-use Rattle.std.proofs.Common.{◌≡◌, ◌<◌, ◌≤◌, ℕ, List, length, slice_index_or, Option, Some, sym, ap, subst, ◌∙◌, arith}
+use Rattle.std.proofs.Common.{◌≡◌, ◌≤◌, ℕ, List, slice_get, Option, Some, sym, ap, subst, ◌∙◌, arith}
 use Rattle.std.specs.FinMap.{get, values}
 use Rattle.std.specs.Option.{is_some}
+use Rattle.std.proofs.lemmas.Option.{get_or_from_slice_get, slice_get_within}
 use Rattle.mesh_base.proofs.KeyOrder.{keys_total}
 use Rattle.mesh_base.specs.declared.key.Kind.{Kind}
 use Rattle.mesh_base.specs.declared.key.ObjKey.{ObjKey}
@@ -14,10 +15,12 @@ use Rattle.view_rules.proofs.Entries.{held_somewhere}
 use Rattle.mark_rules.proofs.Counts.{key_counts, one_if}
 use Rattle.mark_rules.specs.Reads.{count_at}
 
-pub found_at : (held : ObjectMap) → AtKeys held → (kind : Kind) (listed : List Object) → listed ≡ of_kind kind held → (place : ℕ) (key : ObjKey) (o : Object) → place < length listed → o ≡ slice_index_or listed place o → key_of o ≡ key
+pub found_at : (held : ObjectMap) → AtKeys held → (kind : Kind) (listed : List Object) → listed ≡ of_kind kind held → (place : ℕ) (key : ObjKey) (o : Object) → Some o ≡ slice_get listed place → key_of o ≡ key
     → get held key ≡ Some o
-found_at held own kind listed is place key o within at same =
-    let among = from_kept (λ o. is_of kind (key_of o)) (values held) o (subst (λ (os : List Object). Among o os) is (among_from listed o (place, omega (arith, within), sym at))) in
+found_at held own kind listed is place key o shown same =
+    let within = slice_get_within listed place o (sym shown) in
+    let at = get_or_from_slice_get listed place o o (sym shown) in
+    let among = from_kept (λ o. is_of kind (key_of o)) (values held) o (subst (λ (os : List Object). Among o os) is (among_from listed o (place, omega (arith, within), at))) in
     let somewhere = held_somewhere keys_total held o among.0 in
     ap (get held) (sym same ∙ own somewhere.0 o somewhere.1) ∙ somewhere.1
 

@@ -10,15 +10,13 @@ pub returns-in-Equal-clause-value : goal.returns-in-Equal-clause-value
 returns-in-Equal-clause-value c =
     let held = c.args.store.now.objects in
     let key = pod_key c.args.key.now.ns c.args.key.now.pod in
-    let look = c.in_ok-object.ensures.lookup in
-    found_at held c.of_kind.ensures.at_keys Pod c.of_kind.result.now c.of_kind.ensures.value c.args.place key c.in_ok-object.object.now look.3.0 look.1
+    found_at held c.of_kind.ensures.at_keys Pod c.of_kind.result.now c.of_kind.ensures.value c.args.place key c.in_ok-object.object.now c.in_ok-object.ensures
     (keys_exact (key_of c.in_ok-object.object.now) key (sym c.compare_key.ensures ∙ c.in-Equal.is))
 
 pub returns-in-Equal-clause-counts : goal.returns-in-Equal-clause-counts
 returns-in-Equal-clause-counts c =
     let held = c.args.store.now.objects in
     let key = pod_key c.args.key.now.ns c.args.key.now.pod in
-    let look = c.in_ok-object.ensures.lookup in
     counts_one held c.of_kind.ensures.at_keys key c.in_ok-object.object.now
-    (found_at held c.of_kind.ensures.at_keys Pod c.of_kind.result.now c.of_kind.ensures.value c.args.place key c.in_ok-object.object.now look.3.0 look.1
+    (found_at held c.of_kind.ensures.at_keys Pod c.of_kind.result.now c.of_kind.ensures.value c.args.place key c.in_ok-object.object.now c.in_ok-object.ensures
     (keys_exact (key_of c.in_ok-object.object.now) key (sym c.compare_key.ensures ∙ c.in-Equal.is)))
