@@ -1,6 +1,7 @@
 use crate::rows::{holds, split};
 use net_cidr::ip::{Ip, read_ip};
 use net_cidr::net::read_net;
+use net_cidr::packed_ip::PackedIp;
 use std::alloc::Global;
 use std::test::Fail;
 
@@ -83,6 +84,18 @@ const HELD: &str = "0.0.0.0/0 255.255.255.255 => yes
 10.0.0.0/8 10.255.255.255 => yes
 10.0.0.0/8 11.0.0.0 => no";
 
+// Addresses in order. The halves of the numbers of some differ only in one.
+const IN_ORDER: &str = "0.0.0.0
+0.0.0.1
+255.255.255.255
+::
+::1
+::ffff:ffff:ffff:ffff
+0:0:0:1::
+0:0:0:1::1
+ffff:ffff:ffff:ffff::
+ffff:ffff:ffff:ffff:ffff:ffff:ffff:ffff";
+
 fn shown(alloc: Global, ip: Ip) -> Result<String, Fail> {
     Ok(match ip {
         Ip::V4(number) => format!(in alloc; "4:{number:x}")?,
@@ -132,6 +145,21 @@ fn addresses_and_networks(rt: HostRuntime) -> Result<(), Fail> {
     for row in HELD.lines() {
         let (case, expected) = split(row)?;
         assert_eq!(rt; is_held(case)?, holds(expected)?, "at {row}");
+    }
+    Ok(())
+}
+
+#[test]
+fn packed_addresses(rt: HostRuntime) -> Result<(), Fail> {
+    let mut before: Option<PackedIp> = None;
+    for row in IN_ORDER.lines() {
+        let Some(ip) = read_ip(row.as_bytes()) else {
+            return Err(Fail::new("a row is no address"));
+        };
+        let packed = PackedIp::new(ip);
+        assert!(rt; packed.get() == ip, "at {row}");
+        assert!(rt; before < Some(packed), "at {row}");
+        before = Some(packed);
     }
     Ok(())
 }

@@ -12,6 +12,7 @@ use mesh_base::list::List;
 use mesh_base::memory::Memory;
 use mesh_base::text::Text;
 use net_cidr::ip::Ip;
+use net_cidr::packed_ip::PackedIp;
 use std::alloc::Global;
 use view_types::authn::AuthzPolicy;
 use view_types::mark::Mark;
@@ -117,7 +118,7 @@ fn add_pod_addresses(marks: &mut List<Mark>, addrs: &[Ip]) -> Result<(), Memory>
     ensures { OnOk result (marks.new ≡ marks.old ++ map IpPod addrs.now) }
 {
     for ip in addrs {
-        marks.add(Mark::IpPod(*ip))?;
+        marks.add(Mark::IpPod(PackedIp::new(*ip)))?;
     }
     Ok(())
 }
@@ -135,7 +136,7 @@ fn add_service_addresses(marks: &mut List<Mark>, addrs: &[Ip]) -> Result<(), Mem
     ensures { OnOk result (marks.new ≡ marks.old ++ map IpService addrs.now) }
 {
     for ip in addrs {
-        marks.add(Mark::IpService(*ip))?;
+        marks.add(Mark::IpService(PackedIp::new(*ip)))?;
     }
     Ok(())
 }

@@ -1,6 +1,7 @@
 // Marks as strings.
 use mesh_base::key::{Kind, ObjKey};
 use net_cidr::ip::Ip;
+use net_cidr::packed_ip::PackedIp;
 use std::alloc::Global;
 use std::test::Fail;
 use view_types::authn::RefKind;
@@ -36,8 +37,8 @@ fn parent_name(kind: ParentKind) -> &'static str {
     }
 }
 
-fn ip_text(alloc: Global, ip: Ip) -> Result<String, Fail> {
-    match ip {
+fn ip_text(alloc: Global, ip: PackedIp) -> Result<String, Fail> {
+    match ip.get() {
         Ip::V4(n) => {
             let (a, b, c, d) = (n >> 24, n >> 16 & 255, n >> 8 & 255, n & 255);
             Ok(format!(in alloc; "{a}.{b}.{c}.{d}")?)

@@ -63,8 +63,8 @@ impl MarkKeys {
             Mark::ServerAuthzIn(ns) => self.server_authz_in(ns),
             Mark::PolicyOn(ns, kind, name) => self.policies_on(ns, *kind, name),
             Mark::RouteOn(ns, kind, name) => self.routes_on(ns, *kind, name),
-            Mark::IpService(ip) => self.services_at(*ip),
-            Mark::IpPod(ip) => self.pods_at(*ip),
+            Mark::IpService(ip) => self.services_at(ip.get()),
+            Mark::IpPod(ip) => self.pods_at(ip.get()),
         }
     }
 
@@ -246,8 +246,8 @@ impl MarkKeys {
             Mark::RouteOn(ns, kind, name) => {
                 by_kind::put_one(alloc, &mut self.routes, *kind, ns, name, key)
             }
-            Mark::IpService(ip) => by_mark::put_one(alloc, &mut self.services, ip, key),
-            Mark::IpPod(ip) => by_mark::put_one(alloc, &mut self.pods, ip, key),
+            Mark::IpService(ip) => by_mark::put_one(alloc, &mut self.services, &ip.get(), key),
+            Mark::IpPod(ip) => by_mark::put_one(alloc, &mut self.pods, &ip.get(), key),
         }
     }
 
@@ -267,8 +267,8 @@ impl MarkKeys {
             Mark::RouteOn(ns, kind, name) => {
                 by_kind::take_one(&mut self.routes, *kind, ns, name, key)
             }
-            Mark::IpService(ip) => by_mark::take_one(&mut self.services, ip, key),
-            Mark::IpPod(ip) => by_mark::take_one(&mut self.pods, ip, key),
+            Mark::IpService(ip) => by_mark::take_one(&mut self.services, &ip.get(), key),
+            Mark::IpPod(ip) => by_mark::take_one(&mut self.pods, &ip.get(), key),
         }
     }
 }

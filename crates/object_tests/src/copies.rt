@@ -11,6 +11,7 @@ use mesh_base::text::Text;
 use net_cidr::block::Block;
 use net_cidr::ip::Ip;
 use net_cidr::net::Net;
+use net_cidr::packed_ip::PackedIp;
 use std::alloc::Global;
 use view_types::authn::RefKind;
 use view_types::config::Config;
@@ -196,8 +197,9 @@ fn marks(rt: HostRuntime) -> Result<(), Memory> {
         text(alloc, "web")?,
     );
     assert!(rt; copies_mark(alloc, mark, r#"RouteOn{ns:"app",kind:Service,name:"web"}"#));
-    assert!(rt; copies_mark(alloc, Mark::IpService(Ip::V4(1)), "IpService(0.0.0.1)"));
-    assert!(rt; copies_mark(alloc, Mark::IpPod(Ip::V4(1)), "IpPod(0.0.0.1)"));
+    let ip = PackedIp::new(Ip::V4(1));
+    assert!(rt; copies_mark(alloc, Mark::IpService(ip), "IpService(0.0.0.1)"));
+    assert!(rt; copies_mark(alloc, Mark::IpPod(ip), "IpPod(0.0.0.1)"));
     Ok(())
 }
 

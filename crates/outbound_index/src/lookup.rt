@@ -14,6 +14,7 @@ use mesh_base::list::List;
 use mesh_base::memory::Memory;
 use mesh_base::steps::Steps;
 use net_cidr::ip::Ip;
+use net_cidr::packed_ip::PackedIp;
 use policy_rows::candidates::add_all;
 use policy_rows::parent::{Attachment, ServiceAt};
 use policy_rows::routes::routes_among;
@@ -74,7 +75,7 @@ fn to_address<L>(
         (service_at from.now.store.now.objects ip)) }
 {
     let mut marks = List::new(from.alloc);
-    marks.add(Mark::IpService(ip))?;
+    marks.add(Mark::IpService(PackedIp::new(ip)))?;
     match service_at(from.store, ip, steps)? {
         Some(service) => {
             let ns = &service.meta.ns;
@@ -99,7 +100,7 @@ fn to_pod_at<L>(
     ensures steps { steps.new ≤ steps.old + count_at from.now.store.now.objects (IpPod ip) }
 {
     let mut marks = marks;
-    marks.add(Mark::IpPod(ip))?;
+    marks.add(Mark::IpPod(PackedIp::new(ip)))?;
     let pod = pod_at(from.store, ip, steps)?;
     let row = to_pod(from.alloc, from.config, pod, ip, port)?;
     Ok(PlainRow { row, marks })

@@ -11,6 +11,7 @@ use mesh_base::memory::Memory;
 use mesh_base::steps::Steps;
 use mesh_base::text::Text;
 use net_cidr::ip::Ip;
+use net_cidr::packed_ip::PackedIp;
 use policy_rows::snapshot::Snapshot;
 use row_reads::references::add_key;
 use row_table::plain_row::PlainRow;
@@ -70,7 +71,7 @@ impl Lookup<'_> {
             (service_at self.now.from.store.now.objects ip)) }
     {
         let mut marks = List::new(self.from.alloc);
-        marks.add(Mark::IpService(ip))?;
+        marks.add(Mark::IpService(PackedIp::new(ip)))?;
         match service_at(self.from.store, ip, steps)? {
             Some(service) => {
                 let ns = &service.meta.ns;
@@ -96,7 +97,7 @@ impl Lookup<'_> {
             + count_at self.now.from.store.now.objects (IpPod ip) }
     {
         let mut marks = marks;
-        marks.add(Mark::IpPod(ip))?;
+        marks.add(Mark::IpPod(PackedIp::new(ip)))?;
         let pod = pod_at(self.from.store, ip, steps)?;
         let row = pod_profile(self.from.alloc, self.from.config, pod, ip, port)?;
         Ok(PlainRow { row, marks })

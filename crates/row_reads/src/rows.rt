@@ -20,6 +20,7 @@ use mesh_base::steps::Steps;
 use mesh_base::text::Text;
 use mesh_text::mesh::full_name;
 use net_cidr::ip::Ip;
+use net_cidr::packed_ip::PackedIp;
 use std::alloc::Global;
 use view_types::authn::RefKind;
 use view_types::mark::Mark;
@@ -174,12 +175,12 @@ impl Reader<'_> {
             (service_outbound_reads self.now.store.now.objects) ip
             (service_at self.now.store.now.objects ip)) }
     {
-        marks.add(Mark::IpService(ip))?;
+        marks.add(Mark::IpService(PackedIp::new(ip)))?;
         match self.service_at(ip, steps) {
             Some(service) => {
                 self.add_service_outbound(&service.meta.ns, &service.meta.name, marks, steps)
             }
-            None => marks.add(Mark::IpPod(ip)),
+            None => marks.add(Mark::IpPod(PackedIp::new(ip))),
         }
     }
 
@@ -227,13 +228,13 @@ impl Reader<'_> {
             (service_profile_reads self.now.config.now client.now) ip
             (service_at self.now.store.now.objects ip)) }
     {
-        marks.add(Mark::IpService(ip))?;
+        marks.add(Mark::IpService(PackedIp::new(ip)))?;
         match self.service_at(ip, steps) {
             Some(service) => {
                 let meta = &service.meta;
                 self.add_service_profile(client, &meta.ns, &meta.name, marks)
             }
-            None => marks.add(Mark::IpPod(ip)),
+            None => marks.add(Mark::IpPod(PackedIp::new(ip))),
         }
     }
 

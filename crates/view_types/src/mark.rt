@@ -6,7 +6,7 @@ use mesh_base::copied::Copied;
 use mesh_base::key::ObjKey;
 use mesh_base::memory::Memory;
 use mesh_base::text::Text;
-use net_cidr::ip::Ip;
+use net_cidr::packed_ip::PackedIp;
 use std::alloc::Global;
 
 /// What a change of an object affects, and what a view reads.
@@ -25,10 +25,13 @@ pub enum Mark {
     /// The routes of a namespace with a parent of this kind and name.
     RouteOn(Text, ParentKind, Text),
     /// The Services at an address.
-    IpService(Ip),
+    IpService(PackedIp),
     /// The Pods at an address.
-    IpPod(Ip),
+    IpPod(PackedIp),
 }
+
+// Each row keeps several marks, so their size counts.
+const _: () = prove!(size_of::<Mark>() == 32);
 
 /// Written by hand, as that of `Text`.
 impl Drop for Mark {

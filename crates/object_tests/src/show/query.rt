@@ -128,8 +128,8 @@ impl Show for Mark {
                 page.next("kind", kind);
                 page.last("name", name);
             }
-            Mark::IpService(ip) => page.variant("IpService", ip),
-            Mark::IpPod(ip) => page.variant("IpPod", ip),
+            Mark::IpService(ip) => page.variant("IpService", &ip.get()),
+            Mark::IpPod(ip) => page.variant("IpPod", &ip.get()),
         }
     }
 }
