@@ -1,8 +1,9 @@
 ghost use Rattle.std.specs.Prelude.{◌≡◌, ◌≤◌, [], IfOk, OnOk, OnErr, length, set as list_set, slice_get};
+ghost use Rattle.std.specs.Borrow.{sem};
 ghost use Rattle.std.specs.Fn.{ComputesKey};
 ghost use Rattle.std.specs.List.{insert as list_insert, remove as list_remove};
 ghost use Rattle.std.specs.List.Sorted.{IsBinarySearchResult, IsSearchInRange};
-ghost use Rattle.std.specs.Option.{option_copied};
+ghost use Rattle.std.specs.Option.{option_copied, option_copied_mut};
 ghost use Rattle.std.specs.declared.cmp.Ordering.{Ordering};
 
 use crate::chunks::{insert_in, joined, search, spot_of, take_from};
@@ -47,6 +48,8 @@ impl<T> Model for ChunkedList<T> {
 }
 
 impl<T> ChunkedList<T> {
+    ghost use Rattle.chunked_list.specs.Lending.{lends_item};
+
     pub fn new(alloc: Global) -> ChunkedList<T>
         ensures { result ≡ [] }
     {
@@ -153,6 +156,17 @@ impl<T> ChunkedList<T> {
     {
         match spot_of(self.chunks.as_slice(), index) {
             Some(spot) => Some(mem::replace(&mut self.chunks[spot.chunk][spot.at], item)),
+            None => None,
+        }
+    }
+
+    /// Returns the item at the index for writing, if the list is long enough.
+    pub fn get_mut(&mut self, index: usize) -> Option<&mut T>
+        ensures* writes_back { sem 𝓛 (lends_item T.row self.entry index result) }
+        ensures value { option_copied_mut result ≡ slice_get self.old index }
+    {
+        match spot_of(self.chunks.as_slice(), index) {
+            Some(spot) => Some(&mut self.chunks[spot.chunk][spot.at]),
             None => None,
         }
     }

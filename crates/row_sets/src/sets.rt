@@ -14,6 +14,7 @@ ghost use Rattle.row_views.specs.Standing.{FollowCost};
 ghost use Rattle.row_sets.specs.Standing.{EntersWithin, Standing, any_met, keys_at, open_cost, row_if};
 
 use crate::used_keys::UsedKeys;
+use chunked_map::map::ChunkedMap;
 use mark_graph::by_mark::rows_at;
 use mark_graph::sorted_set::SortedSet;
 use mesh_base::list::List;
@@ -24,7 +25,6 @@ use object_store::store::Store;
 use row_table::peeked::Peeked;
 use row_table::row_index::RowIndex;
 use std::alloc::Global;
-use std::collections::BTreeMap;
 
 /// The rows of an index that ids are open with, each stored once for all ids that have its key.
 /// After Memory the rows are not known, but the keys of the ids are unchanged.
@@ -32,7 +32,7 @@ use std::collections::BTreeMap;
 pub struct RowSets<I: RowIndex + Drop> {
     used: UsedKeys<I>,
     /// The keys of each id.
-    by_id: BTreeMap<u64, List<I::Key>>,
+    by_id: ChunkedMap<u64, List<I::Key>>,
     alloc: Global,
 }
 
@@ -47,7 +47,7 @@ impl<I: RowIndex + Drop> RowSets<I> {
     {
         RowSets {
             used: UsedKeys::new(alloc, index),
-            by_id: BTreeMap::new(alloc),
+            by_id: ChunkedMap::new(alloc),
             alloc,
         }
     }
@@ -171,7 +171,7 @@ impl<I: RowIndex + Drop> RowSets<I> {
 }
 
 // Returns the keys of an id.
-fn keys_of<K>(by_id: &BTreeMap<u64, List<K>>, id: u64) -> &[K]
+fn keys_of<K>(by_id: &ChunkedMap<u64, List<K>>, id: u64) -> &[K]
     ensures { result.now ≡ keys_at by_id.now id }
 {
     match by_id.get(&id) {

@@ -13,6 +13,7 @@ ghost use Rattle.row_views.specs.Ids.{AddsId, Keeps, OneMoreUnless, RemovesId, S
 ghost use Rattle.row_views.specs.Standing.{FollowCost, HasSameRow, Standing, is_met};
 
 use crate::numbered_ids::NumberedIds;
+use chunked_map::map::ChunkedMap;
 use mesh_base::copied::Copied;
 use mesh_base::list::List;
 use mesh_base::memory::Memory;
@@ -22,7 +23,6 @@ use object_store::store::Store;
 use row_table::peeked::Peeked;
 use row_table::row_index::RowIndex;
 use std::alloc::Global;
-use std::collections::BTreeMap;
 
 /// The rows of an index that ids are open with, each stored once for all ids of its key. After
 /// Memory the rows are not known, but the keys of the ids are unchanged.
@@ -33,7 +33,7 @@ pub struct RowViews<I: RowIndex + Drop> {
     /// The ids of each row, by its number.
     by_number: NumberedIds,
     /// The key of each id.
-    by_id: BTreeMap<u64, I::Key>,
+    by_id: ChunkedMap<u64, I::Key>,
     alloc: Global,
 }
 
@@ -49,7 +49,7 @@ impl<I: RowIndex + Drop> RowViews<I> {
         RowViews {
             index,
             by_number: NumberedIds::new(alloc),
-            by_id: BTreeMap::new(alloc),
+            by_id: ChunkedMap::new(alloc),
             alloc,
         }
     }

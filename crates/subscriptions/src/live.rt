@@ -7,10 +7,10 @@ ghost use Rattle.subscriptions.specs.ById.{ShowsAt};
 ghost use Rattle.subscriptions.specs.Live.{AreBelow, IdsRise, PutsAt, id_of, shown_in_place, showing, sub_at};
 
 use crate::boxed_view::BoxedView;
+use chunked_map::map::ChunkedMap;
 use mesh_base::memory::Memory;
 use mesh_base::sub_id::SubId;
 use std::alloc::Global;
-use std::collections::BTreeMap;
 use std::marker::Model;
 use view_types::query::Query;
 use view_types::view::View;
@@ -84,7 +84,7 @@ impl Subscription {
 /// The live subscriptions by id. Contracts see them as a list in ascending order of the ids.
 #[derive(Drop)]
 pub struct Subscriptions {
-    by_id: BTreeMap<u64, Subscription>,
+    by_id: ChunkedMap<u64, Subscription>,
 }
 
 impl Model for Subscriptions {
@@ -110,7 +110,7 @@ impl Subscriptions {
         ensures { result ≡ [] }
     {
         Subscriptions {
-            by_id: BTreeMap::new(alloc),
+            by_id: ChunkedMap::new(alloc),
         }
     }
 
@@ -172,7 +172,7 @@ impl Subscriptions {
     }
 }
 
-fn show_at(by_id: &mut BTreeMap<u64, Subscription>, id: u64, view: BoxedView)
+fn show_at(by_id: &mut ChunkedMap<u64, Subscription>, id: u64, view: BoxedView)
     requires { IsOrderlyIfShown (Some view) }
     ensures { ShowsAt id view by_id.old by_id.new }
 {
