@@ -1,7 +1,5 @@
 // The views of ports that subscribers request.
 ghost use Rattle.std.specs.Prelude.{◌≡◌, ℕ, IfOk};
-ghost use Rattle.std.specs.List.Sorted.{IsStrictlySortedBy};
-ghost use Rattle.std.specs.Ordering.{nat_cmp};
 ghost use Rattle.view_types.specs.Objects.{ObjectMap};
 ghost use Rattle.view_types.specs.declared.config.Config.{Config as TheConfig};
 ghost use Rattle.mark_graph.specs.RowMarks.{has_row};
@@ -9,7 +7,7 @@ ghost use Rattle.mark_graph.specs.RowMarks.{has_row};
 use crate::keys::port_key;
 use crate::moving::{Earlier, KeysOf, append};
 use authz_index::index::{AuthzIndex, new_index as new_authz_index};
-use mark_graph::sorted_set::SortedSet;
+use mark_graph::by_mark::in_order;
 use mark_rules::keys::{RouteKey, ServerKey};
 use mesh_base::key::ObjKey;
 use mesh_base::list::List;
@@ -246,12 +244,4 @@ impl QueryViews for InboundViews {
     ghost in_use = { λ s config held stands. in_use_of stands (λ joined.
         ports_in_use config joined.kept.servers.rows joined.kept.routes.rows
         joined.kept.authz.rows joined.routes joined.authz) };
-}
-
-// Sorts ids, and removes duplicates.
-fn in_order(ids: List<u64>) -> List<u64>
-    ensures ids { (id : ℕ) → has_row id result ≡ has_row id ids }
-    ensures in_order { IsStrictlySortedBy nat_cmp result }
-{
-    SortedSet::of_list(ids).into_list()
 }

@@ -6,7 +6,7 @@ ghost use Rattle.std.specs.List.Sorted.{IsStrictlySortedBy};
 ghost use Rattle.std.specs.Ordering.{eq_by_cmp, nat_cmp};
 ghost use Rattle.mark_graph.specs.RowMarks.{AddsRow, AllHaveRows, OthersHaveRows, RemovesRow, has_mark, has_row, has_rows, is_only_in, row_at};
 
-use crate::sorted_set::SortedSet;
+use crate::sorted_set::{SortedSet, sorted};
 use mesh_base::copied::Copied;
 use mesh_base::list::List;
 use mesh_base::memory::Memory;
@@ -167,7 +167,15 @@ pub fn rows_at<M: Ord + Copied>(
     ensures in_order { IfOk result (λ rows. IsStrictlySortedBy nat_cmp rows) }
 {
     let rows = gather_all(alloc, by, marks)?;
-    Ok(SortedSet::of_list(List::from_vec(rows)).into_list())
+    Ok(in_order(List::from_vec(rows)))
+}
+
+/// Sorts rows, and removes duplicates.
+pub fn in_order(rows: List<u64>) -> List<u64>
+    ensures rows { (r : ℕ) → has_row r result ≡ has_row r rows }
+    ensures in_order { IsStrictlySortedBy nat_cmp result }
+{
+    List::from_vec(sorted(rows))
 }
 
 /// Returns the rows at these marks, mark by mark. The rows of each mark are ascending.

@@ -5,5 +5,6 @@
 #![tactic(auto)]
 
 pub mod by_mark;
+mod few_items;
 pub mod moves;
 pub mod sorted_set;

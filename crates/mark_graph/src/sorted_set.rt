@@ -1,21 +1,22 @@
 // Sets of few items.
-ghost use Rattle.std.specs.Prelude.{◌≡◌, ◌<◌, ◌≤◌, ◌&&◌, ◌||◌, not, true, false, if◌then◌else◌, is_ok, length, IfErr, IfOk, OnOk};
+ghost use Rattle.std.specs.Prelude.{◌≡◌, ◌<◌, ◌&&◌, ◌||◌, not, true, false, IfErr, IfOk, OnOk};
 ghost use Rattle.std.specs.BTreeSet.{btree_set_len, contains};
-ghost use Rattle.std.specs.List.{insert};
 ghost use Rattle.std.specs.List.Sorted.{IsStrictlySortedBy};
 ghost use Rattle.std.specs.Ordering.{eq_by_cmp};
 ghost use Rattle.mesh_base.specs.Places.{IsGap, IsHit};
 ghost use Rattle.mark_graph.specs.RowMarks.{has_mark};
 
+use crate::few_items::FewItems;
 use mesh_base::list::List;
 use mesh_base::memory::Memory;
 use std::alloc::Global;
 use std::marker::Model;
 
-/// A set as a sorted vector, for sets with few items. Contracts see it as a `BTreeSet`.
+/// A set as a sorted list, for sets with few items: one item is stored in place. Contracts see it as
+/// a `BTreeSet`.
 #[derive(Drop)]
 pub struct SortedSet<T: Ord> {
-    items: Vec<T>,
+    items: FewItems<T>,
 }
 
 impl<T: Ord> Model for SortedSet<T> {
@@ -23,15 +24,16 @@ impl<T: Ord> Model for SortedSet<T> {
     ghost use Rattle.std.specs.BTreeSet.{BTreeSet};
     ghost use Rattle.std.specs.Coded.{code_by, coded_list};
     ghost use Rattle.std.specs.List.Sorted.{IsStrictlySortedBy};
+    ghost use Rattle.mark_graph.specs.Items.{items_of};
 
     ghost Value = { BTreeSet T };
 
     ghost coded = { code_by (List T) (coded_list T.code) (λ s. s.keys)
         (λ keys. record { keys = keys }) (λ s. refl) };
 
-    ghost view = { λ s. record { keys = s.items.items } };
+    ghost view = { λ s. record { keys = items_of s.items } };
 
-    ghost invariant = { λ s. IsStrictlySortedBy T.cmp s.items.items };
+    ghost invariant = { λ s. IsStrictlySortedBy T.cmp (items_of s.items) };
 }
 
 impl<T: Ord> SortedSet<T> {
@@ -39,7 +41,7 @@ impl<T: Ord> SortedSet<T> {
         ensures { (item : T) → contains T.cmp result item ≡ false }
     {
         SortedSet {
-            items: Vec::new(alloc),
+            items: FewItems::new(alloc),
         }
     }
 
@@ -49,11 +51,9 @@ impl<T: Ord> SortedSet<T> {
         T: Drop,
         ensures { (item : T) → contains T.cmp result item ≡ has_mark T.cmp list item }
     {
-        let mut items = list.into_vec();
-        items.sort_unstable();
-        items.dedup();
-        items.shrink_to_fit();
-        SortedSet { items }
+        SortedSet {
+            items: FewItems::InMemory(sorted(list)),
+        }
     }
 
     /// Returns the items in order.
@@ -63,19 +63,11 @@ impl<T: Ord> SortedSet<T> {
         self.items.as_slice()
     }
 
-    pub fn into_list(self) -> List<T>
-        ensures items { result ≡ self.keys }
-        ensures in_order { IsStrictlySortedBy T.cmp result }
-    {
-        let SortedSet { items } = self;
-        List::from_vec(items)
-    }
-
     pub fn is_empty(&self) -> bool
         ensures none { result ≡ true → (item : T) → contains T.cmp self.now item ≡ false }
         ensures some { result ≡ false → 0 < btree_set_len self.now }
     {
-        self.items.is_empty()
+        self.items.as_slice().is_empty()
     }
 
     pub fn contains(&self, item: &T) -> bool
@@ -95,7 +87,7 @@ impl<T: Ord> SortedSet<T> {
         match place(self.items.as_slice(), &item) {
             Ok(_) => {}
             Err(at) => {
-                put_at(&mut self.items, at, item)?;
+                self.items.insert(at, item)?;
             }
         }
         Ok(())
@@ -109,25 +101,22 @@ impl<T: Ord> SortedSet<T> {
             ≡ (not (eq_by_cmp T.cmp item.now other) && contains T.cmp self.old other) }
     {
         match place(self.items.as_slice(), item) {
-            Ok(at) => {
-                let _item = self.items.remove(at);
-            }
+            Ok(at) => self.items.remove(at),
             Err(_) => {}
         }
     }
 }
 
-/// Inserts an item at an index. The first item reserves memory for one item only.
-fn put_at<T: Drop>(items: &mut Vec<T>, at: usize, item: T) -> Result<(), Memory>
-    requires { at ≤ length items.old.items }
-    ensures { items.new.items
-        ≡ (if is_ok result then insert items.old.items at item else items.old.items) }
+/// Sorts items, and removes duplicates.
+pub(crate) fn sorted<T: Ord + Drop>(list: List<T>) -> Vec<T>
+    ensures same { (item : T) → has_mark T.cmp result.items item ≡ has_mark T.cmp list item }
+    ensures in_order { IsStrictlySortedBy T.cmp result.items }
 {
-    if items.is_empty() {
-        items.reserve_exact(1)?;
-    }
-    items.insert(at, item)?;
-    Ok(())
+    let mut items = list.into_vec();
+    items.sort_unstable();
+    items.dedup();
+    items.shrink_to_fit();
+    items
 }
 
 /// Returns the index of the item as `Ok`, or the index to insert it at as `Err`.

@@ -16,7 +16,6 @@ ghost use Rattle.row_sets.specs.Standing.{EntersWithin, Standing, any_met, keys_
 use crate::used_keys::UsedKeys;
 use chunked_map::map::ChunkedMap;
 use mark_graph::by_mark::rows_at;
-use mark_graph::sorted_set::SortedSet;
 use mesh_base::list::List;
 use mesh_base::memory::Memory;
 use mesh_base::steps::Steps;
@@ -25,6 +24,7 @@ use object_store::store::Store;
 use row_table::peeked::Peeked;
 use row_table::row_index::RowIndex;
 use std::alloc::Global;
+use std::collections::BTreeSet;
 
 /// The rows of an index that ids are open with, each stored once for all ids that have its key.
 /// After Memory the rows are not known, but the keys of the ids are unchanged.
@@ -96,7 +96,7 @@ impl<I: RowIndex + Drop> RowSets<I> {
         let Some(keys) = self.by_id.remove(&id) else {
             return;
         };
-        let none = SortedSet::new(self.alloc);
+        let none = BTreeSet::new(self.alloc);
         self.used.take_others(keys.as_slice(), &none, id);
     }
 

@@ -9,7 +9,7 @@ ghost use Rattle.row_table.specs.IndexRows.{has_key};
 ghost use Rattle.row_views.specs.Ids.{OneMoreUnless, has_ids};
 ghost use Rattle.row_sets.specs.Standing.{EntersWithin, InUse, is_left_out, open_cost};
 
-use mark_graph::by_mark::{put_one, take_one};
+use mark_graph::by_mark::{put_one, set_of, take_one};
 use mark_graph::sorted_set::SortedSet;
 use mesh_base::copied::Copied;
 use mesh_base::list::List;
@@ -18,7 +18,7 @@ use mesh_base::steps::Steps;
 use object_store::store::Store;
 use row_table::row_index::RowIndex;
 use std::alloc::Global;
-use std::collections::BTreeMap;
+use std::collections::{BTreeMap, BTreeSet};
 
 /// The keys of an index that have ids, each with its ids. Each is one user of the index.
 #[derive(Drop)]
@@ -133,14 +133,14 @@ impl<I: RowIndex + Drop> UsedKeys<I> {
         if old.is_empty() {
             return Ok(());
         }
-        let kept = SortedSet::of_list(new.copy(self.alloc)?);
+        let kept = set_of(self.alloc, new.copy(self.alloc)?)?;
         self.take_others(old, &kept, id);
         Ok(())
     }
 
     /// Removes an id from each old key that is not among the new ones. A key without ids leaves the
     /// index. Allocates nothing.
-    pub(crate) fn take_others(&mut self, old: &[I::Key], new: &SortedSet<I::Key>, id: u64)
+    pub(crate) fn take_others(&mut self, old: &[I::Key], new: &BTreeSet<I::Key>, id: u64)
         ensures ids { RemovesRow I.Key.Ord.cmp (is_left_out I.Key.Ord.cmp old.now new.now) id
             self.old.by_key self.new.by_key }
         ensures in_use { (held : ObjectMap) → InUse I.Key.Ord.cmp I.users I.stands held
@@ -154,7 +154,7 @@ impl<I: RowIndex + Drop> UsedKeys<I> {
     }
 
     // Removes an id from a key, unless the key is one of these.
-    fn take_unless(&mut self, key: &I::Key, kept: &SortedSet<I::Key>, id: u64)
+    fn take_unless(&mut self, key: &I::Key, kept: &BTreeSet<I::Key>, id: u64)
         ensures ids { RemovesRow I.Key.Ord.cmp (λ k. eq_by_cmp I.Key.Ord.cmp key.now k
             && not (contains I.Key.Ord.cmp kept.now k)) id self.old.by_key self.new.by_key }
         ensures in_use { (held : ObjectMap) → InUse I.Key.Ord.cmp I.users I.stands held

@@ -1,9 +1,10 @@
 -- The ids of rows that have numbers: what becomes of them as an id is opened or closed.
 use Rattle.std.proofs.Common.{◌≡◌, ◌⊎◌, inl, inr, ℕ, ◌&&◌, ◌||◌, not, Bool, true, false, cond, nat_eq, List, [], ◌∷◌, Option, Some, None, refl, sym, ap, subst, ◌∙◌}
-use Rattle.std.proofs.lemmas.Bool.{and_parts, false≢true}
+use Rattle.std.proofs.lemmas.Bool.{and_parts, false≢true, lt-ltb, ltb-true}
 use Rattle.std.proofs.lemmas.Bool.Decides.{eqb_tells}
 use Rattle.std.proofs.lemmas.Cmp.{nat_cmp_total}
 use Rattle.std.specs.BTreeMap.{BTreeMap}
+use Rattle.std.specs.BTreeSet.{btree_set_len}
 use Rattle.std.specs.Cmp.{IsTotalOrder}
 use Rattle.std.specs.FinMap.{IsAntisymmetric, nat_cmp-IsAntisymmetric}
 use Rattle.std.specs.List.{cons_option, filter_map, list_any}
@@ -15,8 +16,7 @@ use Rattle.row_table.proofs.Keys.{is_itself, is_other, is_same, is_same_back, te
 use Rattle.row_table.proofs.MarkLists.{same_any}
 use Rattle.row_views.specs.Ids.{AddsId, AreTied, RemovesId, SetsAt, has_ids_at, has_ids_in, id_at, id_in, ids_of, is_key, is_number, is_one_of, is_open, key_at, number_of}
 use Rattle.row_views.specs.declared.numbered_ids.NumberedIds.{NumberedIds}
-use Rattle.row_views.proofs.IdSets.{one_of, some_in}
-use Rattle.row_views.proofs.Ids.{at_id, or_plain, or_rest, put_ids, take_ids}
+use Rattle.row_views.proofs.Ids.{at_id, first_of, or_plain, or_rest, put_ids, some_of, take_ids}
 
 itself : (n : ℕ) → eq_by_cmp nat_cmp n n ≡ true
 itself = is_itself nat_cmp nat_cmp_total nat_cmp-IsAntisymmetric
@@ -25,11 +25,11 @@ itself = is_itself nat_cmp nat_cmp_total nat_cmp-IsAntisymmetric
 
 pub open_one : (by_number : NumberedIds) (number : Option ℕ) → has_ids_at by_number number ≡ true → (id : ℕ) × (id_at by_number number id ≡ true)
 open_one by_number None has = absurd (false≢true has)
-open_one by_number (Some n) has = one_of (ids_of by_number n) has
+open_one by_number (Some n) has = first_of (ids_of by_number n) (ltb-true 0 (btree_set_len (ids_of by_number n)) has)
 
 pub open_where : (by_number : NumberedIds) (number : Option ℕ) (id : ℕ) → id_at by_number number id ≡ true → has_ids_at by_number number ≡ true
 open_where by_number None id is = absurd (false≢true is)
-open_where by_number (Some n) id is = some_in (ids_of by_number n) id is
+open_where by_number (Some n) id is = lt-ltb 0 (btree_set_len (ids_of by_number n)) (some_of (ids_of by_number n) id is)
 
 open_alike : (old new : NumberedIds) (was now : Option ℕ) → ((id : ℕ) → id_at new now id ≡ id_at old was id) → has_ids_at new now ≡ has_ids_at old was
 open_alike old new was now same = by (has_ids_at new now) (has_ids_at old was) refl refl

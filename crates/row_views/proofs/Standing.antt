@@ -3,6 +3,7 @@ use Rattle.std.proofs.Common.{◌≡◌, inl, inr, ℕ, ◌+◌, ◌-◌, ◌<�
 use Rattle.std.proofs.lemmas.Bool.{false≢true, lt-ltb, true≢false}
 use Rattle.std.proofs.lemmas.Bool.Decides.{eqb_tells}
 use Rattle.std.specs.BTreeMap.{BTreeMap, is_at}
+use Rattle.std.specs.BTreeSet.{BTreeSet, btree_set_len, contains}
 use Rattle.std.specs.Cmp.{IsTotalOrder}
 use Rattle.std.specs.FinMap.{IsAntisymmetric}
 use Rattle.std.specs.List.{filter_map, list_any}
@@ -16,9 +17,8 @@ use Rattle.mark_graph.specs.RowMarks.{has_row}
 use Rattle.row_table.specs.IndexRows.{AreMet, AreNumbered, Filter, IsCurrent, KeepNumbers, OneLess, has_key}
 use Rattle.row_table.proofs.Keys.{flipped, is_itself}
 use Rattle.row_table.proofs.MarkLists.{meets_same, same_any}
-use Rattle.row_views.specs.Ids.{AddsId, AreTied, OneMoreUnless, RemovesId, SetsAt, has_ids_at, has_ids_in, has_some, id_at, id_in, ids_of, is_in, is_key, is_number, is_one_of, is_open, empty_ids, key_at, number_of}
+use Rattle.row_views.specs.Ids.{AddsId, AreTied, OneMoreUnless, RemovesId, SetsAt, has_ids_at, has_ids_in, id_at, id_in, ids_of, is_key, is_number, is_one_of, is_open, empty_ids, key_at, number_of}
 use Rattle.row_views.specs.Standing.{AreKept, HasSameRow, Standing, is_met}
-use Rattle.row_views.specs.declared.id_set.IdSet.{IdSet}
 use Rattle.row_views.specs.declared.numbered_ids.NumberedIds.{NumberedIds}
 use Rattle.row_views.proofs.Ids.{less_users, more_users, same_users}
 use Rattle.row_views.proofs.Numbers.{any_number, ids_met, open_there, put_alike, put_there, put_tied, some_number, take_alike, take_tied}
@@ -90,15 +90,15 @@ module _ {Index Key : Type 0} (cmp : Key → Key → Ordering) (total : IsTotalO
   }
     where
       no_set : (m : ℕ) → ids_of by_number m ≡ empty_ids
-      no_set m = ap (λ (sets : List IdSet). get_or sets m empty_ids) no_numbers
+      no_set m = ap (λ (sets : List (BTreeSet ℕ)). get_or sets m empty_ids) no_numbers
 
       none_open : (o : Option ℕ) → has_ids_at by_number o ≡ false
       none_open None = refl
-      none_open (Some m) = ap has_some (no_set m)
+      none_open (Some m) = ap (λ ids. nat_lt 0 (btree_set_len ids)) (no_set m)
 
       none_at : (o : Option ℕ) (n : ℕ) → id_at by_number o n ≡ false
       none_at None n = refl
-      none_at (Some m) n = ap (λ ids. is_in ids n) (no_set m)
+      none_at (Some m) n = ap (λ ids. contains nat_cmp ids n) (no_set m)
 
   module _ (laws : (index : Index) (held : ObjectMap) → stand index held → AreNumbered (users index) (number_at index)) (held : ObjectMap) (index next : Index) (by_number new : NumberedIds) (by_id later : BTreeMap ℕ Key) (id : ℕ) (key : Key)
       (st : Stands held index by_number by_id) where

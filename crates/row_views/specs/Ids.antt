@@ -1,5 +1,5 @@
 -- Ids with their values, and the ids of each key.
-use Rattle.std.specs.Prelude.{◌≡◌, ◌&&◌, ◌||◌, not, ℕ, nat_eq, nat_lt, Bool, true, false, List, [], Option, Some, None, if◌then◌else◌, is_some, slice_index_or}
+use Rattle.std.specs.Prelude.{◌≡◌, ◌&&◌, ◌||◌, not, ℕ, nat_eq, nat_lt, Bool, true, false, List, [], Option, Some, None, if◌then◌else◌, slice_index_or}
 use Rattle.std.specs.BTreeMap as tree
 use Rattle.std.specs.BTreeMap.{BTreeMap}
 use Rattle.std.specs.BTreeSet.{BTreeSet, btree_set_len, contains}
@@ -7,7 +7,6 @@ use Rattle.std.specs.Ordering.{eq_by_cmp, nat_cmp}
 use Rattle.std.specs.declared.cmp.Ordering.{Ordering}
 use Rattle.mark_graph.specs.RowMarks.{has_rows}
 use Rattle.row_table.specs.IndexRows.{OneMore, has_key}
-use Rattle.row_views.specs.declared.id_set.IdSet.{IdSet}
 use Rattle.row_views.specs.declared.numbered_ids.NumberedIds.{NumberedIds}
 
 -- ---- the values of ids
@@ -24,37 +23,27 @@ Keeps old new = (id : ℕ) → new id ≡ old id
 abbrev pub key_at : {Key : Type 0} → BTreeMap ℕ Key → ℕ → Option Key
 key_at by_id id = tree.get nat_cmp by_id id
 
--- ---- sets of ids
+-- ---- the ids of rows by number
+
+abbrev pub empty_ids : BTreeSet ℕ
+empty_ids = record { keys = [] }
+
+-- the ids at a number, which has none past the last set
+abbrev pub ids_of : NumberedIds → ℕ → BTreeSet ℕ
+ids_of by_number number = slice_index_or by_number.sets.items number empty_ids
+
+-- the id is at the number
+abbrev pub id_in : NumberedIds → ℕ → ℕ → Bool
+id_in by_number number id = contains nat_cmp (ids_of by_number number) id
+
+-- there are ids at the number
+abbrev pub has_ids_in : NumberedIds → ℕ → Bool
+has_ids_in by_number number = nat_lt 0 (btree_set_len (ids_of by_number number))
 
 -- it is this number, if there is one
 abbrev pub is_number : Option ℕ → ℕ → Bool
 is_number None number = false
 is_number (Some n) number = eq_by_cmp nat_cmp n number
-
--- the id is in the set
-abbrev pub is_in : IdSet → ℕ → Bool
-is_in ids id = is_number ids.first id || contains nat_cmp ids.others id
-
--- there are ids in the set
-abbrev pub has_some : IdSet → Bool
-has_some ids = is_some ids.first || nat_lt 0 (btree_set_len ids.others)
-
-abbrev pub empty_ids : IdSet
-empty_ids = record { first = None; others = record { keys = [] } }
-
--- ---- the ids of rows by number
-
--- the ids at a number, which has none past the last set
-abbrev pub ids_of : NumberedIds → ℕ → IdSet
-ids_of by_number number = slice_index_or by_number.sets.items number empty_ids
-
--- the id is at the number
-abbrev pub id_in : NumberedIds → ℕ → ℕ → Bool
-id_in by_number number id = is_in (ids_of by_number number) id
-
--- there are ids at the number
-abbrev pub has_ids_in : NumberedIds → ℕ → Bool
-has_ids_in by_number number = has_some (ids_of by_number number)
 
 -- the id is added at the numbers of the set, and nothing else changes
 abbrev pub AddsId : (ℕ → Bool) → ℕ → NumberedIds → NumberedIds → Type 0

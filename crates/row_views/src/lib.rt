@@ -7,7 +7,6 @@
 //! subscriptions: views of queries. Each implementation defines which it keeps.
 #![tactic(auto)]
 
-pub mod id_set;
 pub mod numbered_ids;
 pub mod query_views;
 pub mod views;

@@ -1,12 +1,13 @@
 // The ids of each row, by the number of the row.
-ghost use Rattle.std.specs.Prelude.{◌≡◌, ◌<◌, ◌&&◌, ◌||◌, [], not, ℕ, length, IfOk, OnOk};
+ghost use Rattle.std.specs.Prelude.{◌≡◌, ◌<◌, ◌&&◌, ◌||◌, [], not, ℕ, nat_lt, length, IfOk, OnOk};
+ghost use Rattle.std.specs.BTreeSet.{btree_set_len, contains};
 ghost use Rattle.std.specs.List.{list_any};
 ghost use Rattle.std.specs.List.Sorted.{IsStrictlySortedBy};
 ghost use Rattle.std.specs.Ordering.{eq_by_cmp, nat_cmp};
 ghost use Rattle.mark_graph.specs.RowMarks.{has_row};
-ghost use Rattle.row_views.specs.Ids.{AddsId, RemovesId, has_ids_in, has_some, id_in, is_in};
+ghost use Rattle.row_views.specs.Ids.{AddsId, RemovesId, has_ids_in, id_in};
 
-use crate::id_set::IdSet;
+use mark_graph::by_mark::in_order;
 use mark_graph::sorted_set::SortedSet;
 use mesh_base::list::List;
 use mesh_base::memory::Memory;
@@ -16,7 +17,7 @@ use std::alloc::Global;
 /// that has had ids. A set without ids owns no memory.
 #[derive(Drop)]
 pub struct NumberedIds {
-    sets: Vec<IdSet>,
+    sets: Vec<SortedSet<u64>>,
 }
 
 impl NumberedIds {
@@ -46,9 +47,9 @@ impl NumberedIds {
             return Ok(());
         }
         for _ in self.sets.len()..number {
-            self.sets.push(IdSet::new(alloc))?;
+            self.sets.push(SortedSet::new(alloc))?;
         }
-        self.sets.push(IdSet::new(alloc))?;
+        self.sets.push(SortedSet::new(alloc))?;
         Ok(())
     }
 
@@ -70,7 +71,7 @@ impl NumberedIds {
         ensures in_order { IfOk result (λ ids. IsStrictlySortedBy nat_cmp ids) }
     {
         let ids = self.gather_all(alloc, numbers)?;
-        Ok(SortedSet::of_list(List::from_vec(ids)).into_list())
+        Ok(in_order(List::from_vec(ids)))
     }
 
     // Returns the ids at these numbers, number by number.
@@ -90,23 +91,24 @@ impl NumberedIds {
         ensures { OnOk result ((id : ℕ) → has_row id ids.new.items
             ≡ (has_row id ids.old.items || id_in self.now number id)) }
     {
-        match self.sets.get(number as usize) {
-            Some(at) => at.append_to(ids),
-            None => Ok(()),
+        if let Some(at) = self.sets.get(number as usize) {
+            ids.extend_from_slice(at.as_slice())?;
         }
+        Ok(())
     }
 }
 
 // Removes an id from a set. Returns whether others are left.
-fn take_from(alloc: Global, ids: &mut IdSet, id: u64) -> bool
-    ensures taken { (r : ℕ) → is_in ids.new r
-        ≡ (not (eq_by_cmp nat_cmp id r) && is_in ids.old r) }
-    ensures left { result ≡ has_some ids.new }
+#[tactic(auto, using(crate::proofs::IdSets::none_of))]
+fn take_from(alloc: Global, ids: &mut SortedSet<u64>, id: u64) -> bool
+    ensures taken { (r : ℕ) → contains nat_cmp ids.new r
+        ≡ (not (eq_by_cmp nat_cmp id r) && contains nat_cmp ids.old r) }
+    ensures left { result ≡ nat_lt 0 (btree_set_len ids.new) }
 {
-    ids.remove(id);
+    ids.remove(&id);
     if !ids.is_empty() {
         return true;
     }
-    *ids = IdSet::new(alloc);
+    *ids = SortedSet::new(alloc);
     false
 }

@@ -25,7 +25,7 @@ returns-clause-touched g c = λ config held kept id.
     let asked = c.in_ok-asked.ensures.touched held kept.servers.rows id ∙ ap (λ filter. is_met filter held marks (key_at self.servers.by_id id)) kept.servers.filtered in
     let rerouted = c.in_ok-rerouted.ensures.touched held kept.routes.rows id ∙ ap (λ filter. any_met filter held marks (routes_of self id)) kept.routes.filtered in
     let authorized = c.in_ok-authorized.ensures.touched held kept.authz.rows id ∙ ap (λ filter. any_met filter held marks (authz_of self id)) kept.authz.filtered in
-    c.in_order-all.ensures.ids id
+    c.in_order-all.ensures.rows id
     ∙ ap (has_row id) (c.in_ok-all-2.ensures ∙ (λ i. (c.in_ok-all.ensures ∙ ap (λ ids. c.in_ok-asked.asked ++ ids) c.as_slice-4.ensures) i ++ c.as_slice-5.ensures i))
     ∙ in_all id c.in_ok-asked.asked c.in_ok-rerouted.rerouted c.in_ok-authorized.authorized _ _ _ asked rerouted authorized
 
@@ -61,7 +61,7 @@ returns-clause-moved g c = λ config held kept leads.
     (λ id out. servers_same config held after (key_at self.servers.by_id id) (same id out))
     (λ id. c.in_ok-rerouted.ensures.touched held kept.routes.rows id ∙ ap (λ filter. any_met filter held marks (routes_of self id)) kept.routes.filtered)
     by_routes by_rows c.in_order-moved.result
-    (λ id. c.in_order-moved.ensures.ids id ∙ ap (has_row id) (c.in_ok-moved-2.ensures ∙ ap (λ ids. c.in_ok-moved.moved ++ ids) c.as_slice-3.ensures) ∙ in_either id c.in_ok-moved.moved c.in_ok-others.others)
+    (λ id. c.in_order-moved.ensures.rows id ∙ ap (has_row id) (c.in_ok-moved-2.ensures ∙ ap (λ ids. c.in_ok-moved.moved ++ ids) c.as_slice-3.ensures) ∙ in_either id c.in_ok-moved.moved c.in_ok-others.others)
 
 pub returns-clause-steps : goal.returns-clause-steps
 returns-clause-steps g c = λ config held kept.

@@ -1,4 +1,4 @@
-use Rattle.std.proofs.Common.{◌≡◌, ◌&&◌, not, Some, List, refl, subst}
+use Rattle.std.proofs.Common.{◌&&◌, not, Some, List, refl, subst}
 use Rattle.mark_graph.specs.RowMarks.{AddsRow, RemovesRow}
 use Rattle.row_table.specs.IndexRows.{has_key}
 use Rattle.row_sets.proofs.Standing.{moved_stand, sets_at}

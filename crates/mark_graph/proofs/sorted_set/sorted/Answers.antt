@@ -5,15 +5,15 @@ use Rattle.std.proofs.lemmas.List.Filters.{dedup_is}
 use Rattle.std.proofs.lemmas.List.Kept.{IsStrictlySortedBy-dedup}
 use Rattle.std.proofs.lemmas.List.Sorted.{list_any-IsPermutation}
 use Rattle.mark_graph.proofs.Sorted.{once_has}
-use Rattle.mark_graph.proofs.sorted_set.SortedSet.of_list.Goals as goal
+use Rattle.mark_graph.proofs.sorted_set.sorted.Goals as goal
 
-pub invariant_of-result : goal.invariant_of-result
-invariant_of-result g c =
+pub returns-clause-in_order : goal.returns-clause-in_order
+returns-clause-in_order g c =
     rw (c.shrink_to_fit.ensures.items, dedup_is _ _ _ c.dedup.ensures.filtered)
     (IsStrictlySortedBy-dedup g.met.T.Ord.total g.met.T.Ord.matches_eq _ c.sort_unstable.ensures.sorted)
 
-pub returns : goal.returns
-returns g c = λ item.
+pub returns-clause-same : goal.returns-clause-same
+returns-clause-same g c = λ item.
     let test = eq_by_cmp g.T.Ord.cmp item in
     ap (list_any test) (c.shrink_to_fit.ensures.items ∙ dedup_is _ _ _ c.dedup.ensures.filtered)
     ∙ once_has g.met.T.Ord.total _ g.met.T.Ord.matches_eq item c.sort_unstable.new.self.items
