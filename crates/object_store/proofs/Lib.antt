@@ -7,6 +7,7 @@ pub mod Kept
 pub mod KeptAt
 pub mod KindLists
 pub mod Leading
+pub mod Neighbours
 pub mod OneMore
 pub mod PartsOfPlaces
 pub mod PutAll

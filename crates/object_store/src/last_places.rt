@@ -1,12 +1,13 @@
-// Where the last object of each kind was found.
+// Where the last object of each kind was found, set or removed.
 ghost use Rattle.std.specs.Prelude.{◌≡◌, ◌<◌};
 ghost use Rattle.mesh_base.specs.KeyOrder.{kind_place};
 
 use mesh_base::key::Kind;
 use std::cell::Cell;
 
-/// The index of the last object found of each kind. Lookups in the order of the keys find each
-/// object at this index or the next one, without a search. It is a hint: no clause reads it.
+/// The index at which the last object of each kind was found, set or removed. Calls in the order of
+/// the keys find each object, or the place of a new one, at this index or the next one, without a
+/// search. It is a hint: no clause reads it.
 #[derive(Drop)]
 pub struct LastPlaces {
     of_kinds: [Cell<usize>; 11],

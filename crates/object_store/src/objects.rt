@@ -1,4 +1,4 @@
-ghost use Rattle.std.specs.Prelude.{◌≡◌, ◌≤◌, true, false, IfSome, IfOk, IfErr, OnOk, OnErr};
+ghost use Rattle.std.specs.Prelude.{◌≡◌, ◌≤◌, false, IfSome, IfOk, IfErr, OnOk, OnErr, option_map, slice_get};
 ghost use Rattle.std.specs.List.{All};
 ghost use Rattle.std.specs.Option.{option_copied};
 ghost use Rattle.std.specs.FinMap as map;
@@ -104,7 +104,7 @@ impl Objects {
     }
 
     /// Returns the object at the key of this kind, namespace and name, without building the key.
-    /// The index of the last object found of the kind and the next one are tried before a search.
+    /// The index kept in `last` for the kind and the next one are tried before a search.
     pub fn find(&self, kind: Kind, ns: &Text, name: &Text) -> Option<&Object>
         ensures value { option_copied result ≡ map.get self.now (key_with kind ns.now name.now) }
         ensures at_key { IfSome result (λ o. key_of o.now ≡ key_with kind ns.now name.now) }
@@ -126,8 +126,10 @@ impl Objects {
         ensures removed { self.new ≡ map.remove self.old key.now }
     {
         let objects = &mut self.of_kinds[place_of(key.kind)];
-        match place(objects, key.kind, &key.ns, &key.name) {
+        let last = self.last.of(key.kind);
+        match place_from(objects, last.get(), key.kind, &key.ns, &key.name) {
             Ok(at) => {
+                last.set(at);
                 self.held -= 1;
                 objects.remove(at)
             }
@@ -152,13 +154,18 @@ impl Objects {
         ensures err { OnErr result (self.new ≡ self.old) }
     {
         let objects = &mut self.of_kinds[place_of(key.kind)];
-        match place(objects, key.kind, &key.ns, &key.name) {
-            Ok(at) => Ok(objects.replace(at, object)),
+        let last = self.last.of(key.kind);
+        match place_from(objects, last.get(), key.kind, &key.ns, &key.name) {
+            Ok(at) => {
+                last.set(at);
+                Ok(objects.replace(at, object))
+            }
             Err(at) => {
                 if self.held == limit as usize {
                     return Err(StoreFault::Full { held: limit });
                 }
                 objects.insert(alloc, at, object)?;
+                last.set(at);
                 self.held += 1;
                 Ok(None)
             }
@@ -227,7 +234,8 @@ impl Objects {
     }
 }
 
-/// Does the same as `place`, but tries the index `first` and the next one before a search.
+/// Does the same as `place`, but tries the index `first` and the next one before a search. A key
+/// that belongs between the two needs no search either.
 fn place_from(
     objects: &ChunkedList<Object>,
     first: usize,
@@ -241,24 +249,37 @@ fn place_from(
     ensures gap { IfErr result (IsGap (λ o. key_cmp (key_of o) (key_with kind ns.now name.now))
         objects.now) }
 {
-    if stands_at(objects, first, kind, ns, name) {
-        return Ok(first);
-    }
-    let next = first.saturating_add(1);
-    if stands_at(objects, next, kind, ns, name) {
-        return Ok(next);
+    match order_at(objects, first, kind, ns, name) {
+        Some(Ordering::Equal) => return Ok(first),
+        Some(Ordering::Less) => {
+            let next = first.saturating_add(1);
+            match order_at(objects, next, kind, ns, name) {
+                Some(Ordering::Equal) => return Ok(next),
+                Some(Ordering::Less) => {}
+                Some(Ordering::Greater) => return Err(next),
+                None => return Err(next),
+            }
+        }
+        Some(Ordering::Greater) if first == 0 => return Err(0),
+        _ => {}
     }
     place(objects, kind, ns, name)
 }
 
-/// Returns whether the object at an index has the key of this kind, namespace and name.
-fn stands_at(objects: &ChunkedList<Object>, at: usize, kind: Kind, ns: &Text, name: &Text) -> bool
-    ensures { result ≡ true → IsHit (λ o. key_cmp (key_of o) (key_with kind ns.now name.now))
-        objects.now at }
+/// Compares the key of the object at an index with that of this kind, namespace and name.
+fn order_at(
+    objects: &ChunkedList<Object>,
+    at: usize,
+    kind: Kind,
+    ns: &Text,
+    name: &Text,
+) -> Option<Ordering>
+    ensures { result ≡ option_map (λ o. key_cmp (key_of o) (key_with kind ns.now name.now))
+        (slice_get objects.now at) }
 {
     match objects.get(at) {
-        Some(object) => compare_key(object, kind, ns, name) == Ordering::Equal,
-        None => false,
+        Some(object) => Some(compare_key(object, kind, ns, name)),
+        None => None,
     }
 }
 

@@ -6,8 +6,8 @@ use Rattle.object_store.proofs.KindLists.{added_count, added_is, added_ok, chang
 use Rattle.object_store.proofs.Room.{none_left, room_held, room_left}
 use Rattle.object_store.proofs.objects.Objects.set.Goals as goal
 
-pub place-requires : goal.place-requires
-place-requires c = (own_good each c.self.inside.of_kinds c.self.invariant.0 c.args.key.now.kind c.place_of.result c.index-self-place_of.result c.place_of.ensures.place c.place_of.ensures.bound).0
+pub place_from-requires : goal.place_from-requires
+place_from-requires c = (own_good each c.self.inside.of_kinds c.self.invariant.0 c.args.key.now.kind c.place_of.result c.index-self-place_of.result c.place_of.ensures.place c.place_of.ensures.bound).0
 
 pub invariant_of-self : goal.invariant_of-self
 invariant_of-self c =
