@@ -11,7 +11,7 @@ use std::alloc::Global;
 use std::cmp::Ordering;
 
 /// The length from which a chunk is split in two before an insertion.
-const FULL: usize = 512;
+const FULL: usize = 256;
 
 /// The chunk of an index, and the index within the chunk.
 #[derive(Clone, Copy)]
