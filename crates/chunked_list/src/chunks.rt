@@ -1,7 +1,8 @@
-ghost use Rattle.std.specs.Prelude.{◌≡◌, ◌≤◌, ◌<◌, ◌+◌, ◌^◌, ◌++◌, [], ◌∷◌, IfSome, IfNone, IfOk, OnOk, OnErr, flat_map, length, slice_get, vec_items};
+ghost use Rattle.std.specs.Prelude.{◌≡◌, ◌≤◌, ◌<◌, ◌+◌, ◌^◌, ◌++◌, [], ◌∷◌, IfSome, IfNone, IfOk, OnOk, OnErr, drop, flat_map, length, slice_get, take, vec_items};
 ghost use Rattle.std.specs.Fn.{ComputesKey};
 ghost use Rattle.std.specs.List.{HoldsAt, insert as list_insert, remove as list_remove};
 ghost use Rattle.std.specs.List.Sorted.{IsBinarySearchResult, IsSearchInRange};
+ghost use Rattle.std.specs.Vec.{vec_len};
 ghost use Rattle.std.specs.declared.cmp.Ordering.{Ordering};
 ghost use Rattle.std.specs.declared.option.Option.TheVariants.{Some};
 ghost use Rattle.chunked_list.specs.Spots.{IsSpot, NoneEmpty, start_of};
@@ -132,7 +133,7 @@ fn split<T: Drop>(chunks: &mut Vec<Vec<T>>, alloc: Global, chunk: usize) -> Resu
 {
     chunks.insert(chunk + 1, Vec::new(alloc))?;
     let half = chunks[chunk].len() / 2;
-    match chunks[chunk].split_off(half) {
+    match cut(&mut chunks[chunk], half) {
         Ok(back) => {
             chunks[chunk + 1] = back;
             Ok(())
@@ -142,6 +143,21 @@ fn split<T: Drop>(chunks: &mut Vec<Vec<T>>, alloc: Global, chunk: usize) -> Resu
             Err(Memory)
         }
     }
+}
+
+/// Moves the items from an index on to a new chunk, and leaves no room behind the others, since items
+/// that are inserted in ascending order go to the new chunk.
+fn cut<T: Drop>(chunk: &mut Vec<T>, at: usize) -> Result<Vec<T>, Memory>
+    requires { at ≤ vec_len chunk.old }
+    ensures items { OnOk result (chunk.new.items ≡ take at chunk.old.items) }
+    ensures len { OnOk result (vec_len chunk.new ≡ at) }
+    ensures tail { IfOk result (λ back. back.items ≡ drop at chunk.old.items) }
+    ensures tail_len { IfOk result (λ back. vec_len back + at ≡ vec_len chunk.old) }
+    ensures err { OnErr result (chunk.new ≡ chunk.old) }
+{
+    let back = chunk.split_off(at)?;
+    chunk.shrink_to_fit();
+    Ok(back)
 }
 
 /// Appends an item to the last chunk, or in a new one if that is full.

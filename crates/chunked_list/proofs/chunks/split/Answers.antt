@@ -12,13 +12,13 @@ returns-in-Ok-clause-filled g c =
     let same = lent ∙ get_or_default c.args.chunks.now.items c.args.chunk c.index_mut.result.now c.index.result.now c.requires.within ∙ sym read in
     let long = subst (λ v. 2 ≤ length (vec_items v)) (sym read) (c.requires.long c.index.result.now) in
     let whole = ap vec_len same in
-    let front : 0 < length (vec_items c.split_off.new.self) = omega (arith, long, c.len-half.ensures, c.index.result.now.ok.0, c.in-Ok.ensures.len, c.split_off.new.self.ok.0) in
+    let front : 0 < length (vec_items c.cut.new.chunk) = omega (arith, long, c.len-half.ensures, c.index.result.now.ok.0, c.in-Ok.ensures.len, c.cut.new.chunk.ok.0) in
     let back : 0 < length (vec_items c.in-Ok.back) = omega (arith, long, whole, c.len-half.ensures, c.index.result.now.ok.0, c.in-Ok.ensures.tail_len, c.in-Ok.back.ok.0) in
-    filled_split vec_items c.args.chunks.now.items c.args.chunk (c.args.chunk + 1) c.insert.new.self.items c.new.result c.split_off.new.self c.in-Ok.back (omega arith) c.in_ok-insert.ensures.items c.requires.within front back c.requires.filled
+    filled_split vec_items c.args.chunks.now.items c.args.chunk (c.args.chunk + 1) c.insert.new.self.items c.new.result c.cut.new.chunk c.in-Ok.back (omega arith) c.in_ok-insert.ensures.items c.requires.within front back c.requires.filled
 
 pub returns-in-Ok-clause-same : goal.returns-in-Ok-clause-same
 returns-in-Ok-clause-same g c =
-    split_is vec_items c.args.chunks.now.items c.args.chunk (c.args.chunk + 1) c.insert.new.self.items c.new.result c.split_off.new.self c.in-Ok.back c.index_mut.result.now
+    split_is vec_items c.args.chunks.now.items c.args.chunk (c.args.chunk + 1) c.insert.new.self.items c.new.result c.cut.new.chunk c.in-Ok.back c.index_mut.result.now
     (omega arith) c.in_ok-insert.ensures.items c.requires.within c.index_mut.ensures.value
     (ap (λ us. us ++ vec_items c.in-Ok.back) c.in-Ok.ensures.items ∙ ap (λ us. take (c.len-half.result / 2) (vec_items c.index_mut.result.now) ++ us) c.in-Ok.ensures.tail ∙ take-append-drop (c.len-half.result / 2) (vec_items c.index_mut.result.now))
 
