@@ -1,7 +1,7 @@
 //! Tests of the base crates: external test vectors, and each call once with enough memory. They are
 //! in a crate of their own, since a crate with tests is proved twice.
 //!
-//! Depends on mesh_base, mesh_outside, chunked_list, line_run, net_cidr, label_select, k8s_meta and
+//! Depends on mesh_base, mesh_outside, chunked_list, chunked_map, line_run, net_cidr, label_select, k8s_meta and
 //! proto_wire.
 #![tactic(auto)]
 
@@ -13,6 +13,8 @@ mod durations;
 mod frames;
 #[cfg(test)]
 mod lines;
+#[cfg(test)]
+mod maps;
 #[cfg(test)]
 mod networks;
 #[cfg(test)]
