@@ -7,17 +7,17 @@ ghost use Rattle.std.specs.Ordering.{eq_by_cmp, nat_cmp};
 ghost use Rattle.mark_graph.specs.RowMarks.{AddsRow, AllHaveRows, OthersHaveRows, RemovesRow, has_mark, has_row, has_rows, is_only_in, row_at};
 
 use crate::sorted_set::{SortedSet, sorted};
+use chunked_map::map::ChunkedMap;
 use mesh_base::copied::Copied;
 use mesh_base::list::List;
 use mesh_base::memory::Memory;
 use std::alloc::Global;
-use std::collections::btree_map::Entry;
-use std::collections::{BTreeMap, BTreeSet};
+use std::collections::BTreeSet;
 
 /// Adds a row at a mark. Returns whether the mark had rows before.
 pub fn put_one<M: Ord + Copied>(
     alloc: Global,
-    by: &mut BTreeMap<M, SortedSet<u64>>,
+    by: &mut ChunkedMap<M, SortedSet<u64>>,
     mark: &M,
     row: u64,
 ) -> Result<bool, Memory>
@@ -25,20 +25,22 @@ pub fn put_one<M: Ord + Copied>(
     ensures kept { AllHaveRows M.cmp by.old → OnOk result (AllHaveRows M.cmp by.new) }
     ensures had { IfOk result (λ had_rows. had_rows ≡ has_rows M.cmp by.old mark.now) }
 {
-    match by.entry(mark.copy(alloc)?)? {
-        Entry::Occupied(at) => {
-            at.into_mut().insert(row)?;
+    match by.get_mut(mark) {
+        Some(rows) => {
+            rows.insert(row)?;
             Ok(true)
         }
-        Entry::Vacant(at) => {
-            at.insert(SortedSet::new(alloc)).insert(row)?;
+        None => {
+            let mut rows = SortedSet::new(alloc);
+            rows.insert(row)?;
+            by.insert(mark.copy(alloc)?, rows)?;
             Ok(false)
         }
     }
 }
 
 /// Removes a row from a mark. Returns whether the mark still has rows.
-pub fn take_one<M: Ord + Copied>(by: &mut BTreeMap<M, SortedSet<u64>>, mark: &M, row: u64) -> bool
+pub fn take_one<M: Ord + Copied>(by: &mut ChunkedMap<M, SortedSet<u64>>, mark: &M, row: u64) -> bool
     ensures taken { RemovesRow M.cmp (eq_by_cmp M.cmp mark.now) row by.old by.new }
     ensures kept { AllHaveRows M.cmp by.old → AllHaveRows M.cmp by.new }
     ensures others { result ≡ has_rows M.cmp by.new mark.now }
@@ -51,7 +53,7 @@ pub fn take_one<M: Ord + Copied>(by: &mut BTreeMap<M, SortedSet<u64>>, mark: &M,
 }
 
 /// Removes a row from a mark, but keeps its set. Returns whether the set still has rows.
-fn keeps_others<M: Ord + Copied>(by: &mut BTreeMap<M, SortedSet<u64>>, mark: &M, row: u64) -> bool
+fn keeps_others<M: Ord + Copied>(by: &mut ChunkedMap<M, SortedSet<u64>>, mark: &M, row: u64) -> bool
     ensures taken { RemovesRow M.cmp (eq_by_cmp M.cmp mark.now) row by.old by.new }
     ensures none { result ≡ false → (r : ℕ) → row_at M.cmp by.new mark.now r ≡ false }
     ensures some { result ≡ true → has_rows M.cmp by.new mark.now ≡ true }
@@ -68,7 +70,7 @@ fn keeps_others<M: Ord + Copied>(by: &mut BTreeMap<M, SortedSet<u64>>, mark: &M,
 }
 
 /// Drops the set of a mark that has no rows.
-fn let_go<M: Ord + Copied>(by: &mut BTreeMap<M, SortedSet<u64>>, mark: &M)
+fn let_go<M: Ord + Copied>(by: &mut ChunkedMap<M, SortedSet<u64>>, mark: &M)
     requires { (r : ℕ) → row_at M.cmp by.old mark.now r ≡ false }
     ensures same { (m : M) (r : ℕ) → row_at M.cmp by.new m r ≡ row_at M.cmp by.old m r }
     ensures kept { OthersHaveRows M.cmp mark.now by.old → AllHaveRows M.cmp by.new }
@@ -80,7 +82,7 @@ fn let_go<M: Ord + Copied>(by: &mut BTreeMap<M, SortedSet<u64>>, mark: &M)
 /// Adds a row at each mark of the new set that the old one lacks.
 pub fn put_new<M: Ord + Copied>(
     alloc: Global,
-    by: &mut BTreeMap<M, SortedSet<u64>>,
+    by: &mut ChunkedMap<M, SortedSet<u64>>,
     old: &SortedSet<M>,
     new: &SortedSet<M>,
     row: u64,
@@ -98,7 +100,7 @@ pub fn put_new<M: Ord + Copied>(
 /// Adds a row at a mark, unless the mark is in the set.
 fn put_unless<M: Ord + Copied>(
     alloc: Global,
-    by: &mut BTreeMap<M, SortedSet<u64>>,
+    by: &mut ChunkedMap<M, SortedSet<u64>>,
     mark: &M,
     set: &SortedSet<M>,
     row: u64,
@@ -116,7 +118,7 @@ fn put_unless<M: Ord + Copied>(
 
 /// Removes a row from each mark of the old set that the new one lacks.
 pub fn take_old<M: Ord + Copied>(
-    by: &mut BTreeMap<M, SortedSet<u64>>,
+    by: &mut ChunkedMap<M, SortedSet<u64>>,
     old: &SortedSet<M>,
     new: &SortedSet<M>,
     row: u64,
@@ -131,7 +133,7 @@ pub fn take_old<M: Ord + Copied>(
 
 /// Removes a row from a mark, unless the mark is in the set.
 fn take_unless<M: Ord + Copied>(
-    by: &mut BTreeMap<M, SortedSet<u64>>,
+    by: &mut ChunkedMap<M, SortedSet<u64>>,
     mark: &M,
     set: &SortedSet<M>,
     row: u64,
@@ -159,7 +161,7 @@ pub fn set_of<M: Ord + Copied>(alloc: Global, marks: List<M>) -> Result<BTreeSet
 /// Returns the rows at these marks, ascending and each once.
 pub fn rows_at<M: Ord + Copied>(
     alloc: Global,
-    by: &BTreeMap<M, SortedSet<u64>>,
+    by: &ChunkedMap<M, SortedSet<u64>>,
     marks: &[M],
 ) -> Result<List<u64>, Memory>
     ensures rows { IfOk result (λ rows. (r : ℕ)
@@ -181,7 +183,7 @@ pub fn in_order(rows: List<u64>) -> List<u64>
 /// Returns the rows at these marks, mark by mark. The rows of each mark are ascending.
 fn gather_all<M: Ord + Copied>(
     alloc: Global,
-    by: &BTreeMap<M, SortedSet<u64>>,
+    by: &ChunkedMap<M, SortedSet<u64>>,
     marks: &[M],
 ) -> Result<Vec<u64>, Memory>
     ensures { IfOk result (λ rows. (r : ℕ)
@@ -196,7 +198,7 @@ fn gather_all<M: Ord + Copied>(
 
 /// Appends the rows at a mark.
 fn gather_one<M: Ord + Copied>(
-    by: &BTreeMap<M, SortedSet<u64>>,
+    by: &ChunkedMap<M, SortedSet<u64>>,
     mark: &M,
     rows: &mut Vec<u64>,
 ) -> Result<(), Memory>

@@ -9,6 +9,7 @@ ghost use Rattle.row_table.specs.IndexRows.{has_key};
 ghost use Rattle.row_views.specs.Ids.{OneMoreUnless, has_ids};
 ghost use Rattle.row_sets.specs.Standing.{EntersWithin, InUse, is_left_out, open_cost};
 
+use chunked_map::map::ChunkedMap;
 use mark_graph::by_mark::{put_one, set_of, take_one};
 use mark_graph::sorted_set::SortedSet;
 use mesh_base::copied::Copied;
@@ -18,14 +19,14 @@ use mesh_base::steps::Steps;
 use object_store::store::Store;
 use row_table::row_index::RowIndex;
 use std::alloc::Global;
-use std::collections::{BTreeMap, BTreeSet};
+use std::collections::BTreeSet;
 
 /// The keys of an index that have ids, each with its ids. Each is one user of the index.
 #[derive(Drop)]
 pub struct UsedKeys<I: RowIndex + Drop> {
     pub(crate) index: I,
     /// The ids of each key.
-    pub(crate) by_key: BTreeMap<I::Key, SortedSet<u64>>,
+    pub(crate) by_key: ChunkedMap<I::Key, SortedSet<u64>>,
     alloc: Global,
 }
 
@@ -37,7 +38,7 @@ impl<I: RowIndex + Drop> UsedKeys<I> {
     {
         UsedKeys {
             index,
-            by_key: BTreeMap::new(alloc),
+            by_key: ChunkedMap::new(alloc),
             alloc,
         }
     }

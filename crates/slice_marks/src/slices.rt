@@ -8,6 +8,7 @@ ghost use Rattle.mark_rules.specs.Marks.{has_mark, mark_cmp, same_mark};
 ghost use Rattle.slice_marks.specs.Marked.{Agree, Leaves, OthersStay, is_read, marks_at, marks_read};
 
 use crate::keys::{add_copy, keys_at, put_keys, take_keys};
+use chunked_map::map::ChunkedMap;
 use key_lists::key_list::KeyList;
 use mark_graph::by_mark::{put_one, take_one};
 use mark_graph::moves::MarkMoves;
@@ -92,7 +93,7 @@ impl SliceMarks {
     }
 
     /// Adds a row at each mark that slices read.
-    pub fn put_row(&self, by: &mut BTreeMap<Mark, SortedSet<u64>>, row: u64) -> Result<(), Memory>
+    pub fn put_row(&self, by: &mut ChunkedMap<Mark, SortedSet<u64>>, row: u64) -> Result<(), Memory>
         ensures { OnOk result
             (AddsRow mark_cmp (has_mark (marks_read self.now.by_mark)) row by.old by.new) }
     {
@@ -103,7 +104,7 @@ impl SliceMarks {
     }
 
     /// Removes a row from each mark that slices read.
-    pub fn take_row(&self, by: &mut BTreeMap<Mark, SortedSet<u64>>, row: u64)
+    pub fn take_row(&self, by: &mut ChunkedMap<Mark, SortedSet<u64>>, row: u64)
         ensures { RemovesRow mark_cmp (has_mark (marks_read self.now.by_mark)) row by.old by.new }
     {
         for mark in self.by_mark.keys() {
@@ -114,7 +115,7 @@ impl SliceMarks {
     /// Adds a row at a mark, if slices read it.
     fn put_if_read(
         &self,
-        by: &mut BTreeMap<Mark, SortedSet<u64>>,
+        by: &mut ChunkedMap<Mark, SortedSet<u64>>,
         mark: &Mark,
         row: u64,
     ) -> Result<(), Memory>
@@ -129,7 +130,7 @@ impl SliceMarks {
     }
 
     /// Removes a row from a mark, if slices read it.
-    fn take_if_read(&self, by: &mut BTreeMap<Mark, SortedSet<u64>>, mark: &Mark, row: u64)
+    fn take_if_read(&self, by: &mut ChunkedMap<Mark, SortedSet<u64>>, mark: &Mark, row: u64)
         ensures { RemovesRow mark_cmp
             (λ m. is_read self.now.by_mark mark.now && same_mark mark.now m) row by.old by.new }
     {
