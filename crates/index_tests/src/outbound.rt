@@ -79,7 +79,7 @@ impl Writing<Target, OutboundView> for Views {
     fn push_row(&self, all: &mut String, row: &OutboundView) -> Result<(), Fail> {
         match row {
             OutboundView::Absent => Ok(all.push_str("none")?),
-            OutboundView::Forward { endpoint, .. } => push_pod(all, endpoint),
+            OutboundView::Forward { endpoint, .. } => push_pod(all, endpoint.get()),
             OutboundView::Service { name, routes, .. } => {
                 all.push_str(name.as_str())?;
                 for route in routes.as_slice() {

@@ -122,7 +122,7 @@ fn name_of(row: &ProfileView) -> &str {
 
 fn pod_name(row: &ProfileView) -> &str {
     match &row.endpoint {
-        Some(endpoint) => match endpoint.labels.get(b"pod") {
+        Some(endpoint) => match endpoint.get().labels.get(b"pod") {
             Some(name) => name.as_str(),
             None => "unnamed",
         },

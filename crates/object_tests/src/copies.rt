@@ -1,6 +1,7 @@
 //! Each copy that no table of objects takes: what is asked for, and what is shown.
 
 use crate::told::tell;
+use mesh_base::boxed::Boxed;
 use mesh_base::copied::Copied;
 use mesh_base::key::{Kind, ObjKey};
 use mesh_base::labels::Labels;
@@ -238,7 +239,7 @@ fn profile_view(alloc: Global) -> Result<ProfileView, Memory> {
                 weight: 1,
             },
         )?,
-        endpoint: Some(endpoint(alloc)?),
+        endpoint: Some(Boxed::new(alloc, endpoint(alloc)?)?),
     })
 }
 
@@ -354,7 +355,7 @@ fn outbound(alloc: Global) -> Result<OutboundView, Memory> {
 
 fn forward(alloc: Global) -> Result<OutboundView, Memory> {
     Ok(OutboundView::Forward {
-        endpoint: endpoint(alloc)?,
+        endpoint: Boxed::new(alloc, endpoint(alloc)?)?,
         opaque: true,
     })
 }

@@ -116,7 +116,7 @@ impl Part for OutboundView {
                 put_head(out, 2, end)
             }
             OutboundView::Forward { endpoint, opaque } => {
-                put_forward(out, endpoint, *opaque)?;
+                put_forward(out, endpoint.get(), *opaque)?;
                 put_head(out, 3, end)
             }
         }

@@ -8,6 +8,7 @@ ghost use Rattle.proxy_proto.specs.Profiles.{class_records, route_records, overr
 use crate::duration::put_duration;
 use crate::fields::{put_bool_field, put_number_field, put_text_field};
 use crate::part::{Part, write_each, write_in};
+use mesh_base::boxed::Boxed;
 use mesh_base::memory::Memory;
 use mesh_base::text::Text;
 use proto_wire::front::FrontBytes;
@@ -70,12 +71,12 @@ impl Part for Override {
 }
 
 #[tactic(auto, using(proto_wire::proofs::Spellings::spellings))]
-fn put_endpoint(out: &mut FrontBytes, endpoint: &Option<EndpointRow>) -> Result<(), Memory>
+fn put_endpoint(out: &mut FrontBytes, endpoint: &Option<Boxed<EndpointRow>>) -> Result<(), Memory>
     ensures { OnOk result
         (out.new ≡ spelling (optional_field 6 row_records endpoint.now) ++ out.old) }
 {
     match endpoint {
-        Some(row) => write_in(out, 6, row),
+        Some(row) => write_in(out, 6, row.get()),
         None => Ok(()),
     }
 }

@@ -7,6 +7,7 @@ use crate::from_records::{FromRecords, read_each, read_in};
 use crate::look_up::{
     flag_in, inside, is_there, number_in, optional_text_in, text_in, texts_in, u16_in,
 };
+use mesh_base::boxed::Boxed;
 use mesh_base::memory::Memory;
 use proto_wire::scan::RecRef;
 use std::alloc::Global;
@@ -86,8 +87,9 @@ fn read_service(alloc: Global, records: &[RecRef<'_>]) -> Result<OutboundView, M
 fn read_forward(alloc: Global, records: &[RecRef<'_>]) -> Result<OutboundView, Memory>
     ensures { IfOk result (λ view. view ≡ forward_in (map view_record records.now)) }
 {
+    let row = read_in::<EndpointRow>(alloc, records, 1)?;
     Ok(OutboundView::Forward {
-        endpoint: read_in::<EndpointRow>(alloc, records, 1)?,
+        endpoint: Boxed::new(alloc, row)?,
         opaque: flag_in(records, 2),
     })
 }

@@ -10,6 +10,7 @@ use crate::from_records::{FromRecords, read_bytes, read_each};
 use crate::look_up::{body, chunk_in, flag_in, text_in, u32_in, value_at};
 use crate::read_request_match::read_request_match;
 use crate::read_response_match::read_response_match;
+use mesh_base::boxed::Boxed;
 use mesh_base::memory::Memory;
 use mesh_base::text::Text;
 use proto_wire::scan::RecRef;
@@ -79,11 +80,17 @@ impl FromRecords for Override {
     }
 }
 
-fn read_endpoint(alloc: Global, records: &[RecRef<'_>]) -> Result<Option<EndpointRow>, Memory>
+fn read_endpoint(
+    alloc: Global,
+    records: &[RecRef<'_>],
+) -> Result<Option<Boxed<EndpointRow>>, Memory>
     ensures { IfOk result (λ row. row ≡ optional_in 6 row_in (map view_record records.now)) }
 {
     match value_at(records, 6) {
-        Some(value) => Ok(Some(read_bytes::<EndpointRow>(alloc, body(value))?)),
+        Some(value) => {
+            let row = read_bytes::<EndpointRow>(alloc, body(value))?;
+            Ok(Some(Boxed::new(alloc, row)?))
+        }
         None => Ok(None),
     }
 }

@@ -12,6 +12,7 @@ use crate::endpoint::row_of;
 use crate::opaque::{is_opaque, is_opaque_at};
 use crate::service::service_held;
 use mark_rules::laws::rows_by_marks;
+use mesh_base::boxed::Boxed;
 use mesh_base::copied::Copied;
 use mesh_base::list::List;
 use mesh_base::memory::Memory;
@@ -85,8 +86,9 @@ pub fn to_pod(
 ) -> Result<OutboundView, Memory>
     ensures { IfOk result (λ view. view ≡ to_pod config.now (option_copied pod.entry) ip port) }
 {
+    let row = row_of(alloc, config, pod, ip, port)?;
     Ok(OutboundView::Forward {
-        endpoint: row_of(alloc, config, pod, ip, port)?,
+        endpoint: Boxed::new(alloc, row)?,
         opaque: is_opaque_at(alloc, pod, port)?,
     })
 }

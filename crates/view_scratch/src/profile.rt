@@ -8,6 +8,7 @@ use crate::address::{pod_at, service_at};
 use crate::endpoint::row_of;
 use crate::opaque::{is_opaque, is_opaque_by_default, is_opaque_for};
 use crate::service::service_held;
+use mesh_base::boxed::Boxed;
 use mesh_base::copied::Copied;
 use mesh_base::key::Kind;
 use mesh_base::list::List;
@@ -206,7 +207,8 @@ pub fn pod_profile(
     match pod {
         Some(pod) => {
             view.opaque = is_opaque(alloc, &pod.meta, port)?;
-            view.endpoint = Some(row_of(alloc, config, Some(pod), ip, port)?);
+            let row = row_of(alloc, config, Some(pod), ip, port)?;
+            view.endpoint = Some(Boxed::new(alloc, row)?);
         }
         None => view.opaque = is_opaque_by_default(alloc, port)?,
     }

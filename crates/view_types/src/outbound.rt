@@ -3,6 +3,7 @@ ghost use Rattle.std.specs.Prelude.{◌≡◌, ◌↔◌, IfOk, IsTrue};
 use crate::endpoint::EndpointRow;
 use crate::profile::{Override, ProfileRoute};
 use crate::server_view::RouteRow;
+use mesh_base::boxed::Boxed;
 use mesh_base::copied::Copied;
 use mesh_base::list::List;
 use mesh_base::memory::Memory;
@@ -17,7 +18,7 @@ pub struct ProfileView {
     pub opaque: bool,
     pub routes: List<ProfileRoute>,
     pub overrides: List<Override>,
-    pub endpoint: Option<EndpointRow>,
+    pub endpoint: Option<Boxed<EndpointRow>>,
 }
 
 /// Written by hand, as that of `Text`.
@@ -37,7 +38,7 @@ impl Drop for ProfileView {
 pub enum OutboundView {
     Absent,
     Forward {
-        endpoint: EndpointRow,
+        endpoint: Boxed<EndpointRow>,
         opaque: bool,
     },
     Service {

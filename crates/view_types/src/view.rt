@@ -20,6 +20,9 @@ pub enum View {
     ServerRows(ServerView),
 }
 
+// Each drained subscription keeps a view, so its size counts.
+const _: () = prove!(size_of::<View>() == 112);
+
 impl View {
     /// Converts an inbound view to one that is sent by rows. Any other view is returned as it is.
     pub fn by_rows(self) -> View
