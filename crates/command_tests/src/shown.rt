@@ -100,7 +100,7 @@ fn target_text(alloc: Global, target: &Target) -> Result<String, Fail> {
             Ok(format!(in alloc; "{ns}/{name}:{port}")?)
         }
         Target::Address { ip, port } => {
-            let ip = ip_text(alloc, *ip)?;
+            let ip = ip_text(alloc, ip.get())?;
             Ok(format!(in alloc; "{ip}:{port}")?)
         }
     }

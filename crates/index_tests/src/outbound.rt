@@ -2,6 +2,7 @@
 use crate::trial::{Trial, Writing};
 use mesh_base::text::Text;
 use net_cidr::ip::Ip;
+use net_cidr::packed_ip::PackedIp;
 use outbound_index::index::new_index;
 use std::alloc::Global;
 use std::test::Fail;
@@ -101,7 +102,7 @@ fn web(alloc: Global, port: u16) -> Result<Target, Fail> {
 
 fn at(ip: u32) -> Target {
     Target::Address {
-        ip: Ip::V4(ip),
+        ip: PackedIp::new(Ip::V4(ip)),
         port: 80,
     }
 }

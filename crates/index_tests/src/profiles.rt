@@ -3,6 +3,7 @@ use crate::trial::{Trial, Writing};
 use mark_rules::keys::ProfileKey;
 use mesh_base::text::Text;
 use net_cidr::ip::Ip;
+use net_cidr::packed_ip::PackedIp;
 use profile_index::index::new_index;
 use std::alloc::Global;
 use std::test::Fail;
@@ -107,7 +108,7 @@ fn web(alloc: Global) -> Result<Target, Fail> {
 
 fn at(ip: u32) -> Target {
     Target::Address {
-        ip: Ip::V4(ip),
+        ip: PackedIp::new(Ip::V4(ip)),
         port: 80,
     }
 }

@@ -5,6 +5,7 @@ use mesh_base::limits::Limits;
 use mesh_base::steps::Steps;
 use mesh_base::text::Text;
 use net_cidr::ip::Ip;
+use net_cidr::packed_ip::PackedIp;
 use object_store::store::Store;
 use row_reads::at_mark::Reader;
 use std::alloc::Global;
@@ -108,7 +109,7 @@ fn service(alloc: Global, ns: &str, name: &str) -> Result<Target, Fail> {
 
 fn address(word: &str) -> Result<Target, Fail> {
     Ok(Target::Address {
-        ip: address_of(word)?,
+        ip: PackedIp::new(address_of(word)?),
         port: 80,
     })
 }

@@ -12,6 +12,7 @@ use mesh_base::memory;
 use mesh_base::numeral::read_plain;
 use mesh_base::pieces::cut;
 use net_cidr::ip::{Ip, read_ip};
+use net_cidr::packed_ip::PackedIp;
 use std::alloc::{AllocError, Global};
 use view_types::config::Config;
 use view_types::query::Target;
@@ -77,7 +78,10 @@ fn read_bracketed(text: &[u8]) -> Option<Target>
     let port = read_port_after(after)?;
     match read_ip(address)? {
         Ip::V4(_) => None,
-        ip => Some(Target::Address { ip, port }),
+        ip => Some(Target::Address {
+            ip: PackedIp::new(ip),
+            port,
+        }),
     }
 }
 
@@ -123,7 +127,7 @@ fn read_host(alloc: Global, host: &[u8], port: u16, domain: &[u8]) -> Result<Tar
 {
     match read_ip(host) {
         Some(Ip::V4(number)) => Ok(Target::Address {
-            ip: Ip::V4(number),
+            ip: PackedIp::new(Ip::V4(number)),
             port,
         }),
         _ => read_service(alloc, host, port, domain),

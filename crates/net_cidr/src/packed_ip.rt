@@ -2,6 +2,7 @@ ghost use Rattle.std.specs.Prelude.{◌≡◌};
 
 use crate::ip::Ip;
 use std::cmp::Ordering;
+use std::hash::{Hash, Hasher};
 use std::marker::Model;
 
 /// An address with the alignment of a `u64`, for types whose other fields need no more: an `Ip` has
@@ -98,5 +99,17 @@ impl Ord for PackedIp {
 
     fn cmp(&self, other: &PackedIp) -> Ordering {
         self.get().cmp(&other.get())
+    }
+}
+
+impl Hash for PackedIp {
+    ghost use Rattle.net_cidr.specs.contracts.ip.IpHash.TheImpl.Laws.{respects_eq-law};
+
+    ghost hash_input = { ⟦<Ip as Hash>⟧.hash_input };
+
+    ghost respects_eq = { respects_eq-law };
+
+    fn hash<H: Hasher>(&self, state: &mut H) {
+        self.get().hash(state);
     }
 }

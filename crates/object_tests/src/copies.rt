@@ -140,7 +140,7 @@ fn port(alloc: Global) -> Result<Query, Memory> {
 fn traffic() -> Query {
     Query::Traffic {
         target: Target::Address {
-            ip: Ip::V4(1),
+            ip: PackedIp::new(Ip::V4(1)),
             port: 80,
         },
     }

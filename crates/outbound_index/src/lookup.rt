@@ -55,7 +55,7 @@ pub(crate) fn outbound_of<L>(
                 steps,
             )
         }
-        Target::Address { ip, port } => to_address(from, *ip, *port, steps),
+        Target::Address { ip, port } => to_address(from, ip.get(), *port, steps),
     }
 }
 

@@ -50,7 +50,7 @@ impl Lookup<'_> {
                 let marks = List::new(self.from.alloc);
                 self.service(&ServicePort { ns, name, port }, marks, steps)
             }
-            Target::Address { ip, port } => self.address(*ip, *port, steps),
+            Target::Address { ip, port } => self.address(ip.get(), *port, steps),
         }
     }
 

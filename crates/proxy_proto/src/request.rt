@@ -17,6 +17,7 @@ use mesh_text::target_text::{TargetFault, read_target};
 use mesh_text::token::read_context;
 use mesh_text::workload_text::read_workload;
 use net_cidr::ip::Ip;
+use net_cidr::packed_ip::PackedIp;
 use proto_wire::scan::RecRef;
 use std::alloc::Global;
 use view_types::config::Config;
@@ -109,7 +110,10 @@ fn read_traffic_query(
     if is_there(records, 2) {
         let (ip, port) = read_in::<(Ip, u16)>(alloc, records, 2)?;
         return Ok(Query::Traffic {
-            target: Target::Address { ip, port },
+            target: Target::Address {
+                ip: PackedIp::new(ip),
+                port,
+            },
         });
     }
     match read_target(alloc, chunk_in(records, 3), config) {

@@ -160,7 +160,7 @@ impl Reader<'_> {
     {
         match target {
             Target::Service { ns, name, .. } => self.add_service_outbound(ns, name, marks, steps),
-            Target::Address { ip, .. } => self.add_address_outbound(*ip, marks, steps),
+            Target::Address { ip, .. } => self.add_address_outbound(ip.get(), marks, steps),
         }
     }
 
@@ -212,7 +212,12 @@ impl Reader<'_> {
             Target::Service { ns, name, .. } => {
                 self.add_service_profile(&key.client, ns, name, marks)
             }
-            Target::Address { ip, .. } => self.add_address_profile(&key.client, *ip, marks, steps),
+            Target::Address { ip, .. } => self.add_address_profile(
+                &key.client,
+                ip.get(),
+                marks,
+                steps,
+            ),
         }
     }
 

@@ -46,7 +46,7 @@ pub fn outbound<L>(
 {
     match target {
         Target::Service { ns, name, port } => to_service(from, ns, name, *port, steps),
-        Target::Address { ip, port } => to_address(from, *ip, *port, steps),
+        Target::Address { ip, port } => to_address(from, ip.get(), *port, steps),
     }
 }
 

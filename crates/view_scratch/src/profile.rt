@@ -52,7 +52,7 @@ pub fn profile<L>(
             let port = *port;
             service_profile(from, client, &ServicePort { ns, name, port }, steps)
         }
-        Target::Address { ip, port } => address_profile(from, client, *ip, *port, steps),
+        Target::Address { ip, port } => address_profile(from, client, ip.get(), *port, steps),
     }
 }
 

@@ -4,7 +4,7 @@ ghost use Rattle.view_types.specs.Ports.{query_by_rows, query_whole};
 use mesh_base::copied::Copied;
 use mesh_base::memory::Memory;
 use mesh_base::text::Text;
-use net_cidr::ip::Ip;
+use net_cidr::packed_ip::PackedIp;
 use std::alloc::Global;
 
 /// The kinds of subscriptions of a proxy.
@@ -22,7 +22,7 @@ pub enum Method {
 #[derive(Drop, PartialEq, Eq, PartialOrd, Ord, Hash)]
 pub enum Target {
     Service { ns: Text, name: Text, port: u16 },
-    Address { ip: Ip, port: u16 },
+    Address { ip: PackedIp, port: u16 },
 }
 
 /// What a client declares about itself.
@@ -59,6 +59,9 @@ pub enum Query {
         port: u16,
     },
 }
+
+// Each subscription keeps its query, so the size of a query counts.
+const _: () = prove!(size_of::<Query>() == 80);
 
 /// A port of a Pod.
 #[derive(Drop)]

@@ -23,7 +23,7 @@ impl Show for Target {
                 page.last("port", port);
             }
             Target::Address { ip, port } => {
-                page.first("ip", ip);
+                page.first("ip", &ip.get());
                 page.last("port", port);
             }
         }
