@@ -160,7 +160,8 @@ fn cut<T: Drop>(chunk: &mut Vec<T>, at: usize) -> Result<Vec<T>, Memory>
     Ok(back)
 }
 
-/// Appends an item to the last chunk, or in a new one if that is full.
+/// Appends an item to the last chunk, or in a new one if that is full. A new chunk has no room for
+/// another item, since many lists have one.
 fn push<T: Drop>(chunks: &mut Vec<Vec<T>>, alloc: Global, item: T) -> Result<(), Memory>
     requires { NoneEmpty vec_items chunks.old.items }
     ensures filled { NoneEmpty vec_items chunks.new.items }
@@ -172,8 +173,9 @@ fn push<T: Drop>(chunks: &mut Vec<Vec<T>>, alloc: Global, item: T) -> Result<(),
     match open_chunk(chunks.as_slice()) {
         Some(last) => Ok(chunks[last].push(item)?),
         None => {
-            let mut chunk = Vec::new(alloc);
+            let mut chunk = Vec::with_capacity(alloc, 1)?;
             chunk.push(item)?;
+            chunks.reserve_exact(1)?;
             Ok(chunks.push(chunk)?)
         }
     }
