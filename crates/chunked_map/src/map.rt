@@ -1,4 +1,4 @@
-ghost use Rattle.std.specs.Prelude.{◌≡◌, ◌+◌, ◌↔◌, None, Some, IfNone, IfOk, IfSome, IsSome, IsTrue, OnErr, OnOk, if◌then◌else◌, is_some};
+ghost use Rattle.std.specs.Prelude.{◌≡◌, ◌+◌, ◌↔◌, None, Some, IfNone, IfOk, IfSome, IsSome, IsTrue, OnErr, OnOk, if◌then◌else◌, is_some, option_map, slice_get};
 ghost use Rattle.std.specs.BTreeMap.{IsEmpty, IsOrdered, IsUnchanged, Updates, btree_map_len, get, insert_entry, is_at, keys, values};
 ghost use Rattle.std.specs.Borrow.{sem};
 ghost use Rattle.std.specs.List.{IsAmong};
@@ -79,6 +79,16 @@ impl<K: Ord, V> ChunkedMap<K, V> {
         match place(&self.pairs, key) {
             Ok(at) => value_at(&self.pairs, at),
             Err(_) => None,
+        }
+    }
+
+    /// Returns the least key and its value.
+    pub fn first_key_value(&self) -> Option<(&K, &V)>
+        ensures { option_map (λ p. (p.0.now, p.1.now)) result ≡ slice_get self.now.entries 0 }
+    {
+        match self.pairs.get(0) {
+            Some(pair) => Some((&pair.0, &pair.1)),
+            None => None,
         }
     }
 
