@@ -4,6 +4,22 @@ use std::test::Fail;
 // More than two full chunks. Keys below it come in an order of their own, by steps of 7.
 const COUNT: u64 = 1_500;
 
+// The first pair is that of the least key.
+#[test]
+fn maps_begin_with_the_least_key(rt: HostRuntime) -> Result<(), Fail> {
+    let mut map = ChunkedMap::new(rt.alloc());
+    assert!(rt; map.first_key_value().is_none());
+    assert_eq!(rt; map.insert(5, 10)?, None);
+    assert_eq!(rt; map.insert(3, 6)?, None);
+    assert_eq!(rt; map.insert(8, 16)?, None);
+    let Some((key, value)) = map.first_key_value() else {
+        return Err(Fail::new("the map has no first pair"));
+    };
+    assert_eq!(rt; *key, 3);
+    assert_eq!(rt; *value, 6);
+    Ok(())
+}
+
 // A map keeps a value for each key, replaces it, and loses it with the key.
 #[test]
 fn maps_keep_values(rt: HostRuntime) -> Result<(), Fail> {

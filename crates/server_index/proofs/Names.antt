@@ -1,10 +1,9 @@
 -- The keys of a namespace's Servers and their names, and lists of keys or marks gone through one by one.
-use Rattle.std.proofs.Common.{◌≡◌, ℕ, ◌+◌, ◌<◌, ◌≤◌, Bool, true, false, cond, ◌||◌, List, [], ◌∷◌, get_or, length, drop, Option, Some, None, refl, sym, ap, ◌∙◌, arith}
+use Rattle.std.proofs.Common.{◌≡◌, ℕ, ◌+◌, ◌<◌, ◌≤◌, Bool, true, false, cond, ◌||◌, List, ◌∷◌, get_or, length, drop, Option, refl, sym, ap, ◌∙◌}
 use Rattle.std.specs.Cmp.{tied_itself}
 use Rattle.std.specs.Cmp.Lexicographic.{nat_list_cmp_total, slice_cmp}
 use Rattle.std.specs.FinMap.{get}
-use Rattle.std.specs.Option.{IfSome, is_some}
-use Rattle.std.specs.Prelude.{◌↔◌, IsTrue, option_map, slice_get}
+use Rattle.std.specs.Prelude.{◌↔◌, IsTrue}
 use Rattle.std.specs.List.{list_any}
 use Rattle.std.specs.Ordering.{eq_by_cmp, is_eq, nat_cmp}
 use Rattle.std.proofs.lemmas.List.{drop_all, drop_more}
@@ -44,13 +43,6 @@ put_same old name other value is =
       | true ↦ λ t. ap old (sym (one_name name other t)) ∙ is
       | false ↦ λ t. refl
     ] refl
-
--- the first of a list, of which something is shown
-pub first_is : {A B : Type 0} (shown : A → B) (found : Option A) (items : List B) → IsTrue (is_some found) ↔ (0 < length items) → IfSome found (λ a. slice_get items 0 ≡ Some (shown a))
-    → option_map shown found ≡ slice_get items 0
-first_is shown (Some a) items same is = sym is
-first_is shown None [] same is = refl
-first_is shown None (x ∷ xs) same is = absurd (let no : false ≡ true = same.1 (omega arith) in cc no)
 
 -- ---- keys
 

@@ -7,18 +7,18 @@ ghost use Rattle.std.specs.Ordering.{eq_by_cmp, nat_cmp};
 ghost use Rattle.server_index.specs.Probes.{may_have, probe_of};
 
 use crate::name_filter::{NameFilter, probe_of};
+use chunked_map::map::ChunkedMap;
 use mesh_base::memory::Memory;
 use mesh_base::same::Same;
 use mesh_base::text::Text;
 use std::alloc::Global;
-use std::collections::BTreeMap;
 use view_types::policy::{Policy, Protocol};
 
 /// The Servers that match a port, by their names, each with its protocol and its policy, and a
 /// filter that has each name.
 #[derive(Drop)]
 pub struct Matching {
-    by_name: BTreeMap<Text, (Protocol, Policy)>,
+    by_name: ChunkedMap<Text, (Protocol, Policy)>,
     names: NameFilter,
     ghost ordered: { IsOrdered (slice_cmp nat_cmp) by_name } by { Prim.hlevel props },
     ghost named: { (name : List ℕ) → is_some (get (slice_cmp nat_cmp) by_name name) ≡ true
@@ -30,7 +30,7 @@ impl Matching {
         ensures { (name : List ℕ) → get (slice_cmp nat_cmp) result.by_name name ≡ None }
     {
         Matching {
-            by_name: BTreeMap::new(alloc),
+            by_name: ChunkedMap::new(alloc),
             names: NameFilter::new(),
         }
     }
