@@ -45,7 +45,7 @@ pub struct ServerAuthz {
 }
 
 /// The kind of object that a reference refers to.
-#[derive(Clone, Copy, PartialEq, Eq, PartialOrd, Ord)]
+#[derive(Clone, Copy, PartialEq, Eq, PartialOrd, Ord, Hash)]
 pub enum RefKind {
     Server,
     LinkerdRoute,

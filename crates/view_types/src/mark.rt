@@ -10,7 +10,7 @@ use net_cidr::packed_ip::PackedIp;
 use std::alloc::Global;
 
 /// What a change of an object affects, and what a view reads.
-#[derive(PartialEq, Eq, PartialOrd, Ord)]
+#[derive(PartialEq, Eq, PartialOrd, Ord, Hash)]
 pub enum Mark {
     /// The object under a key.
     Obj(ObjKey),

@@ -10,7 +10,7 @@ use mesh_base::text::Text;
 use std::alloc::Global;
 
 /// The kinds of objects that a route may be attached to.
-#[derive(Clone, Copy, PartialEq, Eq, PartialOrd, Ord)]
+#[derive(Clone, Copy, PartialEq, Eq, PartialOrd, Ord, Hash)]
 pub enum ParentKind {
     Server,
     Service,
