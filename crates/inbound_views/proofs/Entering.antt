@@ -3,7 +3,6 @@ use Rattle.std.proofs.Common.{◌≡◌, ◌≤◌, ◌+◌, ◌||◌, ◌++◌,
 use Rattle.std.proofs.lemmas.Bool.{false≢true}
 use Rattle.std.proofs.lemmas.List.Sums.{sum_by-append, sum_by-cons}
 use Rattle.std.specs.BTreeMap.{BTreeMap}
-use Rattle.std.specs.BTreeSet.{BTreeSet}
 use Rattle.std.specs.Cmp.{IsTotalOrder}
 use Rattle.std.specs.FinMap.{IsAntisymmetric}
 use Rattle.std.specs.List.{AllByRecursion, IsDistinct, sum_by}
@@ -14,6 +13,7 @@ use Rattle.mesh_base.specs.declared.key.ObjKey.{ObjKey}
 use Rattle.view_types.specs.Objects.{ObjectMap}
 use Rattle.view_types.specs.declared.config.Config.{Config}
 use Rattle.view_types.specs.declared.query.Query.{Query}
+use Rattle.mark_graph.specs.declared.rows_by_mark.RowsByMark.{RowsByMark}
 use Rattle.mark_rules.specs.Reads.{authz_reads, cost, route_reads}
 use Rattle.mark_rules.specs.contracts.keys.RouteKeyOrd.TheImpl.Laws as route_laws
 use Rattle.mark_rules.specs.declared.keys.RouteKey.{RouteKey}
@@ -102,7 +102,7 @@ module _ {Key : Type 0} (cmp : Key → Key → Ordering) (total : IsTotalOrder c
 
   -- ---- keys that are used, by the ids that have them
 
-  module _ {Index : Type 0} (users : Index → Key → ℕ) (stand : Index → ObjectMap → Type 0) (held : ObjectMap) (index : Index) (by_key : BTreeMap Key (BTreeSet ℕ)) (by_id : BTreeMap ℕ (List Key)) (standing : Standing cmp users stand held index by_key by_id) where
+  module _ {Index : Type 0} (users : Index → Key → ℕ) (stand : Index → ObjectMap → Type 0) (held : ObjectMap) (index : Index) (by_key : RowsByMark Key) (by_id : BTreeMap ℕ (List Key)) (standing : Standing cmp users stand held index by_key by_id) where
     -- a key that an id has is used
     pub used_by : (id : ℕ) (key : Key) → has_key cmp (keys_at by_id id) key ≡ true → has_ids cmp by_key key ≡ true
     used_by id key has = has_where cmp total exact by_key key id (standing.ids key id ∙ has)
@@ -111,7 +111,7 @@ module _ {Key : Type 0} (cmp : Key → Key → Ordering) (total : IsTotalOrder c
     pub user_of : (key : Key) → has_ids cmp by_key key ≡ true → (id : ℕ) × (has_key cmp (keys_at by_id id) key ≡ true)
     user_of key used = id_at cmp total exact by_key by_id standing.in_use.each standing.ids key used
 
-  module _ {Index : Type 0} (users : Index → Key → ℕ) (stand : Index → ObjectMap → Type 0) (held : ObjectMap) (index next : Index) (by_key new : BTreeMap Key (BTreeSet ℕ)) (by_id later : BTreeMap ℕ (List Key))
+  module _ {Index : Type 0} (users : Index → Key → ℕ) (stand : Index → ObjectMap → Type 0) (held : ObjectMap) (index next : Index) (by_key new : RowsByMark Key) (by_id later : BTreeMap ℕ (List Key))
       (standing : Standing cmp users stand held index by_key by_id) (stands : Standing cmp users stand held next new later) (id : ℕ) where
     pub set_used : (keys : List Key) → SetsAt id keys (keys_at by_id) (keys_at later) → (key : Key) → has_key cmp keys key ≡ true → has_ids cmp new key ≡ true
     set_used keys sets key has = used_by users stand held next new later stands id key (ap (λ (ks : List Key). has_key cmp ks key) (set_here id keys (keys_at by_id) (keys_at later) sets) ∙ has)

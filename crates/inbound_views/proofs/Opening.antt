@@ -3,12 +3,12 @@ use Rattle.std.proofs.Common.{◌≡◌, inl, inr, ℕ, Bool, true, false, cond,
 use Rattle.std.proofs.lemmas.Bool.{false≢true}
 use Rattle.std.proofs.lemmas.Bool.Decides.{eqb_tells}
 use Rattle.std.specs.BTreeMap.{BTreeMap}
-use Rattle.std.specs.BTreeSet.{BTreeSet}
 use Rattle.std.specs.Prelude.{option_map}
 use Rattle.std.specs.declared.cmp.Ordering.{Ordering}
 use Rattle.view_types.specs.Objects.{ObjectMap}
 use Rattle.view_types.specs.declared.config.Config.{Config}
 use Rattle.view_types.specs.declared.query.Query.{Query}
+use Rattle.mark_graph.specs.declared.rows_by_mark.RowsByMark.{RowsByMark}
 use Rattle.mark_rules.specs.declared.keys.ServerKey.{ServerKey}
 use Rattle.row_table.specs.IndexRows.{Filter}
 use Rattle.row_views.specs.Ids.{Keeps, SetsAt, key_at}
@@ -74,5 +74,5 @@ module _ (stand : InboundViews → Config → ObjectMap → Type 0) (config : Co
 
 -- rows of an index that is this one
 pub kept_sets : {Index Key Row : Type 0} {cmp : Key → Key → Ordering} {users : Index → Key → ℕ} {stand : Index → ObjectMap → Type 0} {filter_of : Index → Filter Key Row} {filter : Filter Key Row} {held : ObjectMap}
-    {index new : Index} {by_key : BTreeMap Key (BTreeSet ℕ)} {by_id : BTreeMap ℕ (List Key)} → new ≡ index → Standing cmp users stand held new by_key by_id → filter_of index ≡ filter → SetsAreKept cmp users stand filter_of filter held new by_key by_id
+    {index new : Index} {by_key : RowsByMark Key} {by_id : BTreeMap ℕ (List Key)} → new ≡ index → Standing cmp users stand held new by_key by_id → filter_of index ≡ filter → SetsAreKept cmp users stand filter_of filter held new by_key by_id
 kept_sets {filter_of} same rows filtered = record { rows = rows; filtered = ap filter_of same ∙ filtered }

@@ -2,7 +2,6 @@
 use Rattle.std.proofs.Common.{◌≡◌, ◌<◌, inl, inr, ℕ, Bool, true, false, List, Option, Some, None, refl, sym, subst, ◌∙◌, arith}
 use Rattle.std.proofs.lemmas.Bool.{false≢true}
 use Rattle.std.specs.BTreeMap.{BTreeMap}
-use Rattle.std.specs.BTreeSet.{BTreeSet}
 use Rattle.std.specs.List.{Contains}
 use Rattle.std.specs.Prelude.{option_map}
 use Rattle.mesh_base.specs.contracts.key.ObjKeyOrd as key_order
@@ -12,6 +11,7 @@ use Rattle.view_types.specs.Objects.{ObjectMap}
 use Rattle.view_types.specs.declared.config.Config.{Config}
 use Rattle.view_types.specs.declared.query.Query.{Query}
 use Rattle.view_types.specs.declared.server_view.RouteRow.{RouteRow}
+use Rattle.mark_graph.specs.declared.rows_by_mark.RowsByMark.{RowsByMark}
 use Rattle.view_rules.specs.PolicyLaws.{server_key}
 use Rattle.view_rules.proofs.Among.{Among, among_from, from_map}
 use Rattle.mark_rules.specs.Rows.{key_of_row, keys_behind, name_in, rows, server_part, server_routes}
@@ -97,7 +97,7 @@ module _ (config : Config) (held : ObjectMap) (port : ServerKey) where
 -- ---- the rows that have users
 
 module _ {Servers Routes Authz : Type 0} {server_users : Servers → ServerKey → ℕ} {route_users : Routes → RouteKey → ℕ} {authz_users : Authz → ObjKey → ℕ} {server_numbers : Servers → ServerKey → Option ℕ} {server_stand : Servers → ObjectMap → Type 0} {route_stand : Routes → ObjectMap → Type 0} {authz_stand : Authz → ObjectMap → Type 0}
-    {held : ObjectMap} {servers : Servers} {routes : Routes} {authz : Authz} {of_servers : NumberedIds} {of_routes : BTreeMap RouteKey (BTreeSet ℕ)} {of_authz : BTreeMap ObjKey (BTreeSet ℕ)} {ports : BTreeMap ℕ ServerKey} {routes_at : BTreeMap ℕ (List RouteKey)} {authz_at : BTreeMap ℕ (List ObjKey)}
+    {held : ObjectMap} {servers : Servers} {routes : Routes} {authz : Authz} {of_servers : NumberedIds} {of_routes : RowsByMark RouteKey} {of_authz : RowsByMark ObjKey} {ports : BTreeMap ℕ ServerKey} {routes_at : BTreeMap ℕ (List RouteKey)} {authz_at : BTreeMap ℕ (List ObjKey)}
     (config : Config) (servers_stand : views.Standing server_order.TheImpl.cmp-value.it server_users server_numbers server_stand held servers of_servers ports)
     (routes_stand : sets.Standing route_order.TheImpl.cmp-value.it route_users route_stand held routes of_routes routes_at)
     (authz_stands : sets.Standing key_order.TheImpl.cmp-value.it authz_users authz_stand held authz of_authz authz_at)

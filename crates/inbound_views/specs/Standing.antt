@@ -1,7 +1,6 @@
 -- The rows of ports are those over the objects held.
 use Rattle.std.specs.Prelude.{◌≡◌, ◌⊎◌, ◌++◌, ◌||◌, if◌then◌else◌, ℕ, Bool, false, true, List, [], ◌∷◌, Option, option_map}
 use Rattle.std.specs.BTreeMap.{BTreeMap}
-use Rattle.std.specs.BTreeSet.{BTreeSet}
 use Rattle.std.specs.declared.cmp.Ordering.{Ordering}
 use Rattle.mesh_base.specs.contracts.key.ObjKeyOrd as key_order
 use Rattle.mesh_base.specs.declared.key.ObjKey.{ObjKey}
@@ -12,6 +11,7 @@ use Rattle.view_types.specs.declared.query.Query.{Query}
 use Rattle.view_types.specs.declared.server_view.AuthzRow.{AuthzRow}
 use Rattle.view_types.specs.declared.server_view.RouteRow.{RouteRow}
 use Rattle.mark_graph.specs.RowMarks.{has_row}
+use Rattle.mark_graph.specs.declared.rows_by_mark.RowsByMark.{RowsByMark}
 use Rattle.mark_rules.specs.Rows.{authz_row, server_routes}
 use Rattle.mark_rules.specs.contracts.keys.RouteKeyOrd as route_order
 use Rattle.mark_rules.specs.declared.keys.RouteKey.{RouteKey}
@@ -84,7 +84,7 @@ with_earlier Leave keys before = keys
 
 -- The rows of keys that ids are open with stand for the objects held, and are those of this filter.
 pub record SetsAreKept {Index Key Row : Type 0} (cmp : Key → Key → Ordering) (users : Index → Key → ℕ) (stand : Index → ObjectMap → Type 0) (filter_of : Index → Filter Key Row) (filter : Filter Key Row)
-    (held : ObjectMap) (index : Index) (by_key : BTreeMap Key (BTreeSet ℕ)) (by_id : BTreeMap ℕ (List Key)) : Type 0 where
+    (held : ObjectMap) (index : Index) (by_key : RowsByMark Key) (by_id : BTreeMap ℕ (List Key)) : Type 0 where
   pub rows : Standing cmp users stand held index by_key by_id
   pub filtered : filter_of index ≡ filter
 

@@ -1,3 +1,4 @@
 pub mod Items
 pub mod Moves
+pub mod Puts
 pub mod RowMarks

@@ -6,18 +6,19 @@ ghost use Rattle.std.specs.List.Sorted.{IsStrictlySortedBy};
 ghost use Rattle.std.specs.Ordering.{eq_by_cmp, nat_cmp};
 ghost use Rattle.mark_graph.specs.RowMarks.{AddsRow, AllHaveRows, OthersHaveRows, RemovesRow, has_mark, has_row, has_rows, is_only_in, row_at};
 
+use crate::rows_by_mark::RowsByMark;
 use crate::sorted_set::{SortedSet, sorted};
-use chunked_map::map::ChunkedMap;
 use mesh_base::copied::Copied;
 use mesh_base::list::List;
 use mesh_base::memory::Memory;
 use std::alloc::Global;
 use std::collections::BTreeSet;
+use std::hash::Hash;
 
 /// Adds a row at a mark. Returns whether the mark had rows before.
-pub fn put_one<M: Ord + Copied>(
+pub fn put_one<M: Ord + Hash + Copied>(
     alloc: Global,
-    by: &mut ChunkedMap<M, SortedSet<u64>>,
+    by: &mut RowsByMark<M>,
     mark: &M,
     row: u64,
 ) -> Result<bool, Memory>
@@ -25,52 +26,45 @@ pub fn put_one<M: Ord + Copied>(
     ensures kept { AllHaveRows M.cmp by.old → OnOk result (AllHaveRows M.cmp by.new) }
     ensures had { IfOk result (λ had_rows. had_rows ≡ has_rows M.cmp by.old mark.now) }
 {
-    match by.get_mut(mark) {
-        Some(rows) => {
-            rows.insert(row)?;
-            Ok(true)
-        }
-        None => {
-            let mut rows = SortedSet::new(alloc);
-            rows.insert(row)?;
-            by.insert(mark.copy(alloc)?, rows)?;
-            Ok(false)
-        }
+    if by.add_row(mark, row)? {
+        return Ok(true);
     }
+    put_first(alloc, by, mark, row)?;
+    Ok(false)
+}
+
+/// Adds a row at a mark that has none.
+fn put_first<M: Ord + Hash + Copied>(
+    alloc: Global,
+    by: &mut RowsByMark<M>,
+    mark: &M,
+    row: u64,
+) -> Result<(), Memory>
+    requires { has_rows M.cmp by.old mark.now ≡ false }
+    ensures added { OnOk result (AddsRow M.cmp (eq_by_cmp M.cmp mark.now) row by.old by.new) }
+    ensures kept { AllHaveRows M.cmp by.old → OnOk result (AllHaveRows M.cmp by.new) }
+{
+    let mut rows = SortedSet::new(alloc);
+    rows.insert(row)?;
+    let key = mark.copy(alloc)?;
+    by.put(key, rows)
 }
 
 /// Removes a row from a mark. Returns whether the mark still has rows.
-pub fn take_one<M: Ord + Copied>(by: &mut ChunkedMap<M, SortedSet<u64>>, mark: &M, row: u64) -> bool
+pub fn take_one<M: Ord + Hash + Copied>(by: &mut RowsByMark<M>, mark: &M, row: u64) -> bool
     ensures taken { RemovesRow M.cmp (eq_by_cmp M.cmp mark.now) row by.old by.new }
     ensures kept { AllHaveRows M.cmp by.old → AllHaveRows M.cmp by.new }
     ensures others { result ≡ has_rows M.cmp by.new mark.now }
 {
-    if keeps_others(by, mark, row) {
+    if by.take_row(mark, row) {
         return true;
     }
     let_go(by, mark);
     false
 }
 
-/// Removes a row from a mark, but keeps its set. Returns whether the set still has rows.
-fn keeps_others<M: Ord + Copied>(by: &mut ChunkedMap<M, SortedSet<u64>>, mark: &M, row: u64) -> bool
-    ensures taken { RemovesRow M.cmp (eq_by_cmp M.cmp mark.now) row by.old by.new }
-    ensures none { result ≡ false → (r : ℕ) → row_at M.cmp by.new mark.now r ≡ false }
-    ensures some { result ≡ true → has_rows M.cmp by.new mark.now ≡ true }
-    ensures kept { AllHaveRows M.cmp by.old → OthersHaveRows M.cmp mark.now by.new }
-    ensures filled { AllHaveRows M.cmp by.old → result ≡ true → AllHaveRows M.cmp by.new }
-{
-    match by.get_mut(mark) {
-        Some(rows) => {
-            rows.remove(&row);
-            !rows.is_empty()
-        }
-        None => false,
-    }
-}
-
 /// Drops the set of a mark that has no rows.
-fn let_go<M: Ord + Copied>(by: &mut ChunkedMap<M, SortedSet<u64>>, mark: &M)
+fn let_go<M: Ord + Hash + Copied>(by: &mut RowsByMark<M>, mark: &M)
     requires { (r : ℕ) → row_at M.cmp by.old mark.now r ≡ false }
     ensures same { (m : M) (r : ℕ) → row_at M.cmp by.new m r ≡ row_at M.cmp by.old m r }
     ensures kept { OthersHaveRows M.cmp mark.now by.old → AllHaveRows M.cmp by.new }
@@ -80,9 +74,9 @@ fn let_go<M: Ord + Copied>(by: &mut ChunkedMap<M, SortedSet<u64>>, mark: &M)
 }
 
 /// Adds a row at each mark of the new set that the old one lacks.
-pub fn put_new<M: Ord + Copied>(
+pub fn put_new<M: Ord + Hash + Copied>(
     alloc: Global,
-    by: &mut ChunkedMap<M, SortedSet<u64>>,
+    by: &mut RowsByMark<M>,
     old: &SortedSet<M>,
     new: &SortedSet<M>,
     row: u64,
@@ -98,9 +92,9 @@ pub fn put_new<M: Ord + Copied>(
 }
 
 /// Adds a row at a mark, unless the mark is in the set.
-fn put_unless<M: Ord + Copied>(
+fn put_unless<M: Ord + Hash + Copied>(
     alloc: Global,
-    by: &mut ChunkedMap<M, SortedSet<u64>>,
+    by: &mut RowsByMark<M>,
     mark: &M,
     set: &SortedSet<M>,
     row: u64,
@@ -117,8 +111,8 @@ fn put_unless<M: Ord + Copied>(
 }
 
 /// Removes a row from each mark of the old set that the new one lacks.
-pub fn take_old<M: Ord + Copied>(
-    by: &mut ChunkedMap<M, SortedSet<u64>>,
+pub fn take_old<M: Ord + Hash + Copied>(
+    by: &mut RowsByMark<M>,
     old: &SortedSet<M>,
     new: &SortedSet<M>,
     row: u64,
@@ -132,8 +126,8 @@ pub fn take_old<M: Ord + Copied>(
 }
 
 /// Removes a row from a mark, unless the mark is in the set.
-fn take_unless<M: Ord + Copied>(
-    by: &mut ChunkedMap<M, SortedSet<u64>>,
+fn take_unless<M: Ord + Hash + Copied>(
+    by: &mut RowsByMark<M>,
     mark: &M,
     set: &SortedSet<M>,
     row: u64,
@@ -159,9 +153,9 @@ pub fn set_of<M: Ord + Copied>(alloc: Global, marks: List<M>) -> Result<BTreeSet
 }
 
 /// Returns the rows at these marks, ascending and each once.
-pub fn rows_at<M: Ord + Copied>(
+pub fn rows_at<M: Ord + Hash + Copied>(
     alloc: Global,
-    by: &ChunkedMap<M, SortedSet<u64>>,
+    by: &RowsByMark<M>,
     marks: &[M],
 ) -> Result<List<u64>, Memory>
     ensures rows { IfOk result (λ rows. (r : ℕ)
@@ -181,9 +175,9 @@ pub fn in_order(rows: List<u64>) -> List<u64>
 }
 
 /// Returns the rows at these marks, mark by mark. The rows of each mark are ascending.
-fn gather_all<M: Ord + Copied>(
+fn gather_all<M: Ord + Hash + Copied>(
     alloc: Global,
-    by: &ChunkedMap<M, SortedSet<u64>>,
+    by: &RowsByMark<M>,
     marks: &[M],
 ) -> Result<Vec<u64>, Memory>
     ensures { IfOk result (λ rows. (r : ℕ)
@@ -197,8 +191,8 @@ fn gather_all<M: Ord + Copied>(
 }
 
 /// Appends the rows at a mark.
-fn gather_one<M: Ord + Copied>(
-    by: &ChunkedMap<M, SortedSet<u64>>,
+fn gather_one<M: Ord + Hash + Copied>(
+    by: &RowsByMark<M>,
     mark: &M,
     rows: &mut Vec<u64>,
 ) -> Result<(), Memory>

@@ -5,12 +5,13 @@ ghost use Rattle.mark_graph.specs.RowMarks.{AddsRow, AllHaveRows, MovesRow, Remo
 ghost use Rattle.mark_graph.specs.Moves.{has_after};
 
 use crate::by_mark::{put_new, put_one, take_old, take_one};
+use crate::rows_by_mark::RowsByMark;
 use crate::sorted_set::SortedSet;
-use chunked_map::map::ChunkedMap;
 use mesh_base::copied::Copied;
 use mesh_base::list::List;
 use mesh_base::memory::Memory;
 use std::alloc::Global;
+use std::hash::Hash;
 
 /// The marks that a row loses, and those that it gains. A mark in both lists is gained.
 #[derive(Debug, Drop)]
@@ -20,9 +21,9 @@ pub struct MarkMoves<M> {
 }
 
 /// Removes the row from the marks that are gone, and adds it at those that come.
-pub fn move_at_marks<M: Ord + Copied>(
+pub fn move_at_marks<M: Ord + Hash + Copied>(
     alloc: Global,
-    by: &mut ChunkedMap<M, SortedSet<u64>>,
+    by: &mut RowsByMark<M>,
     moves: &MarkMoves<M>,
     row: u64,
 ) -> Result<(), Memory>
@@ -35,9 +36,9 @@ pub fn move_at_marks<M: Ord + Copied>(
 }
 
 /// Moves a row from the old marks to the new ones. Marks in both sets are left as they are.
-pub fn move_between<M: Ord + Copied>(
+pub fn move_between<M: Ord + Hash + Copied>(
     alloc: Global,
-    by: &mut ChunkedMap<M, SortedSet<u64>>,
+    by: &mut RowsByMark<M>,
     old: &SortedSet<M>,
     new: &SortedSet<M>,
     row: u64,
@@ -51,7 +52,7 @@ pub fn move_between<M: Ord + Copied>(
 }
 
 /// Removes a row from each of these marks.
-pub fn take_all<M: Ord + Copied>(by: &mut ChunkedMap<M, SortedSet<u64>>, marks: &[M], row: u64)
+pub fn take_all<M: Ord + Hash + Copied>(by: &mut RowsByMark<M>, marks: &[M], row: u64)
     ensures taken { RemovesRow M.cmp (has_mark M.cmp marks.now) row by.old by.new }
     ensures kept { AllHaveRows M.cmp by.old → AllHaveRows M.cmp by.new }
 {
@@ -61,9 +62,9 @@ pub fn take_all<M: Ord + Copied>(by: &mut ChunkedMap<M, SortedSet<u64>>, marks: 
 }
 
 /// Adds a row at each of these marks.
-pub fn put_all<M: Ord + Copied>(
+pub fn put_all<M: Ord + Hash + Copied>(
     alloc: Global,
-    by: &mut ChunkedMap<M, SortedSet<u64>>,
+    by: &mut RowsByMark<M>,
     marks: &[M],
     row: u64,
 ) -> Result<(), Memory>

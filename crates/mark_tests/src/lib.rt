@@ -1,7 +1,7 @@
 //! Tests of the marks that rows read, over a store of objects, and of the rows at marks.
 //! They are in a crate of their own, since a crate with tests is proved twice.
 //!
-//! Depends on row_reads, on mark_graph and chunked_map, and on watch_events for the objects.
+//! Depends on row_reads, on mark_graph, and on watch_events for the objects.
 #![tactic(auto)]
 
 #[cfg(test)]

@@ -1,6 +1,6 @@
-use chunked_map::map::ChunkedMap;
 use mark_graph::by_mark::rows_at;
 use mark_graph::moves::{MarkMoves, move_at_marks, move_between, put_all, take_all};
+use mark_graph::rows_by_mark::RowsByMark;
 use mark_graph::sorted_set::SortedSet;
 use mesh_base::list::List;
 use std::alloc::Global;
@@ -18,7 +18,7 @@ fn set(alloc: Global, marks: &[u32]) -> Result<SortedSet<u32>, Fail> {
 #[test]
 fn rows_at_marks(rt: HostRuntime) -> Result<(), Fail> {
     let alloc = rt.alloc();
-    let mut by: ChunkedMap<u32, SortedSet<u64>> = ChunkedMap::new(alloc);
+    let mut by: RowsByMark<u32> = RowsByMark::new(alloc);
     put_all(alloc, &mut by, &[1, 2], 7)?;
     put_all(alloc, &mut by, &[2, 2], 3)?;
     assert_eq!(rt; rows_at(alloc, &by, &[2])?.as_slice(), [3, 7].as_slice());
@@ -39,7 +39,7 @@ fn rows_at_marks(rt: HostRuntime) -> Result<(), Fail> {
 #[test]
 fn moved_marks(rt: HostRuntime) -> Result<(), Fail> {
     let alloc = rt.alloc();
-    let mut by: ChunkedMap<u32, SortedSet<u64>> = ChunkedMap::new(alloc);
+    let mut by: RowsByMark<u32> = RowsByMark::new(alloc);
     put_all(alloc, &mut by, &[5, 6], 2)?;
     let gone = list(alloc, &[5])?;
     let come = list(alloc, &[7])?;

@@ -3,8 +3,6 @@ use Rattle.std.proofs.Common.{◌≡◌, ◌≤◌, ◌<◌, ◌+◌, ◌&&◌, 
 use Rattle.std.proofs.lemmas.Bool.{false≢true}
 use Rattle.std.proofs.lemmas.List.{take_more}
 use Rattle.std.proofs.lemmas.List.Sums.{sum_by_push}
-use Rattle.std.specs.BTreeMap.{BTreeMap}
-use Rattle.std.specs.BTreeSet.{BTreeSet}
 use Rattle.std.specs.Cmp.{IsTotalOrder}
 use Rattle.std.specs.FinMap.{IsAntisymmetric}
 use Rattle.std.specs.List.{AllByRecursion}
@@ -12,6 +10,7 @@ use Rattle.std.specs.Ordering.{eq_by_cmp}
 use Rattle.std.specs.declared.cmp.Ordering.{Ordering}
 use Rattle.view_types.specs.Objects.{ObjectMap}
 use Rattle.mark_graph.specs.RowMarks.{AddsRow, AllHaveRows, row_at}
+use Rattle.mark_graph.specs.declared.rows_by_mark.RowsByMark.{RowsByMark}
 use Rattle.mark_rules.specs.Reads.{cost}
 use Rattle.row_table.specs.IndexRows.{Filter, has_key}
 use Rattle.row_table.proofs.Keys.{distinct_more, distinct_none, has_more, is_itself, is_same}
@@ -38,7 +37,7 @@ module _ {Key : Type 0} (cmp : Key → Key → Ordering) (total : IsTotalOrder c
       by true is rest = subst P (sym (is_same cmp total exact key k is)) all.0
       by false is rest = rest (sym (ap (λ (b : Bool). b || has_key cmp ks key) is) ∙ has)
 
-  module _ {Row : Type 0} (filter : Filter Key Row) (held : ObjectMap) (start now : BTreeMap Key (BTreeSet ℕ)) (keys : List Key) (id i : ℕ) (key : Key) (first before after : ℕ)
+  module _ {Row : Type 0} (filter : Filter Key Row) (held : ObjectMap) (start now : RowsByMark Key) (keys : List Key) (id i : ℕ) (key : Key) (first before after : ℕ)
       (lt : i < length keys) (at : key ≡ get_or keys i key) (each : AllHaveRows cmp start) (adds : AddsRow cmp (has_key cmp (take i keys)) id start now) where
     abbrev cost_at : Key → ℕ
     cost_at k = cost held (filter.reads held k)

@@ -1,7 +1,6 @@
 -- The rows of sets of keys that have users, in terms of the ids that are open with these.
 use Rattle.std.proofs.Common.{◌≡◌, ◌<◌, ℕ, cond, List, Option, Some, sym, ap, ◌∙◌, arith}
 use Rattle.std.specs.BTreeMap.{BTreeMap}
-use Rattle.std.specs.BTreeSet.{BTreeSet}
 use Rattle.std.specs.Cmp.{IsTotalOrder}
 use Rattle.std.specs.FinMap.{IsAntisymmetric}
 use Rattle.std.specs.List.{filter_map}
@@ -9,6 +8,7 @@ use Rattle.std.specs.declared.cmp.Ordering.{Ordering}
 use Rattle.view_types.specs.Objects.{ObjectMap}
 use Rattle.view_types.specs.declared.config.Config.{Config}
 use Rattle.view_types.specs.declared.query.Query.{Query}
+use Rattle.mark_graph.specs.declared.rows_by_mark.RowsByMark.{RowsByMark}
 use Rattle.mark_rules.specs.declared.keys.RowKey.{RowKey}
 use Rattle.row_table.specs.IndexRows.{has_key}
 use Rattle.row_views.specs.Ids.{has_ids}
@@ -21,7 +21,7 @@ use Rattle.row_sets.proofs.Costs.{id_at}
 
 -- Each id is open with the keys of those rows of its query that are of one kind.
 module _ {Index Key : Type 0} (cmp : Key → Key → Ordering) (total : IsTotalOrder cmp) (exact : IsAntisymmetric cmp) (users : Index → Key → ℕ) (stand : Index → ObjectMap → Type 0) (held : ObjectMap)
-    (index : Index) (by_key : BTreeMap Key (BTreeSet ℕ)) (by_id : BTreeMap ℕ (List Key)) (st : Standing cmp users stand held index by_key by_id)
+    (index : Index) (by_key : RowsByMark Key) (by_id : BTreeMap ℕ (List Key)) (st : Standing cmp users stand held index by_key by_id)
     (config : Config) (queries : ℕ → Option Query) (key_of : RowKey → Option Key) (row : Key → RowKey) (keys : (id : ℕ) → keys_at by_id id ≡ filter_map key_of (rows_at config held (queries id))) where
   -- a row with users is of the query of an id
   pub used_row : ((of : RowKey) (key : Key) → key_of of ≡ Some key → row key ≡ of) → (key : Key) → 0 < users index key → IsInUse config held queries (row key)

@@ -4,7 +4,6 @@ use Rattle.std.proofs.lemmas.Bool.Decides.{eqb_tells}
 use Rattle.std.proofs.lemmas.Cmp.{nat_cmp_total}
 use Rattle.std.specs.BTreeMap as tree
 use Rattle.std.specs.BTreeMap.{BTreeMap, is_at}
-use Rattle.std.specs.BTreeSet.{BTreeSet}
 use Rattle.std.specs.Cmp.{IsTotalOrder, unsigned_tied}
 use Rattle.std.specs.FinMap.{IsAntisymmetric, nat_cmp-IsAntisymmetric}
 use Rattle.std.specs.List.{list_any}
@@ -15,7 +14,8 @@ use Rattle.std.specs.declared.cmp.Ordering.{Ordering}
 use Rattle.view_types.specs.Objects.{ObjectMap}
 use Rattle.view_types.specs.declared.mark.Mark.{Mark}
 use Rattle.mark_rules.specs.Marks.{meets}
-use Rattle.mark_graph.specs.RowMarks.{AddsRow, RemovesRow, has_row, row_at, some_row}
+use Rattle.mark_graph.specs.RowMarks.{AddsRow, RemovesRow, has_row, row_at, set_at, some_row}
+use Rattle.mark_graph.specs.declared.rows_by_mark.RowsByMark.{RowsByMark}
 use Rattle.row_table.specs.IndexRows.{AreMet, Filter, IsCurrent, has_key}
 use Rattle.row_table.proofs.Keys.{flipped, is_itself}
 use Rattle.row_table.proofs.MarkLists.{meets_same, same_any}
@@ -68,11 +68,11 @@ at_others false true was = refl
 at_others false false was = refl
 
 module _ {Index Key : Type 0} (cmp : Key → Key → Ordering) (total : IsTotalOrder cmp) (exact : IsAntisymmetric cmp) (users : Index → Key → ℕ) (stand : Index → ObjectMap → Type 0) where
-  abbrev Stands : ObjectMap → Index → BTreeMap Key (BTreeSet ℕ) → BTreeMap ℕ (List Key) → Type 0
+  abbrev Stands : ObjectMap → Index → RowsByMark Key → BTreeMap ℕ (List Key) → Type 0
   Stands = Standing cmp users stand
 
-  pub none_stand : (held : ObjectMap) (index : Index) (by_key : BTreeMap Key (BTreeSet ℕ)) (by_id : BTreeMap ℕ (List Key)) → by_key.entries ≡ [] → by_id.entries ≡ [] → ((key : Key) → users index key ≡ 0) → stand index held → Stands held index by_key by_id
-  none_stand held index by_key by_id no_keys no_ids unused rows = record {
+  pub none_stand : (held : ObjectMap) (index : Index) (by_key : RowsByMark Key) (by_id : BTreeMap ℕ (List Key)) → ((key : Key) → set_at cmp by_key key ≡ None) → by_id.entries ≡ [] → ((key : Key) → users index key ≡ 0) → stand index held → Stands held index by_key by_id
+  none_stand held index by_key by_id no_set no_ids unused rows = record {
     in_use = record {
       rows = rows;
       one_user = λ k. unused k ∙ sym (ap (λ o. cond (is_some o) 1 0) (no_set k));
@@ -80,12 +80,9 @@ module _ {Index Key : Type 0} (cmp : Key → Key → Ordering) (total : IsTotalO
     };
     ids = λ k n. ap (some_row n) (no_set k) ∙ sym (ap (λ o. has_key cmp (keys_in o) k) (ap (lookup (is_at (nat_cmp n))) no_ids));
   }
-    where
-      no_set : (k : Key) → tree.get cmp by_key k ≡ None
-      no_set k = ap (lookup (is_at (cmp k))) no_keys
 
   -- an id is put at all its keys, and removed from those that it had and has no more
-  pub moved_stand : (held : ObjectMap) (index next : Index) (by_key mid new : BTreeMap Key (BTreeSet ℕ)) (by_id later : BTreeMap ℕ (List Key)) (id : ℕ) (keys : List Key) (inside : Key → Bool)
+  pub moved_stand : (held : ObjectMap) (index next : Index) (by_key mid new : RowsByMark Key) (by_id later : BTreeMap ℕ (List Key)) (id : ℕ) (keys : List Key) (inside : Key → Bool)
       → Stands held index by_key by_id → ((k : Key) → inside k ≡ has_key cmp keys k) → AddsRow cmp (has_key cmp keys) id by_key mid → RemovesRow cmp (λ k. has_key cmp (keys_at by_id id) k && not (inside k)) id mid new
       → SetsAt id keys (keys_at by_id) (keys_at later) → InUse cmp users stand held next new → Stands held next new later
   moved_stand held index next by_key mid new by_id later id keys inside st same adds takes sets used = record {
@@ -104,7 +101,7 @@ module _ {Index Key : Type 0} (cmp : Key → Key → Ordering) (total : IsTotalO
   }
 
   -- an id that had no keys is left with none
-  pub unset_stand : (held : ObjectMap) (index : Index) (by_key : BTreeMap Key (BTreeSet ℕ)) (by_id later : BTreeMap ℕ (List Key)) (id : ℕ) → keys_at by_id id ≡ [] → SetsAt id [] (keys_at by_id) (keys_at later) → Stands held index by_key by_id
+  pub unset_stand : (held : ObjectMap) (index : Index) (by_key : RowsByMark Key) (by_id later : BTreeMap ℕ (List Key)) (id : ℕ) → keys_at by_id id ≡ [] → SetsAt id [] (keys_at by_id) (keys_at later) → Stands held index by_key by_id
       → Stands held index by_key later
   unset_stand held index by_key by_id later id none sets st = record { in_use = st.in_use; ids = λ k n. st.ids k n ∙ sym (ap (λ keys. has_key cmp keys k) (same n)) }
     where
@@ -115,7 +112,7 @@ module _ {Index Key : Type 0} (cmp : Key → Key → Ordering) (total : IsTotalO
       ]
 
   -- rows that are brought up to a change
-  pub followed_stand : (held after : ObjectMap) (index next : Index) (by_key : BTreeMap Key (BTreeSet ℕ)) (by_id : BTreeMap ℕ (List Key)) → ((key : Key) → users next key ≡ users index key) → stand next after → Stands held index by_key by_id
+  pub followed_stand : (held after : ObjectMap) (index next : Index) (by_key : RowsByMark Key) (by_id : BTreeMap ℕ (List Key)) → ((key : Key) → users next key ≡ users index key) → stand next after → Stands held index by_key by_id
       → Stands after next by_key by_id
   followed_stand held after index next by_key by_id same rows st = record {
     in_use = record { rows = rows; one_user = λ k. same k ∙ st.in_use.one_user k; each = st.in_use.each };
@@ -124,7 +121,7 @@ module _ {Index Key : Type 0} (cmp : Key → Key → Ordering) (total : IsTotalO
 
   -- ---- the rows of keys that have ids
 
-  module _ {Row : Type 0} (filter : Filter Key Row) (row_in : Index → Key → Option Row) (marks_in : Index → Key → List Mark) (held : ObjectMap) (index : Index) (by_key : BTreeMap Key (BTreeSet ℕ)) (by_id : BTreeMap ℕ (List Key))
+  module _ {Row : Type 0} (filter : Filter Key Row) (row_in : Index → Key → Option Row) (marks_in : Index → Key → List Mark) (held : ObjectMap) (index : Index) (by_key : RowsByMark Key) (by_id : BTreeMap ℕ (List Key))
       (current : stand index held → (key : Key) → IsCurrent filter held key (users index key) (row_in index key) (marks_in index key)) (st : Stands held index by_key by_id) where
     -- the keys of an id have ids
     key_used : (id : ℕ) (key : Key) → has_key cmp (keys_at by_id id) key ≡ true → has_ids cmp by_key key ≡ true

@@ -3,7 +3,6 @@ use Rattle.std.proofs.Common.{◌≡◌, inl, inr, ℕ, ◌+◌, ◌-◌, ◌<�
 use Rattle.std.proofs.lemmas.Bool.{false≢true}
 use Rattle.std.proofs.lemmas.Cmp.{nat_cmp_total}
 use Rattle.std.proofs.lemmas.List.Folds.{list_any_more}
-use Rattle.std.specs.BTreeMap.{BTreeMap}
 use Rattle.std.specs.BTreeSet as sorted
 use Rattle.std.specs.BTreeSet.{BTreeSet}
 use Rattle.std.specs.Cmp.{IsTotalOrder, unsigned_tied}
@@ -12,6 +11,7 @@ use Rattle.std.specs.Ordering.{eq_by_cmp, nat_cmp}
 use Rattle.std.specs.declared.cmp.Ordering.{Ordering}
 use Rattle.view_types.specs.Objects.{ObjectMap}
 use Rattle.mark_graph.specs.RowMarks.{AddsRow, AllHaveRows, RemovesRow, row_at}
+use Rattle.mark_graph.specs.declared.rows_by_mark.RowsByMark.{RowsByMark}
 use Rattle.row_table.specs.IndexRows.{OneLess, has_key}
 use Rattle.row_table.proofs.Keys.{flipped, is_itself, tells, turned}
 use Rattle.row_views.specs.Ids.{OneMoreUnless, has_ids}
@@ -58,7 +58,7 @@ take_more_of at had in_new here old mid new first second = second ∙ ap (λ b. 
 
 module _ {Key : Type 0} (cmp : Key → Key → Ordering) (total : IsTotalOrder cmp) (exact : IsAntisymmetric cmp) where
   abbrev ByKey : Type 0
-  ByKey = BTreeMap Key (BTreeSet ℕ)
+  ByKey = RowsByMark Key
 
   -- ---- keys that have ids
 

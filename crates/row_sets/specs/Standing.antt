@@ -10,6 +10,7 @@ use Rattle.std.specs.declared.cmp.Ordering.{Ordering}
 use Rattle.view_types.specs.Objects.{ObjectMap}
 use Rattle.view_types.specs.declared.mark.Mark.{Mark}
 use Rattle.mark_graph.specs.RowMarks.{AllHaveRows, row_at}
+use Rattle.mark_graph.specs.declared.rows_by_mark.RowsByMark.{RowsByMark}
 use Rattle.mark_rules.specs.Marks.{meets}
 use Rattle.mark_rules.specs.Reads.{cost}
 use Rattle.row_table.specs.IndexRows.{Filter, has_key}
@@ -27,7 +28,7 @@ keys_at by_id id = keys_in (tree.get nat_cmp by_id id)
 abbrev pub is_left_out : {Key : Type 0} → (Key → Key → Ordering) → List Key → BTreeSet Key → Key → Bool
 is_left_out cmp keys set key = has_key cmp keys key && not (sorted.contains cmp set key)
 
-module _ {Index Key : Type 0} (cmp : Key → Key → Ordering) (users : Index → Key → ℕ) (stand : Index → ObjectMap → Type 0) (held : ObjectMap) (index : Index) (by_key : BTreeMap Key (BTreeSet ℕ)) where
+module _ {Index Key : Type 0} (cmp : Key → Key → Ordering) (users : Index → Key → ℕ) (stand : Index → ObjectMap → Type 0) (held : ObjectMap) (index : Index) (by_key : RowsByMark Key) where
   -- The index stands for the objects held, and its users are the keys that have ids, each once. A
   -- key that is stored has an id.
   pub record InUse : Type 0 where

@@ -1,17 +1,16 @@
 // The keys that are in use, and their rows.
-ghost use Rattle.std.specs.Prelude.{◌≡◌, ◌≤◌, ◌+◌, ◌&&◌, not, [], OnOk, if◌then◌else◌};
+ghost use Rattle.std.specs.Prelude.{◌≡◌, ◌≤◌, ◌+◌, ◌&&◌, not, None, OnOk, if◌then◌else◌};
 ghost use Rattle.std.specs.BTreeSet.{contains};
 ghost use Rattle.std.specs.Ordering.{eq_by_cmp};
 ghost use Rattle.view_types.specs.Objects.{ObjectMap};
-ghost use Rattle.mark_graph.specs.RowMarks.{AddsRow, AllHaveRows, RemovesRow};
+ghost use Rattle.mark_graph.specs.RowMarks.{AddsRow, AllHaveRows, RemovesRow, set_at};
 ghost use Rattle.mark_rules.specs.Reads.{cost};
 ghost use Rattle.row_table.specs.IndexRows.{has_key};
 ghost use Rattle.row_views.specs.Ids.{OneMoreUnless, has_ids};
 ghost use Rattle.row_sets.specs.Standing.{EntersWithin, InUse, is_left_out, open_cost};
 
-use chunked_map::map::ChunkedMap;
 use mark_graph::by_mark::{put_one, set_of, take_one};
-use mark_graph::sorted_set::SortedSet;
+use mark_graph::rows_by_mark::RowsByMark;
 use mesh_base::copied::Copied;
 use mesh_base::list::List;
 use mesh_base::memory::Memory;
@@ -26,7 +25,7 @@ use std::collections::BTreeSet;
 pub struct UsedKeys<I: RowIndex + Drop> {
     pub(crate) index: I,
     /// The ids of each key.
-    pub(crate) by_key: ChunkedMap<I::Key, SortedSet<u64>>,
+    pub(crate) by_key: RowsByMark<I::Key>,
     alloc: Global,
 }
 
@@ -34,11 +33,11 @@ impl<I: RowIndex + Drop> UsedKeys<I> {
     /// Creates a set without keys that have ids.
     pub(crate) fn new(alloc: Global, index: I) -> UsedKeys<I>
         ensures index { result.index ≡ index }
-        ensures none { result.by_key.entries ≡ [] }
+        ensures none { (key : I.Key) → set_at I.Key.Ord.cmp result.by_key key ≡ None }
     {
         UsedKeys {
             index,
-            by_key: ChunkedMap::new(alloc),
+            by_key: RowsByMark::new(alloc),
             alloc,
         }
     }

@@ -1,4 +1,5 @@
 -- The number and the users of each key.
+pub use Rattle.mark_graph.specs.Puts.{PutsAt}
 use Rattle.std.specs.Prelude.{◌≡◌, ◌+◌, ◌-◌, if◌then◌else◌, nat_lt, ℕ, Option, Some, None, option_map}
 use Rattle.std.specs.HashMap as map
 use Rattle.std.specs.Ordering.{eq_by_cmp}
@@ -39,11 +40,7 @@ module _ {Key : Type 0} (cmp : Key → Key → Ordering) where
 
   -- ---- the effects of its calls
 
-  -- the value is at the key, and every other key is unchanged
-  abbrev pub PutsAt : {X : Type 0} → Key → X → (Key → X) → (Key → X) → Type 0
-  PutsAt key x old new = (k : Key) → new k ≡ (if eq_by_cmp cmp k key then x else old k)
-
   -- one user of the key is removed, unless it is the last one of the key with this number
   abbrev pub TakesUser : Key → KeyNumbers Key → Option ℕ → KeyNumbers Key → Type 0
-  TakesUser key old None new = PutsAt key (one_less (used_at old key)) (used_at old) (used_at new) × (number_in (one_less (used_at old key)) ≡ number_at old key)
-  TakesUser key old (Some n) new = PutsAt key (used_at old key) (used_at old) (used_at new) × (number_at old key ≡ Some n) × (one_less (used_at old key) ≡ None)
+  TakesUser key old None new = PutsAt cmp key (one_less (used_at old key)) (used_at old) (used_at new) × (number_in (one_less (used_at old key)) ≡ number_at old key)
+  TakesUser key old (Some n) new = PutsAt cmp key (used_at old key) (used_at old) (used_at new) × (number_at old key ≡ Some n) × (one_less (used_at old key) ≡ None)

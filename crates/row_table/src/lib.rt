@@ -2,7 +2,7 @@
 //! held, and is updated for each change with a mark that the row reads.
 //!
 //! Depends on mark_rules for marks and for what a change leads to, on object_store, and on
-//! mark_graph and chunked_map for the rows at each mark. `specs/IndexRows` defines the contract of
+//! mark_graph for the rows at each mark. `specs/IndexRows` defines the contract of
 //! the trait `RowIndex`, which `RowTable` implements for any `RowRule`, and `specs/TableRows` how
 //! the parts of a table are tied.
 #![tactic(auto)]

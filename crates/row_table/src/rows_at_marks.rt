@@ -1,4 +1,4 @@
-// The rows at each mark, in the order of marks.
+// The rows at each mark.
 ghost use Rattle.std.specs.Prelude.{◌≡◌, ℕ, false, IfOk, OnOk};
 ghost use Rattle.std.specs.List.{list_any};
 ghost use Rattle.std.specs.List.Sorted.{IsStrictlySortedBy};
@@ -9,9 +9,9 @@ ghost use Rattle.mark_graph.specs.RowMarks.{has_row};
 ghost use Rattle.mark_rules.specs.Marks.{has_mark, mark_cmp};
 ghost use Rattle.row_table.specs.AtMarks.{AddsAt, MovesAt, RemovesAt, at_mark};
 
-use chunked_map::map::ChunkedMap;
 use mark_graph::by_mark;
 use mark_graph::moves::{MarkMoves, move_at_marks, move_between, put_all, take_all};
+use mark_graph::rows_by_mark::RowsByMark;
 use mark_graph::sorted_set::SortedSet;
 use mesh_base::list::List;
 use mesh_base::memory::Memory;
@@ -21,7 +21,7 @@ use view_types::mark::Mark;
 /// The numbers of the rows at each mark.
 #[derive(Drop)]
 pub struct RowsAtMarks {
-    pub by_mark: ChunkedMap<Mark, SortedSet<u64>>,
+    pub by_mark: RowsByMark<Mark>,
     pub alloc: Global,
 }
 
@@ -31,7 +31,7 @@ impl RowsAtMarks {
         ensures { (mark : TheMark) (n : ℕ) → at_mark result mark n ≡ false }
     {
         RowsAtMarks {
-            by_mark: ChunkedMap::new(alloc),
+            by_mark: RowsByMark::new(alloc),
             alloc,
         }
     }

@@ -3,7 +3,6 @@ use Rattle.std.proofs.Common.{◌≡◌, inl, inr, ℕ, ◌+◌, ◌-◌, ◌<�
 use Rattle.std.proofs.lemmas.Bool.{false≢true}
 use Rattle.std.proofs.lemmas.Bool.Decides.{eqb_tells}
 use Rattle.std.proofs.lemmas.Cmp.{nat_cmp_total}
-use Rattle.std.specs.BTreeMap as tree
 use Rattle.std.specs.BTreeMap.{BTreeMap, is_at}
 use Rattle.std.specs.BTreeSet as sorted
 use Rattle.std.specs.BTreeSet.{BTreeSet}
@@ -13,7 +12,8 @@ use Rattle.std.specs.List.{list_any}
 use Rattle.std.specs.Option.{is_some}
 use Rattle.std.specs.Ordering.{eq_by_cmp, nat_cmp}
 use Rattle.std.specs.declared.cmp.Ordering.{Ordering}
-use Rattle.mark_graph.specs.RowMarks.{AllHaveRows, row_at, some_row}
+use Rattle.mark_graph.specs.RowMarks.{AllHaveRows, row_at, set_at, some_row}
+use Rattle.mark_graph.specs.declared.rows_by_mark.RowsByMark.{RowsByMark}
 use Rattle.row_table.specs.IndexRows.{OneLess}
 use Rattle.row_table.proofs.Keys.{flipped, is_itself, tells}
 use Rattle.row_views.specs.Ids.{OneMoreUnless, SetsAt, has_ids, is_key, key_at}
@@ -56,21 +56,21 @@ and_rest false rest = refl
 
 module _ {Key : Type 0} (cmp : Key → Key → Ordering) (total : IsTotalOrder cmp) (exact : IsAntisymmetric cmp) where
   abbrev ByKey : Type 0
-  ByKey = BTreeMap Key (BTreeSet ℕ)
+  ByKey = RowsByMark Key
 
   -- ---- keys that have ids
 
   pub has_one : (by_key : ByKey) → AllHaveRows cmp by_key → (k : Key) → has_ids cmp by_key k ≡ true → (r : ℕ) × (row_at cmp by_key k r ≡ true)
-  has_one by_key each k is = by (tree.get cmp by_key k) refl
+  has_one by_key each k is = by (set_at cmp by_key k) refl
     where
-      by : (o : Option (BTreeSet ℕ)) → tree.get cmp by_key k ≡ o → (r : ℕ) × (row_at cmp by_key k r ≡ true)
+      by : (o : Option (BTreeSet ℕ)) → set_at cmp by_key k ≡ o → (r : ℕ) × (row_at cmp by_key k r ≡ true)
       by None e = absurd (false≢true (sym (ap is_some e) ∙ is))
       by (Some s) e = let one = first_of s (each k s e) in (one.0, ap (some_row one.0) e ∙ one.1)
 
   pub has_where : (by_key : ByKey) (k : Key) (r : ℕ) → row_at cmp by_key k r ≡ true → has_ids cmp by_key k ≡ true
-  has_where by_key k r is = by (tree.get cmp by_key k) refl
+  has_where by_key k r is = by (set_at cmp by_key k) refl
     where
-      by : (o : Option (BTreeSet ℕ)) → tree.get cmp by_key k ≡ o → has_ids cmp by_key k ≡ true
+      by : (o : Option (BTreeSet ℕ)) → set_at cmp by_key k ≡ o → has_ids cmp by_key k ≡ true
       by None e = absurd (false≢true (sym (ap (some_row r) e) ∙ is))
       by (Some s) e = ap is_some e
 

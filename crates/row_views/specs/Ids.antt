@@ -6,6 +6,7 @@ use Rattle.std.specs.BTreeSet.{BTreeSet, btree_set_len, contains}
 use Rattle.std.specs.Ordering.{eq_by_cmp, nat_cmp}
 use Rattle.std.specs.declared.cmp.Ordering.{Ordering}
 use Rattle.mark_graph.specs.RowMarks.{has_rows}
+use Rattle.mark_graph.specs.declared.rows_by_mark.RowsByMark.{RowsByMark}
 use Rattle.row_table.specs.IndexRows.{OneMore, has_key}
 use Rattle.row_views.specs.declared.numbered_ids.NumberedIds.{NumberedIds}
 
@@ -86,7 +87,7 @@ module _ {Key : Type 0} (cmp : Key → Key → Ordering) where
   is_one_of keys (Some key) = has_key cmp keys key
 
   -- the key has ids
-  abbrev pub has_ids : BTreeMap Key (BTreeSet ℕ) → Key → Bool
+  abbrev pub has_ids : RowsByMark Key → Key → Bool
   has_ids by_key key = has_rows cmp by_key key
 
   -- The ids at the number of a key are those that are open with it. An id is only at the number of

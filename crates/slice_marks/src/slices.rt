@@ -8,11 +8,10 @@ ghost use Rattle.mark_rules.specs.Marks.{has_mark, mark_cmp, same_mark};
 ghost use Rattle.slice_marks.specs.Marked.{Agree, Leaves, OthersStay, is_read, marks_at, marks_read};
 
 use crate::keys::{add_copy, keys_at, put_keys, take_keys};
-use chunked_map::map::ChunkedMap;
 use key_lists::key_list::KeyList;
 use mark_graph::by_mark::{put_one, take_one};
 use mark_graph::moves::MarkMoves;
-use mark_graph::sorted_set::SortedSet;
+use mark_graph::rows_by_mark::RowsByMark;
 use mark_rules::marks::is_same_mark;
 use mesh_base::copied::Copied;
 use mesh_base::key::ObjKey;
@@ -93,7 +92,7 @@ impl SliceMarks {
     }
 
     /// Adds a row at each mark that slices read.
-    pub fn put_row(&self, by: &mut ChunkedMap<Mark, SortedSet<u64>>, row: u64) -> Result<(), Memory>
+    pub fn put_row(&self, by: &mut RowsByMark<Mark>, row: u64) -> Result<(), Memory>
         ensures { OnOk result
             (AddsRow mark_cmp (has_mark (marks_read self.now.by_mark)) row by.old by.new) }
     {
@@ -104,7 +103,7 @@ impl SliceMarks {
     }
 
     /// Removes a row from each mark that slices read.
-    pub fn take_row(&self, by: &mut ChunkedMap<Mark, SortedSet<u64>>, row: u64)
+    pub fn take_row(&self, by: &mut RowsByMark<Mark>, row: u64)
         ensures { RemovesRow mark_cmp (has_mark (marks_read self.now.by_mark)) row by.old by.new }
     {
         for mark in self.by_mark.keys() {
@@ -113,12 +112,7 @@ impl SliceMarks {
     }
 
     /// Adds a row at a mark, if slices read it.
-    fn put_if_read(
-        &self,
-        by: &mut ChunkedMap<Mark, SortedSet<u64>>,
-        mark: &Mark,
-        row: u64,
-    ) -> Result<(), Memory>
+    fn put_if_read(&self, by: &mut RowsByMark<Mark>, mark: &Mark, row: u64) -> Result<(), Memory>
         ensures { OnOk result (AddsRow mark_cmp
             (λ m. is_read self.now.by_mark mark.now && same_mark mark.now m) row by.old by.new) }
     {
@@ -130,7 +124,7 @@ impl SliceMarks {
     }
 
     /// Removes a row from a mark, if slices read it.
-    fn take_if_read(&self, by: &mut ChunkedMap<Mark, SortedSet<u64>>, mark: &Mark, row: u64)
+    fn take_if_read(&self, by: &mut RowsByMark<Mark>, mark: &Mark, row: u64)
         ensures { RemovesRow mark_cmp
             (λ m. is_read self.now.by_mark mark.now && same_mark mark.now m) row by.old by.new }
     {

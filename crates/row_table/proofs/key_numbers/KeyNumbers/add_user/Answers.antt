@@ -1,5 +1,6 @@
 use Rattle.std.proofs.Common.{Some, IsSome, refl, subst, ◌∙◌}
-use Rattle.row_table.proofs.KeyNumbers.{found, put_by, puts_more}
+use Rattle.mark_graph.proofs.Hashed.{found, put_by}
+use Rattle.row_table.proofs.KeyNumbers.{puts_more}
 use Rattle.row_table.proofs.key_numbers.KeyNumbers.add_user.Goals as goal
 
 pub returns-in_ok-add_to-in-Some-clause-put : goal.returns-in_ok-add_to-in-Some-clause-put

@@ -1,5 +1,5 @@
 use Rattle.std.proofs.Common.{None}
-use Rattle.row_table.proofs.KeyNumbers.{put_by}
+use Rattle.mark_graph.proofs.Hashed.{put_by}
 use Rattle.row_table.proofs.key_numbers.KeyNumbers.remove.Goals as goal
 
 pub returns : goal.returns

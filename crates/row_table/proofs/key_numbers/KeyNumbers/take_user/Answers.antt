@@ -1,5 +1,6 @@
 use Rattle.std.proofs.Common.{Some, IsSome, refl, subst, ◌∙◌}
-use Rattle.row_table.proofs.KeyNumbers.{found, put_by, takes_user}
+use Rattle.mark_graph.proofs.Hashed.{found, put_by}
+use Rattle.row_table.proofs.KeyNumbers.{takes_user}
 use Rattle.row_table.proofs.key_numbers.KeyNumbers.take_user.Goals as goal
 
 pub returns-in-Some : goal.returns-in-Some
