@@ -35,8 +35,8 @@ fn chunks_are_in_order(rt: HostRuntime) -> Result<(), Fail> {
     Ok(())
 }
 
-// Every second number leaves, so that each chunk loses items. Then 600 leave at the front, more than
-// one chunk holds, so that chunks lose all of theirs.
+// Every second number leaves, so that each chunk loses items. Then 600 leave at the front, more
+// than one chunk holds, so that chunks lose all of theirs.
 #[test]
 fn chunks_lose_items(rt: HostRuntime) -> Result<(), Fail> {
     let mut list = filled(rt.alloc())?;

@@ -4,8 +4,8 @@ use proto_wire::unframer::Unframer;
 use std::alloc::{AllocError, Global};
 use std::test::Fail;
 
-// Pieces of a stream whose messages have at most four bytes, and the answer to each piece: its messages, each in
-// brackets, or the fault.
+// Pieces of a stream whose messages have at most four bytes, and the answer to each piece: its
+// messages, each in brackets, or the fault.
 const STREAMS: &str = "00000000041a020801 => [1a020801]
 00,000000041a020801 => ,[1a020801]
 0000,0000041a020801 => ,[1a020801]

@@ -1,8 +1,8 @@
 //! Tests of the base crates: external test vectors, and each call once with enough memory. They are
 //! in a crate of their own, since a crate with tests is proved twice.
 //!
-//! Depends on mesh_base, mesh_outside, chunked_list, chunked_map, line_run, net_cidr, label_select, k8s_meta and
-//! proto_wire.
+//! Depends on mesh_base, mesh_outside, chunked_list, chunked_map, line_run, net_cidr, label_select,
+//! k8s_meta and proto_wire.
 #![tactic(auto)]
 
 #[cfg(test)]

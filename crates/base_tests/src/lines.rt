@@ -104,7 +104,8 @@ fn run<K: Sink>(
     Ok(run_lines(alloc, limits, &mut echo, &mut source, sink))
 }
 
-// The line limit is 4 and the input limit 24. A fault comes at the numbered call of the source or the sink.
+// The line limit is 4 and the input limit 24. A fault comes at the numbered call of the source or
+// the sink.
 #[test]
 fn lines_and_statuses(rt: HostRuntime) -> Result<(), Fail> {
     let alloc = rt.alloc();

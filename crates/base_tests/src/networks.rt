@@ -5,8 +5,8 @@ use net_cidr::packed_ip::PackedIp;
 use std::alloc::Global;
 use std::test::Fail;
 
-// Addresses by their family and the digits of their number. The texts are those of RFC 4291 (2.2, 2.3) and RFC 5952
-// (1, 2), and what is next to them and no address.
+// Addresses by their family and the digits of their number. The texts are those of RFC 4291 (2.2,
+// 2.3) and RFC 5952 (1, 2), and what is next to them and no address.
 const ADDRESSES: &str = "0.0.0.0 => 4:0
 192.0.2.33 => 4:c0000221
 255.255.255.255 => 4:ffffffff

@@ -7,8 +7,9 @@ use mesh_base::text::Text;
 use std::alloc::Global;
 use std::test::Fail;
 
-// The labels that are asked for, the rules, the labels that there are, and whether they are matched. The selectors are
-// those of the page 'Labels and Selectors' of the Kubernetes documentation.
+// The labels that are asked for, the rules, the labels that there are, and whether they are
+// matched. The selectors are those of the page 'Labels and Selectors' of the Kubernetes
+// documentation.
 const ROWS: &str = " | environment:in:production,qa | environment=production partition=a => yes
  | environment:in:production,qa | environment=dev tier=frontend => no
  | environment:in:production,qa |  => no

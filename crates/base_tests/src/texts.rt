@@ -9,8 +9,8 @@ fn copied<T: Copied>(alloc: Global, value: &T) -> Result<T, Memory> {
     value.copy(alloc)
 }
 
-// A copy takes no memory, which no clause says: the source takes two allocations and the copies none, so this also passes
-// with `rt try --test --fail-alloc 3`.
+// A copy takes no memory, which no clause says: the source takes two allocations and the copies
+// none, so this also passes with `rt try --test --fail-alloc 3`.
 #[test]
 fn copies_are_made_where_no_memory_is_left(rt: HostRuntime) -> Result<(), Memory> {
     let text = Text::from_str(rt.alloc(), "web")?;

@@ -8,7 +8,8 @@ use proto_wire::writing::{put_chunk, put_fixed32, put_fixed64, put_number, put_v
 use std::alloc::{AllocError, Global};
 use std::test::Fail;
 
-// Numbers and their varints: those of the guide to the encoding, and those at the limits of a length.
+// Numbers and their varints: those of the guide to the encoding, and those at the limits of a
+// length.
 const VARINTS: &str = "0 => 00
 1 => 01
 127 => 7f
@@ -21,8 +22,8 @@ const VARINTS: &str = "0 => 00
 18446744073709551614 => feffffffffffffffff01
 18446744073709551615 => ffffffffffffffffff01";
 
-// Messages and their records. The wire types have the names of the guide to the encoding, and the first rows are its
-// examples.
+// Messages and their records. The wire types have the names of the guide to the encoding, and the
+// first rows are its examples.
 const GOOD: &str = " => none
 089601 => 1 VARINT 150
 120774657374696e67 => 2 LEN [74657374696e67]

@@ -24,8 +24,8 @@ fn push_sample(
     out.extend_from_slice(text.as_bytes())
 }
 
-/// A running count of the lines that a replay of the cluster of `n` Services writes. It writes nothing before its end, and refuses no
-/// line.
+/// A running count of the lines that a replay of the cluster of `n` Services writes. It writes
+/// nothing before its end, and refuses no line.
 #[derive(Drop)]
 struct Counting {
     alloc: Global,
@@ -74,8 +74,8 @@ impl LineMachine for Counting {
     }
 }
 
-/// Counts the lines of a text that a replay of the cluster of `n` Services writes, and writes the output line of the sample, or a prefix
-/// of it if a write fails or memory runs out.
+/// Counts the lines of a text that a replay of the cluster of `n` Services writes, and writes the
+/// output line of the sample, or a prefix of it if a write fails or memory runs out.
 pub(crate) fn write_counts<K: Sink>(
     alloc: Global,
     limits: &Limits,

@@ -17,8 +17,9 @@ use replay_core::replay::replay;
 use std::alloc::Global;
 use view_types::config::Config;
 
-/// Replays the lines of the generated cluster of n Services, and writes one line with counts of them and of the output: refused lines,
-/// frames, the bytes of the frames with the five bytes before each message, and verdicts.
+/// Replays the lines of the generated cluster of n Services, and writes one line with counts of
+/// them and of the output: refused lines, frames, the bytes of the frames with the five bytes
+/// before each message, and verdicts.
 pub fn sample<H: Machine, K: Sink, P: Patterns>(
     alloc: Global,
     hub: &mut H,
@@ -30,15 +31,18 @@ pub fn sample<H: Machine, K: Sink, P: Patterns>(
 ) -> Status
     requires { 1 ≤ limits.now.frame_addrs }
 
-    // If all lines were replayed, the counts of the replay's output were written, and the status says whether a line was refused.
+    // If all lines were replayed, the counts of the replay's output were written, and the status
+    // says whether a line was refused.
     ensures output { OnEnd result (WritesSample config.now limits.now
         (known_over P.Patterns patterns.old patterns.new)
-        (H.state hub.old) (H.replies hub.old) (H.replies hub.new) n (K.held out.old) (K.held out.new)) }
+        (H.state hub.old) (H.replies hub.old) (H.replies hub.new) n (K.held out.old)
+        (K.held out.new)) }
 
     // If the run ends early, nothing was written, or a prefix of the counts.
     ensures front { OnStop result (WritesSampleFront config.now limits.now
         (known_over P.Patterns patterns.old patterns.new)
-        (H.state hub.old) (H.replies hub.old) (H.replies hub.new) n (K.held out.old) (K.held out.new)) }
+        (H.state hub.old) (H.replies hub.old) (H.replies hub.new) n (K.held out.old)
+        (K.held out.new)) }
 
     // The machine's state is then that at the end of the lines.
     ensures state { OnEnd result (λ refused.

@@ -38,8 +38,8 @@ pub enum Outcome {
     Serve(ServeConfig),
 }
 
-/// Runs the command that the words give, from the input to the output. For `serve` it returns the configuration of the server, which the
-/// caller runs.
+/// Runs the command that the words give, from the input to the output. For `serve` it returns the
+/// configuration of the server, which the caller runs.
 pub fn top<H: Machine, S: Source, K: Sink, P: Patterns>(
     alloc: Global,
     words: &[Text],
@@ -54,7 +54,8 @@ pub fn top<H: Machine, S: Source, K: Sink, P: Patterns>(
     // ---- the command line
 
     // Words that give a command are not refused.
-    ensures usage { IsSome (command_in words.now) → EndsWith result (λ status. status ≢ Status.Usage) }
+    ensures usage { IsSome (command_in words.now)
+        → EndsWith result (λ status. status ≢ Status.Usage) }
     // Words that give no command are refused, unless memory ran out.
     ensures refused { command_in words.now ≡ None → EndsWith result IsUnread }
     // In both cases nothing was read or written.
@@ -67,8 +68,9 @@ pub fn top<H: Machine, S: Source, K: Sink, P: Patterns>(
 
     // ---- replay
 
-    // If all lines were read and the machine's state is known, what was written is the defined output. In it, at most as many
-    // simulations met refused patterns as the count of refusals rose. The status says whether a line was refused.
+    // If all lines were read and the machine's state is known, what was written is the defined
+    // output. In it, at most as many simulations met refused patterns as the count of refusals
+    // rose. The status says whether a line was refused.
     ensures output { OfReplay words.now (λ config. AtEnd result (WritesOutput config limits.now
         (known_over P.Patterns patterns.old patterns.new)
         (H.state hub.old) (S.left input.old) (K.held out.old) (K.held out.new))) }
@@ -88,7 +90,8 @@ pub fn top<H: Machine, S: Source, K: Sink, P: Patterns>(
 
     // If the machine's replies are known, what was written is defined by the lines and the replies.
     ensures said { OfReplay words.now (λ config. AtEnd result (WritesSaid config limits.now
-        (H.replies hub.old) (H.replies hub.new) (S.left input.old) (K.held out.old) (K.held out.new))) }
+        (H.replies hub.old) (H.replies hub.new) (S.left input.old) (K.held out.old)
+        (K.held out.new))) }
 
     // If the run ends early, what was written is a prefix of the defined output.
     ensures front { OfReplay words.now (λ config. AtStop result (WritesFront config limits.now
@@ -96,13 +99,16 @@ pub fn top<H: Machine, S: Source, K: Sink, P: Patterns>(
         (H.state hub.old) (S.left input.old) (K.held out.old) (K.held out.new))) }
 
     // The same, by the replies if they are known.
-    ensures said_front { OfReplay words.now (λ config. AtStop result (WritesSaidFront config limits.now
-        (H.replies hub.old) (H.replies hub.new) (S.left input.old) (K.held out.old) (K.held out.new))) }
+    ensures said_front { OfReplay words.now
+        (λ config. AtStop result (WritesSaidFront config limits.now
+        (H.replies hub.old) (H.replies hub.new) (S.left input.old) (K.held out.old)
+        (K.held out.new))) }
 
     // ---- diagnose
 
-    // If all lines were read, what was written is the defined output, and the status says whether a line was refused. If the run ends
-    // early, what was written is a prefix of it. The machine is unchanged.
+    // If all lines were read, what was written is the defined output, and the status says whether a
+    // line was refused. If the run ends early, what was written is a prefix of it. The machine is
+    // unchanged.
     ensures diagnosed { OfDiagnose words.now (λ id query config.
         AtEnd result (WritesDiagnosed config limits.now
         id.0 query (S.left input.old) (K.held out.old) (K.held out.new))) }
@@ -114,26 +120,31 @@ pub fn top<H: Machine, S: Source, K: Sink, P: Patterns>(
 
     // ---- fold
 
-    // If all lines were read, what was written is the defined output, and the status says whether a line could not be read. If the run
-    // ends early, what was written is a prefix of it. The machine is unchanged.
+    // If all lines were read, what was written is the defined output, and the status says whether a
+    // line could not be read. If the run ends early, what was written is a prefix of it. The
+    // machine is unchanged.
     ensures folded { OfFold words.now (λ id method. AtEnd result (WritesFolded method id.0
         limits.now (S.left input.old) (K.held out.old) (K.held out.new))) }
-    ensures folded_front { OfFold words.now (λ id method. AtStop result (WritesFoldedFront method id.0
+    ensures folded_front { OfFold words.now
+        (λ id method. AtStop result (WritesFoldedFront method id.0
         limits.now (S.left input.old) (K.held out.old) (K.held out.new))) }
     ensures unheld { OfFold words.now (λ id method.
         (hub.new ≡ hub.old) × (patterns.new ≡ patterns.old)) }
 
     // ---- sample
 
-    // If all lines of the generated cluster were replayed, the counts of the replay's output were written, and the status says whether
-    // a line was refused. If the run ends early, nothing was written, or a prefix of the counts.
+    // If all lines of the generated cluster were replayed, the counts of the replay's output were
+    // written, and the status says whether a line was refused. If the run ends early, nothing was
+    // written, or a prefix of the counts.
     ensures sampled { OfSample words.now (λ n config. AtEnd result (WritesSample config limits.now
         (known_over P.Patterns patterns.old patterns.new)
-        (H.state hub.old) (H.replies hub.old) (H.replies hub.new) n (K.held out.old) (K.held out.new))) }
+        (H.state hub.old) (H.replies hub.old) (H.replies hub.new) n (K.held out.old)
+        (K.held out.new))) }
     ensures sampled_front { OfSample words.now (λ n config.
         AtStop result (WritesSampleFront config limits.now
         (known_over P.Patterns patterns.old patterns.new)
-        (H.state hub.old) (H.replies hub.old) (H.replies hub.new) n (K.held out.old) (K.held out.new))) }
+        (H.state hub.old) (H.replies hub.old) (H.replies hub.new) n (K.held out.old)
+        (K.held out.new))) }
 
     // The machine's state is then that at the end of the generated lines.
     ensures sampled_state { OfSample words.now (λ n config. AtEnd result (λ refused.
@@ -145,7 +156,8 @@ pub fn top<H: Machine, S: Source, K: Sink, P: Patterns>(
 
     // ---- serve
 
-    // The result has the address and the configuration that the words give, and the limits of the call.
+    // The result has the address and the configuration that the words give, and the limits of the
+    // call.
     ensures serve { OfServe words.now (λ address config.
         IsServed (server_of address config limits.now) result) }
     // Only `serve` has this result.
@@ -177,11 +189,13 @@ pub fn top<H: Machine, S: Source, K: Sink, P: Patterns>(
         status ≡ Status.InputTooLong
         → TookLimit limits.now.input (read_by command (S.left input.old)))) }
     ensures complete { OfCommand words.now (λ command. EndsWith result (λ status.
-        Unrisen (S.faults input.old) (S.faults input.new) → Unrisen (K.faults out.old) (K.faults out.new)
+        Unrisen (S.faults input.old) (S.faults input.new)
+        → Unrisen (K.faults out.old) (K.faults out.new)
         → OfBytes command (S.left input.old) (λ bytes.
         length bytes < limits.now.input → IsAnswered status))) }
     ensures too_long { OfCommand words.now (λ command. EndsWith result (λ status.
-        Unrisen (S.faults input.old) (S.faults input.new) → Unrisen (K.faults out.old) (K.faults out.new)
+        Unrisen (S.faults input.old) (S.faults input.new)
+        → Unrisen (K.faults out.old) (K.faults out.new)
         → OfBytes command (S.left input.old) (λ bytes.
         limits.now.input ≤ length bytes → IsTooLong status))) }
 {

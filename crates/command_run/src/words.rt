@@ -7,7 +7,8 @@ use std::env;
 use std::env::Env;
 use std::io::ErrorKind;
 
-/// Returns the status for arguments that cannot be read: they need more memory than there is, or one is not UTF-8.
+/// Returns the status for arguments that cannot be read: they need more memory than there is, or
+/// one is not UTF-8.
 pub fn status_without_words(kind: ErrorKind) -> Status
     ensures memory { kind ≡ ErrorKind.OutOfMemory → result ≡ Status.Memory }
     ensures usage { kind ≢ ErrorKind.OutOfMemory → result ≡ Status.Usage }
@@ -20,8 +21,8 @@ pub fn status_without_words(kind: ErrorKind) -> Status
     }
 }
 
-/// Returns the words of the command line, without the program's name. Returns `Memory` if there is no memory for them, and `Usage` if
-/// one is not UTF-8.
+/// Returns the words of the command line, without the program's name. Returns `Memory` if there is
+/// no memory for them, and `Usage` if one is not UTF-8.
 pub fn words_of<R: Env + AllocGlobal>(rt: &R) -> Result<Vec<Text>, Status>
     ensures { IfErr result IsUnread }
 {

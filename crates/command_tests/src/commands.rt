@@ -328,7 +328,8 @@ SERVE --bind 127.0.0.1:80 => usage
 serves --bind 127.0.0.1:80 => usage
 serv --bind 127.0.0.1:80 => usage";
 
-// Each method with all options that it needs, with each option missing or invalid, and with options that it does not need.
+// Each method with all options that it needs, with each option missing or invalid, and with options
+// that it does not need.
 const GETS: &str =
     r#"diagnose --id 1 --method Get --path web.app.svc.cluster.local:8080 => diagnose 1 Get app/web:8080
 diagnose --path=web.app.svc.cluster.local --method=Get --id=0000000001 => diagnose 1 Get app/web:80

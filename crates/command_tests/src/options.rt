@@ -2,8 +2,8 @@ use crate::shown::compare;
 use std::alloc::Global;
 use std::test::Fail;
 
-// A command with its other required options, one of its options, a value, the expected command, and the expected command if the value is
-// empty or is written twice with `=` between.
+// A command with its other required options, one of its options, a value, the expected command, and
+// the expected command if the value is empty or is written twice with `=` between.
 const OPTIONS: &str = r#"replay | cluster-domain | mesh | replay cluster-domain=mesh | usage
 replay | trust-domain | a.b | replay trust-domain=a.b | usage
 replay | control-plane-namespace | l5d | replay control-plane-namespace=l5d | usage
@@ -128,7 +128,8 @@ fn twice(alloc: Global, wrong: &mut String, row: &Row<'_>) -> Result<(), Fail> {
     compare(alloc, wrong, &line, "usage")
 }
 
-// The option without a value, after `--`, with one hyphen, with three, without any, and with a letter more.
+// The option without a value, after `--`, with one hyphen, with three, without any, and with a
+// letter more.
 fn other_forms(alloc: Global, wrong: &mut String, row: &Row<'_>) -> Result<(), Fail> {
     let Row {
         command,

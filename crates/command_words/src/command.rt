@@ -33,7 +33,8 @@ pub enum Command {
         n: u32,
         config: Config,
     },
-    /// `address` is the IP address and port to listen on, for example `127.0.0.1:8086` or `[::1]:8086`.
+    /// `address` is the IP address and port to listen on, for example `127.0.0.1:8086` or
+    /// `[::1]:8086`.
     Serve {
         address: Text,
         config: Config,

@@ -24,7 +24,8 @@ pub fn fold_accepts_options()
     ensures { command_in fold_words ≡ Some (commands.Fold (record { 0 = 7 }) methods.Get) }
 {}
 
-/// States that `replay --default-policy=deny --default-policy=deny` is no command, though both values are the same.
+/// States that `replay --default-policy=deny --default-policy=deny` is no command, though both
+/// values are the same.
 #[tactic(auto, using(crate::proofs::Written::repeated_is_none))]
 pub fn repeated_options_are_none()
     ensures { command_in repeated_words ≡ None }

@@ -13,8 +13,9 @@ use std::alloc::Global;
 use view_types::config::Config;
 use view_types::query::Query;
 
-/// Reads a recorded feed to its end and writes why each refused line is refused, and then `view` lines with this id: the messages that
-/// bring a subscriber without a view to the view of the query over the objects then held.
+/// Reads a recorded feed to its end and writes why each refused line is refused, and then `view`
+/// lines with this id: the messages that bring a subscriber without a view to the view of the query
+/// over the objects then held.
 pub fn diagnose<S: Source, K: Sink>(
     alloc: Global,
     config: &Config,
@@ -26,7 +27,8 @@ pub fn diagnose<S: Source, K: Sink>(
 ) -> Status
     requires { 1 ≤ limits.now.frame_addrs }
 
-    // At the end of the input, what was written is the defined output, and the status says whether a line was refused.
+    // At the end of the input, what was written is the defined output, and the status says whether
+    // a line was refused.
     ensures output { OnEnd result (WritesDiagnosed config.now limits.now id.0 query.now
         (S.left input.old) (K.held out.old) (K.held out.new)) }
 

@@ -1,8 +1,9 @@
 //! The view of one query at the end of a recorded feed, computed from the objects alone.
 //!
-//! Depends on line_run for the loop, on watch_events for lines, on object_store for the objects, on view_scratch for the view of the
-//! query, and on output_fold for the lines that show a view. `specs/Diagnosed` defines what is written for an input; lines about
-//! subscriptions and requests count as blank.
+//! Depends on line_run for the loop, on watch_events for lines, on object_store for the objects, on
+//! view_scratch for the view of the query, and on output_fold for the lines that show a view.
+//! `specs/Diagnosed` defines what is written for an input; lines about subscriptions and requests
+//! count as blank.
 #![tactic(auto)]
 
 mod apply;

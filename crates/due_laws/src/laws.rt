@@ -9,8 +9,9 @@ use history_laws::laws::{
     held_are_lawful, held_at_their_keys, last_drain_decides_shown, last_line_decides_live,
 };
 
-/// States how each accepted line changes which ids are due: a subscription adds its id, a drain and a cancellation remove theirs, and an
-/// event adds those whose query read one of its marks before it. No other line changes it.
+/// States how each accepted line changes which ids are due: a subscription adds its id, a drain and
+/// a cancellation remove theirs, and an event adds those whose query read one of its marks before
+/// it. No other line changes it.
 pub fn due_after_lines()
     ensures { (program : Program) → DueAfterRows program }
 {
@@ -22,7 +23,8 @@ pub fn due_are_live()
     ensures { (program : Program) → DueAreLive program }
 {}
 
-/// States that a live subscription that is not due is owed nothing: its view is the one at its last drain.
+/// States that a live subscription that is not due is owed nothing: its view is the one at its last
+/// drain.
 pub fn only_due_are_owed()
     ensures { (program : Program) → ReadsLawfully program → OnlyDueAreOwed program }
 {
@@ -48,7 +50,8 @@ pub fn only_due_are_sent()
     same_view_sends_nothing();
 }
 
-/// States that after any lawful calls on a new hub, in any order, the ids that are due are those of the history that gives this hub.
+/// States that after any lawful calls on a new hub, in any order, the ids that are due are those of
+/// the history that gives this hub.
 pub fn calls_are_due_histories()
     ensures { CallsAreDueHistories }
 {

@@ -1,7 +1,8 @@
-// Rows of steps: names of lines, and how many objects each of them may look up: `MOST`, `LEAST-MOST`, or `refused`.
+// Rows of steps: names of lines, and how many objects each of them may look up: `MOST`,
+// `LEAST-MOST`, or `refused`.
 //
-// The most is what the rows read that the line concerns, each once and over the objects after it. A least number is given where a row
-// comes into use that shows some part of an object.
+// The most is what the rows read that the line concerns, each once and over the objects after it. A
+// least number is given where a row comes into use that shows some part of an object.
 
 // A description of the row, and its steps on a hub without objects.
 pub const COSTS: &str =

@@ -22,7 +22,8 @@ fn hub_of_pods(alloc: Global, config: &Config, count: u32) -> Result<Hub, Fail> 
     Ok(hub)
 }
 
-// Whether a line had its expected result: `refused`, or at most `MOST` objects looked up, or `LEAST-MOST`.
+// Whether a line had its expected result: `refused`, or at most `MOST` objects looked up, or
+// `LEAST-MOST`.
 fn is_within(refused: bool, count: u64, allowed: &str) -> Result<bool, Fail> {
     if refused || allowed == "refused" {
         return Ok(refused && count == 0 && allowed == "refused");
@@ -31,7 +32,8 @@ fn is_within(refused: bool, count: u64, allowed: &str) -> Result<bool, Fail> {
     Ok(least.parse::<u64>()? <= count && count <= most.parse::<u64>()?)
 }
 
-// Whether the lines of a step, `NAMES => ALLOWED`, look up what they may. It appends the count of each line to `told`.
+// Whether the lines of a step, `NAMES => ALLOWED`, look up what they may. It appends the count of
+// each line to `told`.
 fn go(
     alloc: Global,
     config: &Config,
@@ -64,7 +66,8 @@ fn holds(alloc: Global, pods: u32, row: &str, told: &mut String) -> Result<bool,
     Ok(true)
 }
 
-// Whether all rows pass, up to the first that does not, whose last line is the last one appended to `told`.
+// Whether all rows pass, up to the first that does not, whose last line is the last one appended to
+// `told`.
 fn all_hold(alloc: Global, pods: u32, rows: &str, told: &mut String) -> Result<bool, Fail> {
     for row in rows.lines() {
         if !holds(alloc, pods, row, told)? {

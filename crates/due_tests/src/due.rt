@@ -98,7 +98,8 @@ fn all_lead_to(
     Ok(true)
 }
 
-// Whether steps have their results: `names of lines => ids that are due`, with commas between the steps.
+// Whether steps have their results: `names of lines => ids that are due`, with commas between the
+// steps.
 fn go(alloc: Global, config: &Config, hub: &mut Hub, steps: &str) -> Result<bool, Fail> {
     for step in steps.split(", ") {
         let (words, expected) = step.split_once(" => ").ok_or("a step has no due list")?;
@@ -119,7 +120,8 @@ fn holds(alloc: Global, limits: Limits, row: &str) -> Result<bool, Fail>
     go(alloc, &config, &mut hub, steps)
 }
 
-// Whether a row passes: the objects that are held before all subscriptions are drained, and the steps after that.
+// Whether a row passes: the objects that are held before all subscriptions are drained, and the
+// steps after that.
 fn concerns(alloc: Global, row: &str) -> Result<bool, Fail> {
     let (_, case) = row.split_once(": ").ok_or("a row has no case")?;
     let (before, steps) = case.split_once(" | ").ok_or("a row has no steps")?;

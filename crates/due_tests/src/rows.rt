@@ -29,8 +29,9 @@ two subscribers of one profile, who cancel one after the other: service => nobod
 a profile that moves to the namespace of the client, and two who ask for it: service profile_in_app => nobody, profile => 2, profile_again => 2 9, drain_2 => 9, drain_9 => nobody, profile_in_cli => 2 9, drain_2 => 9, drain_9 => nobody, profile_in_app_gone => 2 9, drain_9 => 2, drain_2 => nobody, profile_in_cli_gone => 2 9
 the Pod without the label that the Server selects: pod server policy => nobody, port_first => 1, drain_1 => nobody, pod_unlabelled => 1";
 
-// One subscription of each sort, all of them drained. The Service `web` is requested by the ids 1, 2 and 4, its address by 5 and 6, the
-// Service `api` by 7, and a port of the Pods `web-1` and `web-2` by 3 and 8.
+// One subscription of each sort, all of them drained. The Service `web` is requested by the ids 1,
+// 2 and 4, its address by 5 and 6, the Service `api` by 7, and a port of the Pods `web-1` and
+// `web-2` by 3 and 8.
 pub const DRAINED_ALL: &str =
     "get => 1, profile => 1 2, port => 1 2 3, watch => 1 2 3 4, profile_at => 1 2 3 4 5, watch_at => 1 2 3 4 5 6, get_api => 1 2 3 4 5 6 7, port_of_another => 1 2 3 4 5 6 7 8, drain_1 => 2 3 4 5 6 7 8, drain_2 => 3 4 5 6 7 8, drain_3 => 4 5 6 7 8, drain_4 => 5 6 7 8, drain_5 => 6 7 8, drain_6 => 7 8, drain_7 => 8, drain_8 => nobody";
 

@@ -74,7 +74,8 @@ impl<F: Drop> Group<F> {
         }
     }
 
-    /// Removes a member. The group is cleared with its last member, except that the encoding for new subscribers stays, for later ones.
+    /// Removes a member. The group is cleared with its last member, except that the encoding for
+    /// new subscribers stays, for later ones.
     pub(crate) fn leave(&mut self)
         ensures { self.new ≡ one_less self.old }
     {
@@ -112,7 +113,8 @@ impl<F: Drop> Group<F> {
         note(alloc, &mut self.pending, before)
     }
 
-    /// Returns the messages that bring the members from what they were last shown to the current endpoints.
+    /// Returns the messages that bring the members from what they were last shown to the current
+    /// endpoints.
     pub(crate) fn messages(
         &self,
         alloc: Global,

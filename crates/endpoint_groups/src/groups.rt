@@ -19,8 +19,8 @@ use std::alloc::Global;
 use view_types::endpoint::{EndpointRow, EndpointView};
 use view_types::message::Message;
 
-/// The groups of the subscribers of a key, each known by a number. A number without members may be reused. `F` is the encoding of the
-/// messages of a group.
+/// The groups of the subscribers of a key, each known by a number. A number without members may be
+/// reused. `F` is the encoding of the messages of a group.
 #[derive(Drop)]
 pub struct EndpointGroups<F> {
     alloc: Global,
@@ -51,8 +51,8 @@ impl<F: Drop> EndpointGroups<F> {
         })
     }
 
-    /// Adds a subscriber that was shown nothing yet. Returns the number of its group. The cost does not depend on the number of
-    /// subscribers. After `Memory` all is as before.
+    /// Adds a subscriber that was shown nothing yet. Returns the number of its group. The cost does
+    /// not depend on the number of subscribers. After `Memory` all is as before.
     pub fn join(&mut self) -> Result<u64, Memory>
         ensures ok { IfOk result (λ number.
             SetsAt number one_more self.old.groups.items self.new.groups.items) }
@@ -73,8 +73,8 @@ impl<F: Drop> EndpointGroups<F> {
         Ok(0)
     }
 
-    /// Removes a member from the group. The group is cleared with its last member, except that the encoding for new subscribers stays until
-    /// the next change. It does not allocate.
+    /// Removes a member from the group. The group is cleared with its last member, except that the
+    /// encoding for new subscribers stays until the next change. It does not allocate.
     pub fn leave(&mut self, number: u64)
         ensures left { SetsAt number one_less self.old.groups.items self.new.groups.items }
         ensures encoded { (encode : Option TheView → Option F) (now : TheView)
@@ -86,9 +86,10 @@ impl<F: Drop> EndpointGroups<F> {
         leave_at(&mut self.groups, number);
     }
 
-    /// Records a change of the rows at these addresses, each given with the row that was there before, or that the Service was created or
-    /// deleted. Each group notes the addresses once, however many members it has, and its kept encoding is dropped. After `Memory` the
-    /// groups are spent: each call that may return `Memory` does.
+    /// Records a change of the rows at these addresses, each given with the row that was there
+    /// before, or that the Service was created or deleted. Each group notes the addresses once,
+    /// however many members it has, and its kept encoding is dropped. After `Memory` the groups are
+    /// spent: each call that may return `Memory` does.
     pub fn change(&mut self, before: &[(Ip, u16, Option<EndpointRow>)]) -> Result<(), Memory>
         requires { IsByAddress before.now }
         ensures members { (n : ℕ) → members_at self.new.groups.items n
@@ -110,7 +111,8 @@ impl<F: Drop> EndpointGroups<F> {
         Ok(())
     }
 
-    /// Returns the messages that bring the members of the group from what they were last shown to the current endpoints.
+    /// Returns the messages that bring the members of the group from what they were last shown to
+    /// the current endpoints.
     pub fn messages(
         &self,
         number: u64,
@@ -136,7 +138,8 @@ impl<F: Drop> EndpointGroups<F> {
         encoding_at(self.groups.as_slice(), number)
     }
 
-    /// Keeps the encoding of the messages of the group until the rows change. A group without members keeps none.
+    /// Keeps the encoding of the messages of the group until the rows change. A group without
+    /// members keeps none.
     pub fn keep(&mut self, number: u64, encoding: F)
         ensures kept { SetsAt number (with_encoding encoding) self.old.groups.items
             self.new.groups.items }
@@ -150,8 +153,8 @@ impl<F: Drop> EndpointGroups<F> {
         keep_at(&mut self.groups, number, encoding);
     }
 
-    /// Records that a member of the group was shown the current endpoints, and moves it to the group of those that were. Returns the
-    /// number of that group. After `Memory` all is as before.
+    /// Records that a member of the group was shown the current endpoints, and moves it to the
+    /// group of those that were. Returns the number of that group. After `Memory` all is as before.
     pub fn catch_up(&mut self, number: u64, exists: bool) -> Result<u64, Memory>
         ensures moved { 0 < members_at self.old.groups.items number → IfOk result (λ to.
             Moves number to self.old.groups.items self.new.groups.items) }

@@ -75,7 +75,8 @@ pub fn messages_at<F: Drop>(
     }
 }
 
-/// Adds a member to the group of those that were shown the current endpoints: the current one, or else a new one.
+/// Adds a member to the group of those that were shown the current endpoints: the current one, or
+/// else a new one.
 pub fn enter_current<F: Drop>(
     alloc: Global,
     groups: &mut Vec<Group<F>>,
@@ -138,7 +139,8 @@ fn vacant_place<F>(groups: &[Group<F>]) -> Option<usize>
     None
 }
 
-/// Notes the addresses in each group, and drops the kept encodings. If memory runs out, only some groups have noted them.
+/// Notes the addresses in each group, and drops the kept encodings. If memory runs out, only some
+/// groups have noted them.
 pub fn note_all<F: Drop>(
     alloc: Global,
     groups: &mut Vec<Group<F>>,

@@ -71,8 +71,8 @@ impl EndpointIndex {
         })
     }
 
-    /// Does as `on_change`, and returns the keys of the rows that read a mark of the change. `before`
-    /// then has the old rows where the endpoints of a key differ.
+    /// Does as `on_change`, and returns the keys of the rows that read a mark of the change.
+    /// `before` then has the old rows where the endpoints of a key differ.
     pub fn follow_change<L>(
         &mut self,
         store: &Store,

@@ -58,7 +58,8 @@ impl RowList {
         }
     }
 
-    /// Creates a list from rows in any order. Of the rows with the same address and port the first is kept.
+    /// Creates a list from rows in any order. Of the rows with the same address and port the first
+    /// is kept.
     pub fn of_first(rows: List<EndpointRow>) -> Result<RowList, Memory>
         ensures { IfOk result (λ first. first ≡ first_rows rows) }
     {

@@ -19,13 +19,14 @@ use std::alloc::Global;
 use std::mem;
 use view_types::endpoint::{EndpointRow, EndpointView};
 
-/// The rows that slices give, and the view of them. Slices are put and removed one after another, and then `settle` updates the view
-/// once.
+/// The rows that slices give, and the view of them. Slices are put and removed one after another,
+/// and then `settle` updates the view once.
 #[derive(Drop)]
 pub struct EndpointRows {
     pub(crate) slices: Slices,
     pub(crate) view: EndpointView,
-    /// The addresses and ports of the slices that were put or removed since the last update of the view.
+    /// The addresses and ports of the slices that were put or removed since the last update of the
+    /// view.
     pub(crate) touched: List<(Ip, u16)>,
     pub(crate) notes: List<(Ip, u16, Option<EndpointRow>)>,
     alloc: Global,
@@ -83,7 +84,8 @@ impl EndpointRows {
         add_pairs(&mut self.touched, rows.as_slice())
     }
 
-    /// Removes the rows of all slices. The Service exists from then on, or does not, as `exists` says.
+    /// Removes the rows of all slices. The Service exists from then on, or does not, as `exists`
+    /// says.
     pub fn restart(&mut self, exists: bool) -> Result<(), Memory>
         ensures keeps { Keeps self.old → OnOk result (Keeps self.new) }
         ensures none { OnOk result ((k : ObjKey) → rows_of self.new.slices.by_slice k ≡ []) }
@@ -130,7 +132,8 @@ impl EndpointRows {
         self.view
     }
 
-    /// Returns the addresses and ports whose rows the last update changed, each with the row that was there before.
+    /// Returns the addresses and ports whose rows the last update changed, each with the row that
+    /// was there before.
     pub fn before(&self) -> &[(Ip, u16, Option<EndpointRow>)]
         ensures value { result.now ≡ self.now.notes }
         ensures by_address { IsByAddress result.now }

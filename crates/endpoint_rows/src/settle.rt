@@ -21,8 +21,8 @@ use net_cidr::ip::Ip;
 use std::alloc::Global;
 use view_types::endpoint::EndpointRow;
 
-/// Updates the view at each of the pairs, which are in order, to the first row of the slices. Returns the earlier rows at the pairs where
-/// the row has changed.
+/// Updates the view at each of the pairs, which are in order, to the first row of the slices.
+/// Returns the earlier rows at the pairs where the row has changed.
 pub(crate) fn settle_all(
     slices: &Slices,
     pairs: &[(Ip, u16)],
@@ -82,7 +82,8 @@ fn same(was: &EndpointRow, now: &EndpointRow) -> bool
     was.is_same(now)
 }
 
-/// Sets the row at an address and port to a copy of this one, or removes it. Returns the earlier row.
+/// Sets the row at an address and port to a copy of this one, or removes it. Returns the earlier
+/// row.
 fn show(
     alloc: Global,
     rows: &mut RowList,

@@ -23,8 +23,8 @@ use mesh_base::steps::Steps;
 use object_store::change::Change;
 use object_store::store::Store;
 
-/// The streams of endpoints that subscribers are sent, each under the id of its subscription. After `Memory` nothing is known of what
-/// was shown, but the keys of the streams stay.
+/// The streams of endpoints that subscribers are sent, each under the id of its subscription. After
+/// `Memory` nothing is known of what was shown, but the keys of the streams stay.
 pub trait EndpointStreams: Drop {
     /// The key of each open stream.
     ghost key_of: { Self → ℕ → Option TheKey };
@@ -35,7 +35,8 @@ pub trait EndpointStreams: Drop {
     /// The streams represent the endpoints over these objects, in frames within these limits.
     ghost stands: { Self → Config → Limits → ObjectMap → Type 0 };
 
-    /// How many users the row of a key has in the index of endpoints. Rows of other kinds have none.
+    /// How many users the row of a key has in the index of endpoints. Rows of other kinds have
+    /// none.
     ghost users: { Self → RowKey → ℕ };
 
     /// Opens a stream under an id that has none. Its subscriber was shown nothing yet.
@@ -67,8 +68,8 @@ pub trait EndpointStreams: Drop {
         ensures stands { (config : Config) (limits : Limits) (held : ObjectMap)
             → stands self.old config limits held → stands self.new config limits held };
 
-    /// Updates the streams after a change of the store. Returns the ids of those whose endpoints read a mark of the change. What
-    /// subscribers were shown stays as it was.
+    /// Updates the streams after a change of the store. Returns the ids of those whose endpoints
+    /// read a mark of the change. What subscribers were shown stays as it was.
     fn follow<L>(
         &mut self,
         store: &Store,
@@ -94,9 +95,10 @@ pub trait EndpointStreams: Drop {
             (λ id. option_map query_for (key_of self.old id)) steps.old steps.new) }
         ensures keys { Keeps (key_of self.old) (key_of self.new) };
 
-    /// Returns the frames that bring the subscriber of an id from the endpoints that it was last shown to the current ones. Returns
-    /// `Oversize`, with the length of the first such message, if a message is longer than the limit. After an error, what subscribers
-    /// were shown is as before.
+    /// Returns the frames that bring the subscriber of an id from the endpoints that it was last
+    /// shown to the current ones. Returns `Oversize`, with the length of the first such message, if
+    /// a message is longer than the limit. After an error, what subscribers were shown is as
+    /// before.
     fn drain(&mut self, id: u64) -> Result<List<Bytes>, HubFault>
         requires standing { (config : Config) × (limits : Limits) × (held : ObjectMap)
             × stands self.old config limits held }

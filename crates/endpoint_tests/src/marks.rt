@@ -9,8 +9,8 @@ use std::test::Fail;
 use view_types::mark::Mark;
 
 // A slice, the Pods that it is put with, none if it is taken, and then the slices at each of three
-// Pods. A Pod that lost a place in the slice, or that the slice didn't name, has a - if no slice names
-// it then, and else a +.
+// Pods. A Pod that lost a place in the slice, or that the slice didn't name, has a - if no slice
+// names it then, and else a +.
 const ROWS: &str = "b x x => x:b+ y: z:
 a y x => x:ab+ y:a+ z:
 a y x => x:ab y:a z:

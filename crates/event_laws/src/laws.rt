@@ -3,8 +3,8 @@ ghost use Rattle.event_laws.specs.Laws.{EventsKeepLawful, EventsLead, UntouchedQ
 use mark_rules::laws::{changes_lead, marks_stand_once, views_stay};
 use object_store::laws::{put_by_key, relist_leads, relisted_by_key, taken_by_key};
 
-/// States that the marks of an event account for the change of the objects: they are those of the objects that it replaces, removes or
-/// adds.
+/// States that the marks of an event account for the change of the objects: they are those of the
+/// objects that it replaces, removes or adds.
 pub fn events_lead()
     ensures { EventsLead }
 {
@@ -22,7 +22,8 @@ pub fn events_keep_lawful()
     relisted_by_key();
 }
 
-/// States that a query that reads no mark of an event has the same view after it, and reads the same marks.
+/// States that a query that reads no mark of an event has the same view after it, and reads the
+/// same marks.
 pub fn untouched_queries_stay()
     ensures { UntouchedQueriesStay }
 {

@@ -87,7 +87,8 @@ impl FedHub {
         self.hub.due()
     }
 
-    /// Subscribes to a query, under the number of its request. Returns None if the limit is reached.
+    /// Subscribes to a query, under the number of its request. Returns None if the limit is
+    /// reached.
     pub fn subscribe(&mut self, query: Query) -> Result<Option<SubId>, Memory>
         ensures { IfOk result (SubscribesNext self.old query self.new) }
     {
@@ -111,7 +112,8 @@ impl FedHub {
         let _ = self.hub.cancel(id);
     }
 
-    /// Returns the frames that are due to a subscription, or None if a message would be too long, which ends the subscription.
+    /// Returns the frames that are due to a subscription, or None if a message would be too long,
+    /// which ends the subscription.
     pub fn drain(&mut self, id: SubId) -> Result<Option<List<Bytes>>, Memory>
         ensures drains { IfOk result (DrainsAt id.0 self.old self.new) }
         ensures some { IfOk result (λ answer. IfSome answer NoneEmpty) }
@@ -123,7 +125,8 @@ impl FedHub {
         }
     }
 
-    /// Applies the line with this number, and appends its answer. The row None is a line that is longer than the limit.
+    /// Applies the line with this number, and appends its answer. The row None is a line that is
+    /// longer than the limit.
     pub fn answer<P: Patterns>(
         &mut self,
         patterns: &mut P,

@@ -24,7 +24,8 @@ fn frame_within(alloc: Global, limit: u32, message: &Message) -> Result<Bytes, H
     }
 }
 
-/// Returns the frames of messages, or the length of the first message that is longer than the limit.
+/// Returns the frames of messages, or the length of the first message that is longer than the
+/// limit.
 pub fn frames_within(
     alloc: Global,
     limit: u32,

@@ -11,7 +11,8 @@ use watch_events::line::LineFault;
 #[derive(Clone, Copy, Debug, PartialEq, Eq)]
 pub enum HubFault {
     Memory,
-    /// The object's key is new, and the limit on objects is reached. `held` is the number of objects held.
+    /// The object's key is new, and the limit on objects is reached. `held` is the number of
+    /// objects held.
     Full { held: u32 },
     /// The limit on live subscriptions is reached. `live` is their number.
     TooManySubs { live: u32 },

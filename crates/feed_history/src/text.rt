@@ -55,7 +55,8 @@ pub fn push_verdict(
     ns: &Text,
     verdict: &Verdict,
 ) -> Result<(), AllocError>
-    ensures { OnOk result (out.new.items ≡ out.old.items ++ verdict_line number ns.now verdict.now) }
+    ensures { OnOk result
+        (out.new.items ≡ out.old.items ++ verdict_line number ns.now verdict.now) }
 {
     let verdict = ShownVerdict {
         ns: ns.as_str(),
@@ -88,7 +89,8 @@ pub fn push_frames(
     id: u32,
     frames: &List<Bytes>,
 ) -> Result<(), AllocError>
-    ensures { OnOk result (out.new.items ≡ out.old.items ++ flat_map (hex_line word.now id) frames.now) }
+    ensures { OnOk result
+        (out.new.items ≡ out.old.items ++ flat_map (hex_line word.now id) frames.now) }
 {
     for frame in frames.as_slice() {
         push_hex(alloc, out, word, id, frame.as_slice())?;

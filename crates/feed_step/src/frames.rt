@@ -7,7 +7,8 @@ use bytes::Bytes;
 use mesh_base::list::List;
 use std::alloc::{AllocError, Global};
 
-/// A writer of frames. It keeps the hex of the last frame, since subscribers that were last shown the same are sent the same frames.
+/// A writer of frames. It keeps the hex of the last frame, since subscribers that were last shown
+/// the same are sent the same frames.
 #[derive(Drop)]
 pub struct FrameWriter {
     pub alloc: Global,

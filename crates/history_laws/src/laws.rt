@@ -27,7 +27,8 @@ pub fn last_event_decides_held()
     ensures { (program : Program) → ReadsLawfully program → LastEventDecidesHeld program }
 {}
 
-/// States that a refused line changes neither the objects held nor the live subscriptions nor the effect of any later line.
+/// States that a refused line changes neither the objects held nor the live subscriptions nor the
+/// effect of any later line.
 pub fn refused_changes_nothing()
     ensures { (program : Program) → RefusedChangesNothing program }
 {}
@@ -47,7 +48,8 @@ pub fn the_last_id_is_the_greatest()
     ensures { (program : Program) → LastIsGreatest program }
 {}
 
-/// States that the objects held when a subscription was last drained are those held at the row of its last accepted drain.
+/// States that the objects held when a subscription was last drained are those held at the row of
+/// its last accepted drain.
 pub fn last_drain_decides_shown()
     ensures { (program : Program) → LastDrainDecidesShown program }
 {}
@@ -72,7 +74,8 @@ pub fn usual_config_is_lawful()
     ensures { IsLawfulConfig usual_config }
 {}
 
-/// States that each message that is sent can be read back: its numbers fit their types and its strings are UTF-8.
+/// States that each message that is sent can be read back: its numbers fit their types and its
+/// strings are UTF-8.
 pub fn messages_are_sendable()
     ensures { (program : Program) → ReadsLawfully program → MessagesAreSendable program }
 {}
@@ -82,22 +85,24 @@ pub fn messages_read_back()
     ensures { (program : Program) → ReadsLawfully program → MessagesReadBack program }
 {}
 
-/// States that folding what a live subscriber was sent gives the view over the objects held when it was last drained.
+/// States that folding what a live subscriber was sent gives the view over the objects held when it
+/// was last drained.
 pub fn what_is_sent_folds_to_the_last_shown()
     ensures { (program : Program) → FoldsToLastShown program }
 {
     messages_fold();
 }
 
-/// States that folding what a subscriber was sent, live or not, gives the view that its last drain showed it.
+/// States that folding what a subscriber was sent, live or not, gives the view that its last drain
+/// showed it.
 pub fn what_is_sent_folds_to_what_was_shown()
     ensures { (program : Program) → FoldsToWhatWasShown program }
 {
     messages_fold();
 }
 
-/// States that whenever a live subscriber is owed nothing, folding what it was sent gives the view defined by filters over the objects
-/// then held.
+/// States that whenever a live subscriber is owed nothing, folding what it was sent gives the view
+/// defined by filters over the objects then held.
 pub fn what_is_sent_folds_to_the_view()
     ensures { (program : Program) → FoldsToView program }
 {
@@ -143,7 +148,8 @@ pub fn simulations_change_nothing()
     ensures { (program : Program) → SimulationsChangeNothing program }
 {}
 
-/// States that the verdict that is written for a simulated request is that of the written policy over the objects then held.
+/// States that the verdict that is written for a simulated request is that of the written policy
+/// over the objects then held.
 pub fn verdicts_are_the_written_policys()
     ensures { (program : Program) → VerdictsArePolicys program }
 {}

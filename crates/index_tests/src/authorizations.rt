@@ -9,8 +9,8 @@ use std::test::Fail;
 use view_types::config::Config;
 use view_types::server_view::{AuthzKind, AuthzRow};
 
-// Objects by names. The Server web has a label or none, the ServerAuthorization front selects it or another Server, and the
-// policy both targets it or its like in another namespace.
+// Objects by names. The Server web has a label or none, the ServerAuthorization front selects it or
+// another Server, and the policy both targets it or its like in another namespace.
 const OBJECTS: &str =
     r#"web {"apiVersion":"policy.linkerd.io/v1beta3","kind":"Server","metadata":{"name":"web","namespace":"app","labels":{"tier":"front"}},"spec":{"podSelector":{},"port":8080}}
 bare {"apiVersion":"policy.linkerd.io/v1beta3","kind":"Server","metadata":{"name":"web","namespace":"app"},"spec":{"podSelector":{},"port":8080}}
@@ -26,10 +26,11 @@ cli {"apiVersion":"policy.linkerd.io/v1alpha1","kind":"MeshTLSAuthentication","m
 net {"apiVersion":"policy.linkerd.io/v1alpha1","kind":"NetworkAuthentication","metadata":{"name":"net","namespace":"edge"},"spec":{"networks":[{"cidr":"10.0.0.0/8"}]}}
 route {"apiVersion":"policy.linkerd.io/v1beta3","kind":"HTTPRoute","metadata":{"name":"r","namespace":"app"},"spec":{"parentRefs":[{"group":"policy.linkerd.io","kind":"Server","name":"web"}],"rules":[]}}"#;
 
-// What happens; then the keys that the index answers, and the row of each key that has users: its ServerAuthorizations (+) and
-// its AuthorizationPolicies (#), and how many marks are read. Each key is a letter: the Server web (s), the route r of
-// policy.linkerd.io (l) and that of gateway.networking.k8s.io (g), and a Pod (p), which has no authorizations. A row that is
-// peeked at stands in the place of keys, and behind ~ how many objects are looked up for it.
+// What happens; then the keys that the index answers, and the row of each key that has users: its
+// ServerAuthorizations (+) and its AuthorizationPolicies (#), and how many marks are read. Each key
+// is a letter: the Server web (s), the route r of policy.linkerd.io (l) and that of
+// gateway.networking.k8s.io (g), and a Pod (p), which has no authorizations. A row that is peeked
+// at stands in the place of keys, and behind ~ how many objects are looked up for it.
 const ROWS: &str = "\
 enter s => - s:/4
 set web => s s:/4

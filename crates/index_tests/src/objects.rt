@@ -15,8 +15,8 @@ use view_types::slice::{Family, Point, Slice};
 
 /// The object of these words, in the namespace app:
 /// - `service PORT` and `external PORT` are the Service web with port 80 of this name;
-/// - `slice NAME PORT POINT..` is a slice of it, with port 8080 of this name; `names` is one of host
-///   names. A point is an address of one digit, with `>` and a Pod if it targets one;
+/// - `slice NAME PORT POINT..` is a slice of it, with port 8080 of this name; `names` is one of
+///   host names. A point is an address of one digit, with `>` and a Pod if it targets one;
 /// - `bare NAME`, `meshed NAME` and `wide NAME` are Pods, the last meshed and with six addresses.
 pub(crate) fn object(alloc: Global, words: &str) -> Result<Object, Fail> {
     let (kind, rest) = words.split_once(' ').ok_or("an object has one word")?;

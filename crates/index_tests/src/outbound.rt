@@ -12,8 +12,8 @@ use view_types::outbound::OutboundView;
 use view_types::query::Target;
 use view_types::server_view::RouteRow;
 
-// Objects by names. Of the Services web and db there are forms of the type ExternalName. The route a has a backend db at every
-// port of web, and the route at81 backends db and cache at port 81.
+// Objects by names. Of the Services web and db there are forms of the type ExternalName. The route
+// a has a backend db at every port of web, and the route at81 backends db and cache at port 81.
 const OBJECTS: &str =
     r#"web {"apiVersion":"v1","kind":"Service","metadata":{"name":"web","namespace":"app"},"spec":{"clusterIP":"10.96.0.10","ports":[{"name":"http","port":80}]}}
 web-external {"apiVersion":"v1","kind":"Service","metadata":{"name":"web","namespace":"app"},"spec":{"type":"ExternalName","externalName":"web.example"}}
@@ -25,9 +25,10 @@ a {"apiVersion":"gateway.networking.k8s.io/v1","kind":"HTTPRoute","metadata":{"n
 at81 {"apiVersion":"policy.linkerd.io/v1beta3","kind":"HTTPRoute","metadata":{"name":"at81","namespace":"app"},"spec":{"parentRefs":[{"group":"","kind":"Service","name":"web","port":81}],"rules":[{"backendRefs":[{"name":"db","port":80},{"name":"cache","port":80}]}]}}
 pod {"apiVersion":"v1","kind":"Pod","metadata":{"name":"web-1","namespace":"app"},"spec":{"containers":[]},"status":{"podIP":"10.1.2.3"}}"#;
 
-// What happens; then the keys that the index answers, and the row of each key that has users: none, the Service with its routes
-// and their backends (one that is missing with a sign -), or the Pod; and how many marks are read. Each key is a letter: the
-// ports 80 (w) and 81 (h) of the Service web, and the port 80 of 10.96.0.10 (s) and of 10.1.2.3 (p).
+// What happens; then the keys that the index answers, and the row of each key that has users: none,
+// the Service with its routes and their backends (one that is missing with a sign -), or the Pod;
+// and how many marks are read. Each key is a letter: the ports 80 (w) and 81 (h) of the Service
+// web, and the port 80 of 10.96.0.10 (s) and of 10.1.2.3 (p).
 const ROWS: &str = "\
 enter w => - w:none/2
 set a => w w:none/3

@@ -24,10 +24,10 @@ ended {"apiVersion":"v1","kind":"Pod","metadata":{"name":"web-1","namespace":"ap
 moved {"apiVersion":"v1","kind":"Pod","metadata":{"name":"web-1","namespace":"app"},"spec":{"containers":[]},"status":{"podIP":"10.1.2.9"}}
 next {"apiVersion":"v1","kind":"Pod","metadata":{"name":"web-0","namespace":"app"},"spec":{"containers":[]},"status":{"podIP":"10.1.2.3"}}"#;
 
-// What happens; then the keys that the index answers, and the row of each key that has users: the Service or the Pod, whether
-// the port is opaque, the routes, and how many marks are read. Each key is a letter: the port 80 of the Service web for no
-// namespace (w) and for the namespace test (t), of the address 10.96.0.10 for the namespace test (s), and of 10.1.2.3 for no
-// namespace (p).
+// What happens; then the keys that the index answers, and the row of each key that has users: the
+// Service or the Pod, whether the port is opaque, the routes, and how many marks are read. Each key
+// is a letter: the port 80 of the Service web for no namespace (w) and for the namespace test (t),
+// of the address 10.96.0.10 for the namespace test (s), and of 10.1.2.3 for no namespace (p).
 const ROWS: &str = "\
 enter w => - w:web/2
 enter t => - w:web/2 t:web/3

@@ -10,7 +10,8 @@ use std::test::Fail;
 use view_types::config::Config;
 use view_types::server_view::RouteRow;
 
-// Objects by names. Of the route a there are forms with other parents, and of the route b forms created at other times.
+// Objects by names. Of the route a there are forms with other parents, and of the route b forms
+// created at other times.
 const OBJECTS: &str =
     r#"a {"apiVersion":"policy.linkerd.io/v1beta3","kind":"HTTPRoute","metadata":{"name":"a","namespace":"app","creationTimestamp":"2026-01-02T00:00:00Z"},"spec":{"parentRefs":[{"group":"policy.linkerd.io","kind":"Server","name":"web"}],"rules":[{}]}}
 a-moved {"apiVersion":"policy.linkerd.io/v1beta3","kind":"HTTPRoute","metadata":{"name":"a","namespace":"app","creationTimestamp":"2026-01-02T00:00:00Z"},"spec":{"parentRefs":[{"group":"policy.linkerd.io","kind":"Server","name":"db"}],"rules":[{}]}}
@@ -24,10 +25,11 @@ gate {"apiVersion":"gateway.networking.k8s.io/v1","kind":"HTTPRoute","metadata":
 policy {"apiVersion":"policy.linkerd.io/v1alpha1","kind":"AuthorizationPolicy","metadata":{"name":"on-route","namespace":"app"},"spec":{"targetRef":{"group":"policy.linkerd.io","kind":"HTTPRoute","name":"a"}}}
 server {"apiVersion":"policy.linkerd.io/v1beta3","kind":"Server","metadata":{"name":"web","namespace":"app"},"spec":{"podSelector":{},"port":8080}}"#;
 
-// What happens; then the keys that the index answers, and the row of each key that has users: its routes of policy.linkerd.io
-// (+) and of gateway.networking.k8s.io (@) in their order, each with the number of its rules, and how many marks are read. Each
-// key is a letter: the Servers web (w) and db (d). A row that is
-// peeked at stands in the place of keys, and behind ~ how many objects are looked up for it.
+// What happens; then the keys that the index answers, and the row of each key that has users: its
+// routes of policy.linkerd.io (+) and of gateway.networking.k8s.io (@) in their order, each with
+// the number of its rules, and how many marks are read. Each key is a letter: the Servers web (w)
+// and db (d). A row that is peeked at stands in the place of keys, and behind ~ how many objects
+// are looked up for it.
 const ROWS: &str = "\
 enter w => - w:/1
 set a => w w:+a1/1

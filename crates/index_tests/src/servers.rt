@@ -9,9 +9,10 @@ use std::test::Fail;
 use view_types::config::Config;
 use view_types::policy::{Policy, Protocol};
 
-// Objects by names. The Pod web-1 has four forms: with the label web, with the label db, with probes, and with annotations and the
-// port name http at two containers. A Server is of the label web or db, of a port, and maybe of a protocol and a policy. The
-// Server m has four forms, and k and z say the same.
+// Objects by names. The Pod web-1 has four forms: with the label web, with the label db, with
+// probes, and with annotations and the port name http at two containers. A Server is of the label
+// web or db, of a port, and maybe of a protocol and a policy. The Server m has four forms, and k
+// and z say the same.
 const OBJECTS: &str =
     r#"web {"apiVersion":"v1","kind":"Pod","metadata":{"name":"web-1","namespace":"app","labels":{"app":"web"}},"spec":{"containers":[{"ports":[{"name":"http","containerPort":8080}]},{"ports":[{"name":"admin","containerPort":9990}]}]}}
 db {"apiVersion":"v1","kind":"Pod","metadata":{"name":"web-1","namespace":"app","labels":{"app":"db"}},"spec":{"containers":[{"ports":[{"name":"http","containerPort":8080}]}]}}
@@ -26,10 +27,11 @@ z {"apiVersion":"policy.linkerd.io/v1beta3","kind":"Server","metadata":{"name":"
 k {"apiVersion":"policy.linkerd.io/v1beta3","kind":"Server","metadata":{"name":"k","namespace":"app"},"spec":{"podSelector":{"matchLabels":{"app":"web"}},"port":"http"}}
 a.other {"apiVersion":"policy.linkerd.io/v1beta3","kind":"Server","metadata":{"name":"a","namespace":"other"},"spec":{"podSelector":{"matchLabels":{"app":"web"}},"port":8080}}"#;
 
-// What happens; then the keys that the index answers, and the row of each key that has users: the name of the Server or
-// default, the protocol, the policy and the paths of probes, or none without the Pod; and how many marks are read. Each key is a
-// letter: the ports 8080 (h) and 9990 (i) of the Pod web-1. A row that is
-// peeked at stands in the place of keys, and behind ~ how many objects are looked up for it.
+// What happens; then the keys that the index answers, and the row of each key that has users: the
+// name of the Server or default, the protocol, the policy and the paths of probes, or none without
+// the Pod; and how many marks are read. Each key is a letter: the ports 8080 (h) and 9990 (i) of
+// the Pod web-1. A row that is peeked at stands in the place of keys, and behind ~ how many objects
+// are looked up for it.
 const ROWS: &str = "\
 enter h => - h:none/2
 set m => h h:none/2
@@ -65,9 +67,9 @@ enter i => - h:m http2 deny /a /b/2 i:default unknown all-unauthenticated /c/2
 remove m => hi h:default unknown all-unauthenticated /a /b/2 i:default unknown all-unauthenticated /c/2
 set web => hi h:default unknown all-unauthenticated/2 i:default unknown all-unauthenticated/2";
 
-// The Pod web-1 in three forms: with two labels, with two labels of one value, and with a label whose value is the name of the
-// namespace. No Server selects by the name of another, and each is of the port 8080: a selects no Pod, g each, and o is of another
-// namespace.
+// The Pod web-1 in three forms: with two labels, with two labels of one value, and with a label
+// whose value is the name of the namespace. No Server selects by the name of another, and each is
+// of the port 8080: a selects no Pod, g each, and o is of another namespace.
 const LABELLED: &str =
     r#"web {"apiVersion":"v1","kind":"Pod","metadata":{"name":"web-1","namespace":"app","labels":{"app":"web","tier":"front"}},"spec":{"containers":[{"ports":[{"containerPort":8080}]}]}}
 twice {"apiVersion":"v1","kind":"Pod","metadata":{"name":"web-1","namespace":"app","labels":{"app":"web","name":"web"}},"spec":{"containers":[{"ports":[{"containerPort":8080}]}]}}
@@ -82,9 +84,10 @@ g {"apiVersion":"policy.linkerd.io/v1beta3","kind":"Server","metadata":{"name":"
 i {"apiVersion":"policy.linkerd.io/v1beta3","kind":"Server","metadata":{"name":"i","namespace":"app"},"spec":{"podSelector":{"matchExpressions":[{"key":"app","operator":"In","values":["web"]}]},"port":8080}}
 o {"apiVersion":"policy.linkerd.io/v1beta3","kind":"Server","metadata":{"name":"a","namespace":"other"},"spec":{"podSelector":{"matchLabels":{"app":"web"}},"port":8080}}"#;
 
-// The Pod is looked at, the Servers that require none of its labels (a, b, g and i: the value of b is the name of the namespace), and
-// for each label those whose first required label has its value, or all of the namespace where these are fewer. With all eight
-// those are a, b, g, i, then f for web, then c and e for front. Of the Pod with two labels of one value, f is looked at twice;
+// The Pod is looked at, the Servers that require none of its labels (a, b, g and i: the value of b
+// is the name of the namespace), and for each label those whose first required label has its value,
+// or all of the namespace where these are fewer. With all eight those are a, b, g, i, then f for
+// web, then c and e for front. Of the Pod with two labels of one value, f is looked at twice;
 // without c and d only four Servers are left, which are fewer.
 const LABELLED_ROWS: &str = "\
 set o => -

@@ -51,7 +51,8 @@ where
         }
     }
 
-    /// Does the step of each row, `WORDS => EXPECTED`, and compares what it tells with what the row expects.
+    /// Does the step of each row, `WORDS => EXPECTED`, and compares what it tells with what the row
+    /// expects.
     pub(crate) fn check<R: Abort, W: Writing<I::Key, I::Row>>(
         &mut self,
         rt: &R,
@@ -66,9 +67,10 @@ where
         Ok(())
     }
 
-    // Does what the words say: `enter`, `leave` or `peek` and the letter of a key, `set` or `remove` and the name of an object. It
-    // tells the letters of the keys that the index answers, or the row that was peeked at with the number of objects that were
-    // looked up for it, and what is shown of each row that is kept with the number of its marks.
+    // Does what the words say: `enter`, `leave` or `peek` and the letter of a key, `set` or
+    // `remove` and the name of an object. It tells the letters of the keys that the index answers,
+    // or the row that was peeked at with the number of objects that were looked up for it, and what
+    // is shown of each row that is kept with the number of its marks.
     fn step<W: Writing<I::Key, I::Row>>(
         &mut self,
         writing: &W,

@@ -19,7 +19,8 @@ use view_types::query::Query;
 use view_types::server_view::{AuthzRow, RouteRow, ServerView};
 use view_types::view::View;
 
-/// The views of all queries except those for endpoints. An id is open in at most one of the three parts.
+/// The views of all queries except those for endpoints. An id is open in at most one of the three
+/// parts.
 #[derive(Drop)]
 pub struct KeptViews {
     profiles: ProfileViews,
@@ -50,8 +51,8 @@ impl KeptViews {
         })
     }
 
-    /// Returns the view of a port over the objects of the store, whether or not an id is open with it. Its routes are without their
-    /// authorizations.
+    /// Returns the view of a port over the objects of the store, whether or not an id is open with
+    /// it. Its routes are without their authorizations.
     pub fn peek_port<L>(
         &self,
         store: &Store,

@@ -103,12 +103,14 @@ impl<F: Drop> KeyStreams<F> {
         self.groups.leave(number);
     }
 
-    /// Records a change of the rows at these addresses, each given with the row that was there before, or that the Service was created or
-    /// deleted. The kept encodings are dropped. After `Memory` nothing is known of what was shown.
+    /// Records a change of the rows at these addresses, each given with the row that was there
+    /// before, or that the Service was created or deleted. The kept encodings are dropped. After
+    /// `Memory` nothing is known of what was shown.
     pub fn change(&mut self, before: &[(Ip, u16, Option<EndpointRow>)]) -> Result<(), Memory>
         requires { IsByAddress before.now }
         ensures open { HasSame self.old self.new }
-        ensures shown { OnOk result ((now was : TheView) → earlier_rows before.now now.rows ≡ was.rows
+        ensures shown { OnOk result
+            ((now was : TheView) → earlier_rows before.now now.rows ≡ was.rows
             → (id : ℕ) → shown_for self.new id now ≡ shown_for self.old id was) }
         ensures right { OnOk result ((encode : Option TheView → Option F) (now : TheView)
             → AreRight encode now self.new) }
@@ -116,8 +118,8 @@ impl<F: Drop> KeyStreams<F> {
         self.groups.change(before)
     }
 
-    /// Returns the messages that bring the subscriber of an id from what it was last shown to the current endpoints. A subscriber
-    /// without a stream was shown nothing.
+    /// Returns the messages that bring the subscriber of an id from what it was last shown to the
+    /// current endpoints. A subscriber without a stream was shown nothing.
     pub fn messages(
         &self,
         alloc: Global,
@@ -136,7 +138,8 @@ impl<F: Drop> KeyStreams<F> {
         }
     }
 
-    /// Returns the kept encoding of a stream's messages, if one was kept for a stream that was last shown the same.
+    /// Returns the kept encoding of a stream's messages, if one was kept for a stream that was last
+    /// shown the same.
     pub fn encoding(&self, id: u64) -> Option<&F>
         ensures kept { option_copied result ≡ encoding_for self.now id }
         ensures right { (encode : Option TheView → Option F) (now : TheView)
@@ -149,7 +152,8 @@ impl<F: Drop> KeyStreams<F> {
         }
     }
 
-    /// Keeps the encoding of a stream's messages until the rows change, for all streams that were last shown the same.
+    /// Keeps the encoding of a stream's messages until the rows change, for all streams that were
+    /// last shown the same.
     pub fn keep(&mut self, id: u64, encoding: F)
         ensures kept { has_stream self.old id ≡ true → encoding_for self.new id ≡ Some encoding }
         ensures open { HasSame self.old self.new }

@@ -27,7 +27,8 @@ pub fn write_all<K: Sink>(sink: &mut K, bytes: &[u8]) -> Result<(), SinkFault>
 
 /// Writes the gathered output, and clears it.
 pub(crate) fn flush<K: Sink>(out: &mut Vec<u8>, sink: &mut K) -> Result<(), SinkFault>
-    ensures moved { OnOk result (Moves out.old.items out.new.items (K.held sink.old) (K.held sink.new)) }
+    ensures moved { OnOk result
+        (Moves out.old.items out.new.items (K.held sink.old) (K.held sink.new)) }
     ensures none { OnOk result (out.new.items ≡ []) }
     ensures front { OnErr result ((rest : List ℕ)
         × Moves out.old.items rest (K.held sink.old) (K.held sink.new)) }
@@ -40,7 +41,8 @@ pub(crate) fn flush<K: Sink>(out: &mut Vec<u8>, sink: &mut K) -> Result<(), Sink
 
 /// Writes the gathered output, if it has at least 65,536 bytes.
 pub(crate) fn flush_much<K: Sink>(out: &mut Vec<u8>, sink: &mut K) -> Result<(), SinkFault>
-    ensures moved { OnOk result (Moves out.old.items out.new.items (K.held sink.old) (K.held sink.new)) }
+    ensures moved { OnOk result
+        (Moves out.old.items out.new.items (K.held sink.old) (K.held sink.new)) }
     ensures front { OnErr result ((rest : List ℕ)
         × Moves out.old.items rest (K.held sink.old) (K.held sink.new)) }
     ensures cause { FailsByCause (K.faults sink.old) (K.faults sink.new) result }

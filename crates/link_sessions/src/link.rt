@@ -93,7 +93,8 @@ impl Link {
         self.writable && self.is_written()
     }
 
-    /// Whether the link stays open: its input has not ended, or answers of a feed are left to write.
+    /// Whether the link stays open: its input has not ended, or answers of a feed are left to
+    /// write.
     pub fn stays_open(&self) -> bool
         ensures { result ≡ stays_open self.now }
     {

@@ -16,8 +16,8 @@ use session_core::session::{Ask, SessionFault};
 use std::alloc::Global;
 use std::collections::{BTreeMap, BTreeSet};
 
-/// The open links by their numbers, with the numbers of those that may be read and written. After out of memory they are no longer
-/// used.
+/// The open links by their numbers, with the numbers of those that may be read and written. After
+/// out of memory they are no longer used.
 #[derive(Drop)]
 pub struct OpenLinks {
     by_number: BTreeMap<u32, Link>,
@@ -224,8 +224,8 @@ impl OpenLinks {
         self.settle(number)
     }
 
-    /// Passes a piece of a link's bytes to its session, and returns the requests in it. The caller must then call `put`, which settles the
-    /// link, or close it.
+    /// Passes a piece of a link's bytes to its session, and returns the requests in it. The caller
+    /// must then call `put`, which settles the link, or close it.
     pub fn feed(&mut self, number: u32, piece: &[u8]) -> Result<List<Ask>, SessionFault>
         ensures entries { Feeds number piece.now (entries_of self.old) result
             (entries_of self.new) }
@@ -240,7 +240,8 @@ impl OpenLinks {
         ensures entries { entries_of self.new ≡ (if result
             then changed number (λ link. record link { role = Role.Feed }) (entries_of self.old)
             else entries_of self.old) }
-        ensures settled { passes_at (λ link. is_opening link.role) (entries_of self.old) number ≡ true
+        ensures settled { passes_at
+            (λ link. is_opening link.role) (entries_of self.old) number ≡ true
             → IsSettledBut number self.old → IsSettledBut number self.new }
     {
         if self.feeds >= limit {

@@ -1,9 +1,11 @@
-//! The program: the destination and policy controllers of a Linkerd 2 control plane, over a recorded feed or over links.
+//! The program: the destination and policy controllers of a Linkerd 2 control plane, over a
+//! recorded feed or over links.
 //!
-//! Depends on command_run for the commands, on serve_core for a server, on mesh_outside for standard input and output, on mio_edge for
-//! sockets, on regex_patterns for the regular expressions of routes, and on run_report and link_report for what is written to standard
-//! error. `main` passes the words of the command line to `command_run::top::top`, whose contract is that of the program. If they ask
-//! for a server, `main` runs it with `serve_core::serve::serve_top`.
+//! Depends on command_run for the commands, on serve_core for a server, on mesh_outside for
+//! standard input and output, on mio_edge for sockets, on regex_patterns for the regular
+//! expressions of routes, and on run_report and link_report for what is written to standard error.
+//! `main` passes the words of the command line to `command_run::top::top`, whose contract is that
+//! of the program. If they ask for a server, `main` runs it with `serve_core::serve::serve_top`.
 #![tactic(auto)]
 
 ghost use Rattle.std.specs.Prelude.{◌≤◌};
@@ -42,7 +44,8 @@ fn new_hub(alloc: Global) -> Result<Hub, Memory> {
     Hub::new(alloc, Config::usual(alloc)?, Limits::usual())
 }
 
-// The terminal for the progress of a run. There is none if the input is typed at a terminal, which then shows the typed lines.
+// The terminal for the progress of a run. There is none if the input is typed at a terminal, which
+// then shows the typed lines.
 fn screen(rt: &HostRuntime) -> Option<Stderr> {
     if rt.stdin().is_terminal() || !rt.stderr().is_terminal() {
         return None;
@@ -169,8 +172,8 @@ fn run<'a>(rt: &'a HostRuntime, start: StartTime, words: &'a [Text], last: &'a L
         elapsed: start.elapsed(rt),
     });
     let status = tell(rt, status, last.get(), run);
-    // The exit of the process frees the memory of the hub at once. To free its parts one by one took
-    // a fifth of the time of a run over 20,000 objects.
+    // The exit of the process frees the memory of the hub at once. To free its parts one by one
+    // took a fifth of the time of a run over 20,000 objects.
     mem::forget(hub);
     Outcome::Ended(status)
 }

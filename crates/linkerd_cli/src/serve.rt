@@ -31,8 +31,9 @@ fn ended<R: Eprint>(rt: &R, status: ServeStatus) -> ExitCode {
     server_code(status)
 }
 
-/// Listens on the configured address, and serves links until a feed stops the server or it fails. Writes to standard error where it
-/// listens and how it ended, and shows the traffic on the screen, if there is one.
+/// Listens on the configured address, and serves links until a feed stops the server or it fails.
+/// Writes to standard error where it listens and how it ended, and shows the traffic on the screen,
+/// if there is one.
 pub(crate) fn serve<R: Net + Wait + Eprint + AllocGlobal, C: Clock + Drop, W: Write + Drop>(
     rt: &R,
     server: &ServeConfig,

@@ -16,8 +16,9 @@ use watch_events::event::Event;
 use watch_events::line::Line;
 use watch_events::read::read_line;
 
-// A Service with two slices, one of them of host names; a Server with a policy, a route and its policy, and a route with none; a
-// route of the Service. Two Pods, one of them selected by the Server, by one with a greater name, and by one of another port.
+// A Service with two slices, one of them of host names; a Server with a policy, a route and its
+// policy, and a route with none; a route of the Service. Two Pods, one of them selected by the
+// Server, by one with a greater name, and by one of another port.
 const FEED: &str =
     r#"{"type":"ADDED","object":{"apiVersion":"v1","kind":"Service","metadata":{"name":"web","namespace":"app"},"spec":{"clusterIP":"10.96.0.10","ports":[{"name":"http","port":80}]}}}
 {"type":"ADDED","object":{"apiVersion":"discovery.k8s.io/v1","kind":"EndpointSlice","metadata":{"name":"web-a","namespace":"app","labels":{"kubernetes.io/service-name":"web"}},"addressType":"IPv4","endpoints":[{"addresses":["10.1.2.3"],"targetRef":{"kind":"Pod","name":"web-1"}},{"addresses":["10.1.2.4"],"conditions":{"ready":false},"targetRef":{"kind":"Pod","name":"web-2"}}],"ports":[{"name":"http","port":8080}]}}

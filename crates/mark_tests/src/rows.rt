@@ -14,7 +14,8 @@ fn set(alloc: Global, marks: &[u32]) -> Result<SortedSet<u32>, Fail> {
     Ok(SortedSet::of_list(list(alloc, marks)?))
 }
 
-// Two rows at one mark. A row that moves to other marks leaves those that it had, and one that is removed is at none.
+// Two rows at one mark. A row that moves to other marks leaves those that it had, and one that is
+// removed is at none.
 #[test]
 fn rows_at_marks(rt: HostRuntime) -> Result<(), Fail> {
     let alloc = rt.alloc();

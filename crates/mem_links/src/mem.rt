@@ -109,7 +109,8 @@ impl MemLinks {
 
     // Makes room for one more call, and for the closes of this number of new links.
     fn make_room(&mut self, new_links: usize) -> Result<(), Memory>
-        ensures room { OnOk result (vec_len self.new.trace + vec_len self.new.play.links + new_links + 1
+        ensures room { OnOk result
+            (vec_len self.new.trace + vec_len self.new.play.links + new_links + 1
             ≤ vec_capacity self.new.trace) }
         ensures trace { self.new.trace.items ≡ self.old.trace.items }
         ensures play { self.new.play ≡ self.old.play }
@@ -128,7 +129,8 @@ impl MemLinks {
         ensures play { self.new.play ≡ self.old.play }
         ensures script { self.new.script ≡ self.old.script }
         ensures faults { self.new.faults ≡ self.old.faults }
-        ensures link_faults { self.new.link_faults ≡ counted (is_failed fault) self.old.link_faults }
+        ensures link_faults { self.new.link_faults
+            ≡ counted (is_failed fault) self.old.link_faults }
         ensures pendings { self.new.pendings ≡ counted (is_pending fault) self.old.pendings }
         ensures later { (self.old.link_faults ≤ self.new.link_faults)
             × (self.old.pendings ≤ self.new.pendings) }
@@ -152,7 +154,8 @@ impl Links for MemLinks {
             → IfOk result (λ events. AreNew t events) }
         ensures traced { Continues (Some self.old.trace.items) (Some self.new.trace.items) (λ t.
             poll_made wait result) }
-        ensures cause { KeptInPoll (counts_of self.old.faults self.old.link_faults self.old.pendings)
+        ensures cause { KeptInPoll
+            (counts_of self.old.faults self.old.link_faults self.old.pendings)
             (counts_of self.new.faults self.new.link_faults self.new.pendings) result }
         ensures may_fail { self.new.play.may_fail ≡ self.old.play.may_fail }
         ensures pendings { self.new.pendings ≡ self.old.pendings }

@@ -9,8 +9,8 @@ use mesh_links::links::Links;
 use std::alloc::Global;
 use std::test::Fail;
 
-// What a row is about: the script, the calls, and what the trace tells of them. A close of a link that is not open is not in
-// the trace.
+// What a row is about: the script, the calls, and what the trace tells of them. A close of a link
+// that is not open is not in the trace.
 const ROWS: &str = "a link that arrives: arrive:1 | poll poll => new:1 none
 bytes, their end, and what is read of them: arrive:1 bytes:1:abc end:1 | poll read:1:2 read:1 read:1 read:1 => new:1,readable:1,readable:1 ab c 0 0
 bytes of several steps are read at once: arrive:1 bytes:1:ab bytes:1:cd | poll read:1 read:1 => new:1,readable:1,readable:1 abcd pending

@@ -1,4 +1,5 @@
-// The frames that bring a subscriber to a view. A view of a port is moved into its message and back, and not copied.
+// The frames that bring a subscriber to a view. A view of a port is moved into its message and
+// back, and not copied.
 ghost use Rattle.std.specs.Prelude.{◌≡◌, ◌≤◌, OnOk, Some};
 ghost use Rattle.std.specs.Option.{option_copied};
 ghost use Rattle.view_types.specs.declared.message.Message.TheVariants as sends;
@@ -22,8 +23,8 @@ use view_types::message::Message;
 use view_types::server_view::ServerView;
 use view_types::view::View;
 
-/// Returns the frames that bring a subscriber from the view that it was last shown, if any, to this one. The view is unchanged
-/// unless that fails.
+/// Returns the frames that bring a subscriber from the view that it was last shown, if any, to this
+/// one. The view is unchanged unless that fails.
 pub fn frames_to(
     alloc: Global,
     shown: Option<&View>,

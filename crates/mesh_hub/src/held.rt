@@ -95,7 +95,8 @@ fn no_change(alloc: Global) -> Change
     }
 }
 
-/// Converts a fault of the store to a fault of the hub. If memory ran out, it marks the hub as spent.
+/// Converts a fault of the store to a fault of the hub. If memory ran out, it marks the hub as
+/// spent.
 pub fn fault_of(spent: &mut bool, fault: StoreFault) -> HubFault
     ensures fault { result ≡ hub_fault fault }
     ensures spent { spent.new ≡ (spends fault || spent.old) }

@@ -106,8 +106,8 @@ impl Hub {
         })
     }
 
-    /// Applies a watch event. The subscriptions whose queries read a mark of the event before it become due. Returns `Full` if there
-    /// would be more objects than the limit.
+    /// Applies a watch event. The subscriptions whose queries read a mark of the event before it
+    /// become due. Returns `Full` if there would be more objects than the limit.
     pub fn apply<L>(&mut self, event: Event, steps: &mut Steps<L>) -> Result<(), HubFault>
         requires { IsLawfulEvent event }
         ensures answers { Answers (state_of self.old)
@@ -136,8 +136,8 @@ impl Hub {
         }
     }
 
-    /// Adds a subscription. Returns `IdOrder` if the id is not above the greatest accepted one, and otherwise `TooManySubs` if as many
-    /// subscriptions are live as the limit allows.
+    /// Adds a subscription. Returns `IdOrder` if the id is not above the greatest accepted one, and
+    /// otherwise `TooManySubs` if as many subscriptions are live as the limit allows.
     pub fn subscribe<L>(
         &mut self,
         id: SubId,
@@ -179,9 +179,10 @@ impl Hub {
         }
     }
 
-    /// Returns the frames that bring a subscriber from the view that it was last shown to the view over the objects held. For an id that
-    /// is not due there are none, and nothing is allocated. Returns `NoSuchId` if the id is not live, and `Oversize`, with the length of
-    /// the first such message, if a message is longer than the limit; the subscription has then ended.
+    /// Returns the frames that bring a subscriber from the view that it was last shown to the view
+    /// over the objects held. For an id that is not due there are none, and nothing is allocated.
+    /// Returns `NoSuchId` if the id is not live, and `Oversize`, with the length of the first such
+    /// message, if a message is longer than the limit; the subscription has then ended.
     pub fn drain(&mut self, id: SubId) -> Result<List<Bytes>, HubFault>
         ensures answers { Answers (state_of self.old) (frames_at (state_of self.old) id.0)
             (drained (state_of self.old) id.0) result (state_of self.new) }
@@ -212,8 +213,9 @@ impl Hub {
         }
     }
 
-    /// Returns the live subscriptions that were never drained, or whose queries read a mark of an event since their last drain, in
-    /// ascending order of their ids. Once memory ran out, there are none.
+    /// Returns the live subscriptions that were never drained, or whose queries read a mark of an
+    /// event since their last drain, in ascending order of their ids. Once memory ran out, there
+    /// are none.
     pub fn due(&self) -> &[SubId]
         ensures each { (id : ℕ) → is_among id result.now ≡ is_due self.now id }
         ensures rise { Rises result.now }
@@ -224,8 +226,9 @@ impl Hub {
         self.subscribers.due()
     }
 
-    /// Returns the verdict of the held policy on a request to a port of a Pod. It changes no view and no subscription. Returns `Pattern`
-    /// only if a regular expression was refused in this call.
+    /// Returns the verdict of the held policy on a request to a port of a Pod. It changes no view
+    /// and no subscription. Returns `Pattern` only if a regular expression was refused in this
+    /// call.
     pub fn simulate<P: Patterns, L>(
         &mut self,
         request: &Request,
@@ -255,7 +258,8 @@ impl Hub {
         }
     }
 
-    // Returns the verdict on a request, from the view of its port and the authorizations of the matched route.
+    // Returns the verdict on a request, from the view of its port and the authorizations of the
+    // matched route.
     fn verdict<P: Patterns, L>(
         &self,
         request: &Request,
@@ -287,8 +291,9 @@ impl Hub {
         decide(self.alloc, &simulation, &view, patterns, steps)
     }
 
-    /// States that after every call, unless memory ran out, the rows that have users in the indexes are exactly those of the queries of
-    /// the live subscriptions. So a row is kept only while a subscription needs it, and a simulation leaves none.
+    /// States that after every call, unless memory ran out, the rows that have users in the indexes
+    /// are exactly those of the queries of the live subscriptions. So a row is kept only while a
+    /// subscription needs it, and a simulation leaves none.
     pub fn rows_in_use_are_those_of_subscriptions(&self)
         ensures { self.now.spent ≡ false → AreInUse self.now.config self.now.store.objects
             (λ id. query_at id (state_of self.now).subs) (users_in self.now) }
@@ -338,7 +343,8 @@ impl Hub {
         }
     }
 
-    // Returns the frames that bring a subscriber to its current view. The id is no longer due, unless this fails.
+    // Returns the frames that bring a subscriber to its current view. The id is no longer due,
+    // unless this fails.
     fn send(&mut self, id: SubId) -> Result<List<Bytes>, HubFault>
         requires going { self.old.spent ≡ false }
         ensures sends { (sub : LiveSubscription)

@@ -51,7 +51,8 @@ pub trait Machine {
     /// Clears the state, and sets the configuration and the limits. A spent machine returns Memory.
     fn begin(&mut self, config: Config, limits: Limits) -> Result<(), Memory>
         requires { 1 ≤ limits.frame_addrs }
-        ensures state { Becomes (state self.old) (state self.new) (Begins (fresh config limits) result) }
+        ensures state { Becomes (state self.old) (state self.new)
+            (Begins (fresh config limits) result) }
         ensures replies { Grows (replies self.old) (replies self.new) [] };
 
     /// Applies a watch event. Returns `Full` if there would be more objects than the limit.
@@ -62,8 +63,8 @@ pub trait Machine {
         ensures replies { Grows (replies self.old) (replies self.new) (done_reply result) }
         ensures may { MayApply result };
 
-    /// Adds a subscription. Returns `IdOrder` if the id is not above the greatest accepted one, and otherwise `TooManySubs` if as many
-    /// subscriptions are live as the limit allows.
+    /// Adds a subscription. Returns `IdOrder` if the id is not above the greatest accepted one, and
+    /// otherwise `TooManySubs` if as many subscriptions are live as the limit allows.
     fn subscribe<L>(
         &mut self,
         id: SubId,
@@ -75,24 +76,26 @@ pub trait Machine {
         ensures replies { Grows (replies self.old) (replies self.new) (done_reply result) }
         ensures may { MaySubscribe result };
 
-    /// Ends a live subscription. It does not allocate. A machine whose replies are known always returns Ok, and adds no reply.
+    /// Ends a live subscription. It does not allocate. A machine whose replies are known always
+    /// returns Ok, and adds no reply.
     fn cancel(&mut self, id: SubId) -> Result<(), NoSuchId>
         ensures state { Becomes (state self.old) (state self.new) (λ old new.
             Cancels id.0 old result new) }
         ensures replies { Becomes (replies self.old) (replies self.new) (λ old new.
             (new ≡ old) × (result ≡ Ok tt)) };
 
-    /// Returns the frames that bring a subscriber from the view that it was last shown to its current one. Returns `NoSuchId` if the id
-    /// is not live, and `Oversize`, with the length of the first such message, if a message is longer than the limit; the subscription
-    /// has then ended.
+    /// Returns the frames that bring a subscriber from the view that it was last shown to its
+    /// current one. Returns `NoSuchId` if the id is not live, and `Oversize`, with the length of
+    /// the first such message, if a message is longer than the limit; the subscription has then
+    /// ended.
     fn drain(&mut self, id: SubId) -> Result<List<Bytes>, HubFault>
         ensures state { Becomes (state self.old) (state self.new) (λ old new.
             Answers old (frames_at old id.0) (drained old id.0) result new) }
         ensures replies { Grows (replies self.old) (replies self.new) (drain_reply id result) }
         ensures may { MayDrain id result };
 
-    /// Returns the verdict on a request to a port of a Pod. It changes no view and no subscription. Returns `Pattern` only if a regular
-    /// expression was refused in this call.
+    /// Returns the verdict on a request to a port of a Pod. It changes no view and no subscription.
+    /// Returns `Pattern` only if a regular expression was refused in this call.
     fn simulate<P: Patterns, L>(
         &mut self,
         request: &Request,

@@ -17,7 +17,8 @@ use row_views::query_views::QueryViews;
 use view_types::request::Request;
 use view_types::server_view::{AuthzRow, RouteRow, ServerView};
 
-/// The authorizations of the routes of a namespace over the objects of a store, whether or not they are kept.
+/// The authorizations of the routes of a namespace over the objects of a store, whether or not they
+/// are kept.
 #[derive(Drop)]
 pub struct PeekedAuthz<'a> {
     pub views: &'a KeptViews,
@@ -43,7 +44,8 @@ impl RouteAuthz for PeekedAuthz<'_> {
     }
 }
 
-/// Returns the view of the port of a request, whether or not there is a subscription to it. Its routes are without their authorizations.
+/// Returns the view of the port of a request, whether or not there is a subscription to it. Its
+/// routes are without their authorizations.
 pub fn peek_port<L>(
     views: &KeptViews,
     store: &Store,

@@ -25,8 +25,9 @@ use view_types::request::Request;
 use view_types::verdict::Verdict;
 use watch_events::event::Event;
 
-/// A machine that returns the replies of its script, one after another, and keeps no objects. If the next reply is no possible result of
-/// a call, or there is none, the call returns Memory and the script does not advance. `simulate` matches no regular expression.
+/// A machine that returns the replies of its script, one after another, and keeps no objects. If
+/// the next reply is no possible result of a call, or there is none, the call returns Memory and
+/// the script does not advance. `simulate` matches no regular expression.
 #[derive(Drop)]
 pub struct ScriptMachine {
     /// The script. No call changes it.

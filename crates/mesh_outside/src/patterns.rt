@@ -93,7 +93,8 @@ impl Patterns for MemPatterns {
         // Patterns in `refuse` are refused, others matched without allocating. Only refusals count.
         ensures answer { result ≡ (if is_among pattern.now self.old.refuse then Err
             PatternFault.Refused else Ok (bytes_eq pattern.now text.now)) }
-        ensures count { self.new.count ≡ counted (is_among pattern.now self.old.refuse) self.old.count }
+        ensures count { self.new.count
+            ≡ counted (is_among pattern.now self.old.refuse) self.old.count }
     {
         if is_refused(self.refuse.as_slice(), pattern) {
             self.count = self.count.saturating_add(1);

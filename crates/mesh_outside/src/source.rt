@@ -112,7 +112,8 @@ impl<'a> Source for SureSource<'a> {
 
     fn read(&mut self, buf: &mut [u8]) -> Result<usize, Failed>
         ensures bound { ReadsAtMost result buf.new }
-        ensures bytes { ReadConsumes (Some self.old.bytes.now) (Some self.new.bytes.now) result buf.new }
+        ensures bytes { ReadConsumes (Some self.old.bytes.now)
+            (Some self.new.bytes.now) result buf.new }
         ensures cause { HasCause none_ever none_ever result }
 
         // A read moves all bytes that are left and fit the buffer.

@@ -17,8 +17,8 @@ pub fn spellings_differ()
         → method_of one ≡ method_of other → canonical one ≡ canonical other → one ≡ other }
 {}
 
-/// States that a message whose rows have no labels, identity and hint takes at most 84 bytes for each address and 11 more, far below the
-/// 2^32 bytes that no frame can hold.
+/// States that a message whose rows have no labels, identity and hint takes at most 84 bytes for
+/// each address and 11 more, far below the 2^32 bytes that no frame can hold.
 pub fn plain_messages_are_short()
     ensures { (message : Message) → IsPlainMessage message
         → length (canonical message) ≤ 84 * count_in message + 11 }

@@ -113,7 +113,8 @@ impl<'r, R> MioLinks<'r, R> {
     fn failed(&mut self) -> LinkFault
         ensures faults { self.new.faults ≡ counted (is_failed (Err result)) self.old.faults }
         ensures pendings { self.new.pendings ≡ counted (is_pending (Err result)) self.old.pendings }
-        ensures later { (self.old.faults ≤ self.new.faults) × (self.old.pendings ≤ self.new.pendings) }
+        ensures later { (self.old.faults ≤ self.new.faults) ×
+            (self.old.pendings ≤ self.new.pendings) }
         ensures none { result ≢ LinkFault.Memory }
     {
         self.faults = self.faults.saturating_add(1);
@@ -124,7 +125,8 @@ impl<'r, R> MioLinks<'r, R> {
     fn pending(&mut self) -> LinkFault
         ensures faults { self.new.faults ≡ counted (is_failed (Err result)) self.old.faults }
         ensures pendings { self.new.pendings ≡ counted (is_pending (Err result)) self.old.pendings }
-        ensures later { (self.old.faults ≤ self.new.faults) × (self.old.pendings ≤ self.new.pendings) }
+        ensures later { (self.old.faults ≤ self.new.faults) ×
+            (self.old.pendings ≤ self.new.pendings) }
         ensures none { result ≢ LinkFault.Memory }
     {
         self.pendings = self.pendings.saturating_add(1);
@@ -154,7 +156,8 @@ impl<'r, R> MioLinks<'r, R> {
         requires { at < vec_len self.old.links }
         ensures faults { self.new.faults ≡ counted (is_failed (Err result)) self.old.faults }
         ensures pendings { self.new.pendings ≡ counted (is_pending (Err result)) self.old.pendings }
-        ensures later { (self.old.faults ≤ self.new.faults) × (self.old.pendings ≤ self.new.pendings) }
+        ensures later { (self.old.faults ≤ self.new.faults) ×
+            (self.old.pendings ≤ self.new.pendings) }
         ensures none { result ≢ LinkFault.Memory }
     {
         if kind == ErrorKind::WouldBlock {
@@ -301,7 +304,8 @@ impl<'r, R: Wait> Links for MioLinks<'r, R> {
 
     fn poll(&mut self, wait: bool) -> Result<List<LinkEvent>, PollFault>
         ensures few { IfOk result (λ events. length events ≤ 1024) }
-        ensures fresh { (t : List LinkCall) → None ≡ Some t → IfOk result (λ events. AreNew t events) }
+        ensures fresh { (t : List LinkCall) → None ≡ Some t
+            → IfOk result (λ events. AreNew t events) }
         ensures traced { Continues None None (λ t. poll_made wait result) }
         ensures cause { KeptInPoll (counts_of self.old.faults self.old.pendings)
             (counts_of self.new.faults self.new.pendings) result }

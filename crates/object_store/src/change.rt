@@ -45,7 +45,8 @@ impl Change {
     pub fn taken(alloc: Global, before: Option<Object>) -> Result<Change, memory::Memory>
         ensures old { IfOk result (λ change. change.old ≡ option_to_list before) }
         ensures new { IfOk result (λ change. change.new ≡ []) }
-        ensures marks { IfOk result (λ change. change.marks ≡ marks_of_all (option_to_list before)) }
+        ensures marks { IfOk result
+            (λ change. change.marks ≡ marks_of_all (option_to_list before)) }
     {
         let old = listed(alloc, before)?;
         Change::from(alloc, List::new(alloc), old, List::new(alloc))

@@ -35,7 +35,8 @@ pub fn relist(
     requires within { len objects.old ≤ limit }
     ensures ok { IfOk result (Relists objects.old objects.new kind items) }
     ensures room { OnOk result (exceeds objects.old limit kind items ≡ false) }
-    ensures full { IfErr result (IsFull objects.old objects.new (exceeds objects.old limit kind items)) }
+    ensures full { IfErr result
+        (IsFull objects.old objects.new (exceeds objects.old limit kind items)) }
     ensures kept { len objects.new ≤ limit }
     ensures keys { OnOk result (AreKept objects.old keys.old → AreKept objects.new keys.new) }
     ensures keys_stay { IfErr result (StayUnlessSpent keys.old keys.new) }

@@ -132,7 +132,8 @@ impl Store {
         name: &Text,
         steps: &mut Steps<L>,
     ) -> Option<&Object>
-        ensures value { option_copied result ≡ map.get self.now.objects (key_with kind ns.now name.now) }
+        ensures value { option_copied result
+            ≡ map.get self.now.objects (key_with kind ns.now name.now) }
         ensures at_key { IfSome result (λ o. key_of o.now ≡ key_with kind ns.now name.now) }
         ensures steps { steps.new ≡ (if is_some result then min (steps.old + 1)
             (2 ^ 64 - 1) else steps.old) }
@@ -233,7 +234,8 @@ impl Store {
     /// Sets the object at its key. Returns `Full` if the key is new and `limit` objects are held.
     pub fn set(&mut self, object: Object) -> Result<Change, StoreFault>
         ensures ok { IfOk result (Puts self.old.objects self.new.objects object) }
-        ensures room { OnOk result (lacks_room self.old.objects self.old.limit (key_of object) ≡ false) }
+        ensures room { OnOk result
+            (lacks_room self.old.objects self.old.limit (key_of object) ≡ false) }
         ensures refused { IfErr result (Refuses self.old self.new
             (lacks_room self.old.objects self.old.limit (key_of object))) }
         ensures was_spent { self.old.spent ≡ true → IsErrOf result StoreFault.Memory }

@@ -54,7 +54,8 @@ fn shown(alloc: Global, message: Message) -> Result<EndpointView, Memory>
     }
 }
 
-/// How many rows each Add has, how many addresses each Remove in an error's place, and 0 for another message.
+/// How many rows each Add has, how many addresses each Remove in an error's place, and 0 for
+/// another message.
 fn sizes(alloc: Global, messages: &List<Message>) -> Result<Vec<Result<usize, usize>>, Memory> {
     let mut sizes = Vec::new(alloc);
     for message in messages.as_slice() {
@@ -93,7 +94,8 @@ fn folded(alloc: Global, view: Option<&View>) -> Result<Fold, Memory>
     Ok(fold)
 }
 
-/// How large the messages from one view to another are, and whether who saw the one sees the other after them.
+/// How large the messages from one view to another are, and whether who saw the one sees the other
+/// after them.
 fn change(
     alloc: Global,
     old: Option<&View>,

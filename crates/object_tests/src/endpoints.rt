@@ -51,8 +51,8 @@ Service {"metadata":{"name":"web","namespace":"app"},"spec":{"type":"ExternalNam
 EndpointSlice {"metadata":{"name":"web-a","namespace":"app","labels":{"kubernetes.io/service-name":"web"}},"addressType":"IPv4","endpoints":[{"addresses":["10.1.2.3"]}],"ports":[{"name":"http","port":8080}]}
     => {exists:false,rows:[]}"#;
 
-/// The same with Pods: of the mesh, of another control plane, of none and not held; in another namespace; in the network of
-/// the host; with opaque ports that are usual, noted, and none.
+/// The same with Pods: of the mesh, of another control plane, of none and not held; in another
+/// namespace; in the network of the host; with opaque ports that are usual, noted, and none.
 const PODS: &str = r#"80
 Service {"metadata":{"name":"web","namespace":"app"},"spec":{"ports":[{"name":"http","port":80}]}}
 Pod {"metadata":{"name":"web-1","namespace":"app","labels":{"linkerd.io/control-plane-ns":"linkerd"}},"spec":{"serviceAccountName":"web"}}

@@ -7,8 +7,9 @@ use std::test::Fail;
 use view_types::config::Config;
 use view_types::query::Method;
 
-/// A method, the bytes of a message that answers it, and the bytes as which it is written again, or its first fault; and what
-/// the row is about. `protoc --decode` reads the good ones; the faults are those of the strict reader alone.
+/// A method, the bytes of a message that answers it, and the bytes as which it is written again, or
+/// its first fault; and what the row is about. `protoc --decode` reads the good ones; the faults
+/// are those of the strict reader alone.
 const MESSAGES: &str = r#"Get 1a007801 => 1a00 : a field that isn't known
 Get 1a001a00 => Repeated { field: 3 } : a member of a choice twice
 Get 07 => Wire(BadTag { at: 0 }) : a wire type that isn't one, and field 0
@@ -340,7 +341,8 @@ WatchPort2 07 => Wire(BadTag { at: 0 }) : a bad tag
 WatchPort2 1a0107 => Wire(BadTag { at: 0 }) : a bad tag among keys
 "#;
 
-/// A method, the bytes of a request to it, and the query, or the first fault; and what the row is about.
+/// A method, the bytes of a request to it, and the query, or the first fault; and what the row is
+/// about.
 const REQUESTS: &str =
     r#"Get 121c7765622e6170702e7376632e636c75737465722e6c6f63616c3a38301200 => Repeated { field: 2 } : a second path, which is empty
 Get 121c7765622e6170702e7376632e636c75737465722e6c6f63616c3a3830 => Get{ns:"app",name:"web",port:80,ctx:{ns:-,node:-}} : a name

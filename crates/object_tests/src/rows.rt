@@ -1,6 +1,8 @@
-//! Tables of objects, each with what it is read as or with its first fault, and the test that reads them.
+//! Tables of objects, each with what it is read as or with its first fault, and the test that reads
+//! them.
 //!
-//! A row that has no arrow, no kind or no JSON, or whose kind isn't known, fails as one does that is told otherwise.
+//! A row that has no arrow, no kind or no JSON, or whose kind isn't known, fails as one does that
+//! is told otherwise.
 
 mod core_kinds;
 mod policy;
@@ -93,7 +95,8 @@ fn is_so(alloc: Global, row: &str) -> bool {
     }
 }
 
-/// The first row of a table that isn't told as it says. An empty table has one empty row, which isn't so.
+/// The first row of a table that isn't told as it says. An empty table has one empty row, which
+/// isn't so.
 fn wrong_row<'t>(alloc: Global, table: &'t str, mark: &str) -> Option<&'t str> {
     for row in table.split(mark) {
         if !is_so(alloc, row) {
@@ -123,8 +126,8 @@ fn objects(rt: HostRuntime) {
     assert_eq!(rt; wrong_row(alloc, route::OBJECTS, "\n\n"), None);
 }
 
-// Rows that aren't so: empty, without an arrow, without a kind, of a kind that there isn't, without JSON, told too
-// shortly, told too long, and told otherwise.
+// Rows that aren't so: empty, without an arrow, without a kind, of a kind that there isn't, without
+// JSON, told too shortly, told too long, and told otherwise.
 const NOT_SO: &str = r#"
 Service {}
 {} => Missing object.metadata.name

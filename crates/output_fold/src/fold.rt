@@ -12,9 +12,9 @@ use std::alloc::Global;
 use view_fold::folding::Fold;
 use view_types::query::Method;
 
-/// Reads the lines that `replay` wrote, and writes the `view` lines that bring a subscriber without a view to the view that the frames of
-/// the id give. If a line cannot be read, it writes why the first such line is refused, and no view; it reads the lines after that one,
-/// and ignores them.
+/// Reads the lines that `replay` wrote, and writes the `view` lines that bring a subscriber without
+/// a view to the view that the frames of the id give. If a line cannot be read, it writes why the
+/// first such line is refused, and no view; it reads the lines after that one, and ignores them.
 pub fn fold_file<S: Source, K: Sink>(
     alloc: Global,
     method: Method,
@@ -25,7 +25,8 @@ pub fn fold_file<S: Source, K: Sink>(
 ) -> Status
     requires { 1 ≤ limits.now.frame_addrs }
 
-    // If all lines were read, what was written is the defined output, and the status says whether a line could not be read.
+    // If all lines were read, what was written is the defined output, and the status says whether a
+    // line could not be read.
     ensures output { OnEnd result (WritesFolded method id.0 limits.now (S.left input.old)
         (K.held out.old) (K.held out.new)) }
 

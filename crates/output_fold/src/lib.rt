@@ -1,8 +1,10 @@
-//! Reads the output of `replay`, and writes the view of a subscriber that was sent the frames of one id.
+//! Reads the output of `replay`, and writes the view of a subscriber that was sent the frames of
+//! one id.
 //!
-//! Depends on line_run for the loop, on proto_wire and proxy_proto for the contents of frames, on view_fold for the view that messages
-//! give, on view_diff for the messages of a view, and on feed_history for the lines that show it. `specs/Lines` defines the contents of a
-//! line for the frames of an id, and `specs/Folded` what is written for an input.
+//! Depends on line_run for the loop, on proto_wire and proxy_proto for the contents of frames, on
+//! view_fold for the view that messages give, on view_diff for the messages of a view, and on
+//! feed_history for the lines that show it. `specs/Lines` defines the contents of a line for the
+//! frames of an id, and `specs/Folded` what is written for an input.
 #![tactic(auto)]
 
 pub mod fault;

@@ -47,7 +47,8 @@ pub fn push_view(
 ) -> Result<(), Memory>
     requires some_addresses { 1 ≤ limits.now.frame_addrs }
     requires orderly { IsOrderlyIfShown (Some view.now) }
-    ensures { OnOk result (out.new.items ≡ out.old.items ++ view_lines id.0 limits.now (Some view.now)) }
+    ensures { OnOk result
+        (out.new.items ≡ out.old.items ++ view_lines id.0 limits.now (Some view.now)) }
 {
     let messages = batch(alloc, None, view, limits)?;
     push_messages(alloc, id, limits.message, &messages, out)

@@ -16,7 +16,8 @@ use history_laws::laws::{
     messages_are_sendable, messages_read_back, replays_read_lawfully,
 };
 
-/// States that a fold of a replay's output writes the lines of the view over the objects held at the end.
+/// States that a fold of a replay's output writes the lines of the view over the objects held at
+/// the end.
 pub fn frames_and_objects_agree()
     ensures { (config : Config) (limits : Limits) (pat : Pat)
         → FoldAgrees (replay_of config limits pat) }
@@ -34,7 +35,8 @@ pub fn same_events_same_objects()
     ensures { (one other : Program) → SameEventsSameObjects one other }
 {}
 
-/// States that a fold of a replay's output agrees with the view shown by a program that applies the events of the same input.
+/// States that a fold of a replay's output agrees with the view shown by a program that applies the
+/// events of the same input.
 pub fn a_fold_agrees_with_what_is_shown()
     ensures { (config : Config) (limits : Limits) (pat : Pat) (other : Program)
         → FoldAgreesWith (replay_of config limits pat) other }
@@ -49,7 +51,8 @@ pub fn words_give_lawful_configurations()
         → ConfigIs IsLawfulConfig command }
 {}
 
-/// States that a fold of a replay's output writes what a diagnosis of its input writes after its refused lines.
+/// States that a fold of a replay's output writes what a diagnosis of its input writes after its
+/// refused lines.
 pub fn frames_and_a_diagnosis_agree()
     ensures { (config : Config) (limits : Limits) (pat : Pat)
         → FoldAgreesWithDiagnosis config limits pat }

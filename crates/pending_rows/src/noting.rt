@@ -62,7 +62,8 @@ fn note_one(pending: &mut Vec<Stood>, stood: Stood)
     }
 }
 
-/// Returns the index at which an address is noted, or as an error the index at which it would be inserted.
+/// Returns the index at which an address is noted, or as an error the index at which it would be
+/// inserted.
 fn place(pending: &[Stood], pair: &(Ip, u16)) -> Result<usize, usize>
     requires { AreKeyed pending.now }
     ensures hit { IfOk result (IsHit (λ s. pair_cmp (address s) pair.now) pending.now) }

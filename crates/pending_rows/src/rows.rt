@@ -44,8 +44,8 @@ impl PendingRows {
         self.exists == exists && self.pending.is_empty()
     }
 
-    /// Notes addresses whose rows have changed, each with the row that was there before, which is copied. An address that is noted already
-    /// keeps its row. If memory runs out, none is noted.
+    /// Notes addresses whose rows have changed, each with the row that was there before, which is
+    /// copied. An address that is noted already keeps its row. If memory runs out, none is noted.
     pub fn note(
         &mut self,
         alloc: Global,
@@ -63,7 +63,8 @@ impl PendingRows {
         Ok(())
     }
 
-    /// Returns the messages that bring the subscriber from what it was last shown to the current endpoints.
+    /// Returns the messages that bring the subscriber from what it was last shown to the current
+    /// endpoints.
     pub fn messages(
         &self,
         alloc: Global,
@@ -78,7 +79,8 @@ impl PendingRows {
         batch_since(alloc, self.exists, self.pending.as_slice(), now, limits)
     }
 
-    /// Returns these messages, and clears the notes. If memory runs out, the notes stay as they were.
+    /// Returns these messages, and clears the notes. If memory runs out, the notes stay as they
+    /// were.
     pub fn drain(
         &mut self,
         alloc: Global,

@@ -56,7 +56,8 @@ fn all_drained_are_one_group(rt: HostRuntime) -> Result<(), Memory> {
     Ok(())
 }
 
-// What was made for the first of those who come one after another serves the others too, until a change.
+// What was made for the first of those who come one after another serves the others too, until a
+// change.
 #[test]
 fn one_after_another(rt: HostRuntime) -> Result<(), Memory> {
     let mut groups = EndpointGroups::new(rt.alloc())?;
@@ -75,7 +76,8 @@ fn one_after_another(rt: HostRuntime) -> Result<(), Memory> {
     Ok(())
 }
 
-// The address 1 changes before the first is drained, and the address 2 after it. Then both are drained.
+// The address 1 changes before the first is drained, and the address 2 after it. Then both are
+// drained.
 #[test]
 fn drained_at_different_times(rt: HostRuntime) -> Result<(), Memory> {
     let mut groups = EndpointGroups::new(rt.alloc())?;
@@ -121,8 +123,8 @@ fn groups_that_differ_share_nothing(rt: HostRuntime) -> Result<(), Memory> {
     Ok(())
 }
 
-// One of two is cancelled while an address is pending for both, and then the other. A third comes in
-// between, and is told all.
+// One of two is cancelled while an address is pending for both, and then the other. A third comes
+// in between, and is told all.
 #[test]
 fn one_is_cancelled_with_changes_pending(rt: HostRuntime) -> Result<(), Memory> {
     let mut groups = EndpointGroups::new(rt.alloc())?;

@@ -44,7 +44,8 @@ pub fn rows_among<S: Subject, L>(
 ) -> Result<List<AuthzRow>, Memory>
     ensures rows { IfOk result (λ rows.
         rows ≡ filter_map (authz_row from.now.config.now from.now.store.now.objects)
-        (filter (S.applies from.now.store.now.objects subject.now) (map (λ o. o.now) objects.now))) }
+        (filter (S.applies from.now.store.now.objects subject.now)
+        (map (λ o. o.now) objects.now))) }
     ensures steps { steps.new ≤ steps.old + cost from.now.store.now.objects
         (flat_map (λ o. needs_of o.now) objects.now) }
 {

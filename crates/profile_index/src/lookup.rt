@@ -39,7 +39,8 @@ impl Lookup<'_> {
         ensures row { IfOk result (λ found. found.row ≡ profile self.now.from.config.now
             self.now.from.store.now.objects target.now self.now.client.now) }
         ensures marks { IfOk result (λ found. found.marks ≡ profile_reads_of
-            self.now.from.config.now self.now.from.store.now.objects self.now.client.now target.now) }
+            self.now.from.config.now self.now.from.store.now.objects self.now.client.now
+            target.now) }
         ensures steps { steps.new ≤ steps.old + cost self.now.from.store.now.objects
             (profile_reads_of self.now.from.config.now self.now.from.store.now.objects
             self.now.client.now target.now) }

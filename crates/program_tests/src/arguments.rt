@@ -58,7 +58,8 @@ fn word_of(alloc: Global, word: &[u8]) -> Result<Result<String, Status>, Fail> {
     Ok(Ok(text))
 }
 
-// The words are all arguments except the program's name. A word that is not UTF-8 makes the command line invalid.
+// The words are all arguments except the program's name. A word that is not UTF-8 makes the command
+// line invalid.
 #[test]
 fn words_of_arguments(rt: HostRuntime) -> Result<(), Fail> {
     let alloc = rt.alloc();

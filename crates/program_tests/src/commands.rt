@@ -110,8 +110,8 @@ serve --bind localhost:8086
 serve --bind 127.0.0.1:8086 --id 1
 serve --default-policy deny";
 
-// Returns the result of words under these limits: the status, the number of reads, the number of writes, and the number of bytes written.
-// The reads and the writes with these numbers fail.
+// Returns the result of words under these limits: the status, the number of reads, the number of
+// writes, and the number of bytes written. The reads and the writes with these numbers fail.
 fn calls_of(
     alloc: Global,
     words: &str,
@@ -136,7 +136,8 @@ fn nothing_is_read_for_other_words(rt: HostRuntime) -> Result<(), Fail> {
     Ok(())
 }
 
-// The words of a server give its configuration. Nothing is read or written, so the reads and writes that would fail do not matter.
+// The words of a server give its configuration. Nothing is read or written, so the reads and writes
+// that would fail do not matter.
 #[test]
 fn a_server_is_configured(rt: HostRuntime) -> Result<(), Fail> {
     let alloc = rt.alloc();

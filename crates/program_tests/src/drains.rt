@@ -6,7 +6,8 @@ use mesh_base::limits::Limits;
 use std::alloc::Global;
 use std::test::Fail;
 
-// Lines, and frames that are written, each after its name. One string is proved in less time than a table of strings.
+// Lines, and frames that are written, each after its name. One string is proved in less time than a
+// table of strings.
 const NAMED: &str = r#"broken: {"type":"ADDED"
 drain: {"control":"drain","id":1}
 drain_2: {"control":"drain","id":2}
@@ -207,7 +208,8 @@ const ADDED: (&str, &str) = ("0a0f", "18904e");
 
 const REMOVED: (&str, &str) = ("", "");
 
-// Appends a frame of a range of endpoints: its length and the head of the message, and the addresses.
+// Appends a frame of a range of endpoints: its length and the head of the message, and the
+// addresses.
 fn push_frame(
     text: &mut String,
     head: &str,
@@ -241,8 +243,8 @@ fn many_lines(alloc: Global) -> Result<String, Fail> {
     Ok(text)
 }
 
-// For each frame its length and the head of the message, whether it adds, and the range of endpoints. The new endpoints are first, 1,000 in
-// a message, and then the old ones are removed.
+// For each frame its length and the head of the message, whether it adds, and the range of
+// endpoints. The new endpoints are first, 1,000 in a message, and then the old ones are removed.
 const FRAMES: [(&str, bool, u32, u32, u32); 8] = [
     ("0000426c0ae88401", true, 0, 0, 1000),
     ("0000426c0ae88401", true, 0, 1000, 2000),

@@ -110,7 +110,8 @@ fn small_limits(rt: HostRuntime) -> Result<(), Fail> {
     Ok(())
 }
 
-// Returns the line of a Service, padded with spaces to a length, and then a subscription whose line has no line feed.
+// Returns the line of a Service, padded with spaces to a length, and then a subscription whose line
+// has no line feed.
 fn padded(alloc: Global, length: usize) -> Result<String, Fail> {
     let mut text = String::from_str(alloc, SERVICE)?;
     for _ in SERVICE.len()..length {
@@ -132,7 +133,8 @@ fn padded_comes_to(alloc: Global, length: usize, expected: &str) -> Result<bool,
     writes_within(alloc, &limits, &text, expected)
 }
 
-// A line of the greatest length is read, and one that is longer by a byte is not. The last line needs no line feed.
+// A line of the greatest length is read, and one that is longer by a byte is not. The last line
+// needs no line feed.
 #[test]
 fn long_lines(rt: HostRuntime) -> Result<(), Fail> {
     let alloc = rt.alloc();
@@ -142,7 +144,8 @@ fn long_lines(rt: HostRuntime) -> Result<(), Fail> {
     Ok(())
 }
 
-// Returns how a replay of three lines ends if these reads and writes fail and the input has this limit, and how many bytes are written.
+// Returns how a replay of three lines ends if these reads and writes fail and the input has this
+// limit, and how many bytes are written.
 fn failing(
     alloc: Global,
     reads: &[u64],
@@ -177,8 +180,9 @@ fn faults_and_limits(rt: HostRuntime) -> Result<(), Fail> {
     Ok(())
 }
 
-// Whether a replay of three lines in which the call with this number fails ends with the status of that fault and has written a prefix of
-// the whole output, or, if there is no such call, ends with the whole output.
+// Whether a replay of three lines in which the call with this number fails ends with the status of
+// that fault and has written a prefix of the whole output, or, if there is no such call, ends with
+// the whole output.
 fn is_front(alloc: Global, reads: &[u64], writes: &[u64], fault: Status) -> Result<bool, Fail> {
     let text = format!(in alloc; "{SERVICE}\n{SLICE}\n{GET}\n")?;
     let mut input = source_of(alloc, &text, reads)?;
@@ -206,7 +210,8 @@ fn a_fault_at_each_call(rt: HostRuntime) -> Result<(), Fail> {
     Ok(())
 }
 
-// Returns the addresses of 2,001 endpoints, as in the line of the slice, and the frames that carry them.
+// Returns the addresses of 2,001 endpoints, as in the line of the slice, and the frames that carry
+// them.
 fn many(alloc: Global) -> Result<(String, String), Fail> {
     let mut points = String::new(alloc);
     let mut frames = String::new(alloc);

@@ -7,7 +7,8 @@ use mesh_base::limits::Limits;
 use std::alloc::Global;
 use std::test::Fail;
 
-// A method, a case, the lines that are read, and those that are written. One string is proved in less time than a table of strings.
+// A method, a case, the lines that are read, and those that are written. One string is proved in
+// less time than a table of strings.
 const FOLDED: &str =
     "Get, two endpoints, one of which goes: frame 1 00000000240a220a0f0a0a0a050d0302010a10903f18904e0a0f0a0a0a050d0402010a10903f18904e|frame 1 000000000e120c0a0a0a050d0302010a10903f => view 1 00000000130a110a0f0a0a0a050d0402010a10903f18904e
 Get, the greater address first: frame 1 00000000130a110a0f0a0a0a050d0402010a10903f18904e|frame 1 00000000130a110a0f0a0a0a050d0302010a10903f18904e => view 1 00000000240a220a0f0a0a0a050d0302010a10903f18904e0a0f0a0a0a050d0402010a10903f18904e

@@ -1,6 +1,7 @@
-//! Tests of `top`, over inputs and outputs in memory: whole runs with their bytes, each refusal of a line, the example cluster, arguments,
-//! profiles, inbound policies whole and by rows, outbound policies, verdicts, probes, drains, folds, samples and options. They are in a
-//! crate of their own, since a crate with tests is proved twice.
+//! Tests of `top`, over inputs and outputs in memory: whole runs with their bytes, each refusal of
+//! a line, the example cluster, arguments, profiles, inbound policies whole and by rows, outbound
+//! policies, verdicts, probes, drains, folds, samples and options. They are in a crate of their
+//! own, since a crate with tests is proved twice.
 //!
 //! Depends on command_run.
 #![tactic(auto)]

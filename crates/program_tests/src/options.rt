@@ -59,7 +59,8 @@ frame_of_both: frame 1 00000000240a220a0f0a0a0a050d0302010a10903f18904e0a0f0a0a0
 frame_of_removal: frame 1 000000000e120c0a0a0a050d0302010a10903f
 "#;
 
-// The words of a command, a case, the names of its lines, and the output. Each option occurs where it changes the output.
+// The words of a command, a case, the names of its lines, and the output. Each option occurs where
+// it changes the output.
 const OPTIONS: &str =
     r#"replay --default-policy=deny | a default policy, with =: pod watch_port => frame 1 000000000408011005
 replay --default-policy audit | a default policy, with a blank: pod of_pod watch_other_port => verdict 2 allowed default audit, frame 1 000000000408011006
@@ -120,7 +121,8 @@ const LIMITED: &str =
 objects=2 | diagnose --id 1 --method Get --path web.app.svc.cluster.local:80 | a list of too many: service slice services_a_and_b => refused 3 Full 2, view 1 00000000130a110a0f0a0a0a050d0302010a10903f18904e
 message=4 | diagnose --id 1 --method Get --path web.app.svc.cluster.local:80 | a message that is too long: service slice half => refused 3 NotJson, oversize 1 19";
 
-// Invalid command lines. Two blanks have an empty word between them, and so has a blank at the end of a line after it.
+// Invalid command lines. Two blanks have an empty word between them, and so has a blank at the end
+// of a line after it.
 const REFUSED: &str = "replay --default-policy open
 replay --default-policy
 replay --default-policy=
@@ -222,7 +224,8 @@ fn words_that_are_refused(rt: HostRuntime) -> Result<(), Fail> {
     Ok(())
 }
 
-// Lines of the generated cluster are refused if its domain is not the configured one, and the status says so.
+// Lines of the generated cluster are refused if its domain is not the configured one, and the
+// status says so.
 #[test]
 fn a_sample_with_refused_lines(rt: HostRuntime) -> Result<(), Fail> {
     let words = "sample 5 --cluster-domain example.org";

@@ -2,8 +2,8 @@ use crate::cases::{holds, holds_within};
 use mesh_base::limits::Limits;
 use std::test::Fail;
 
-// Lines, and frames that are written, each after its name. Google's protoc reads each frame, and writes the same bytes again:
-// echo "frame 1 HEX" | tools/decode 1=Watch
+// Lines, and frames that are written, each after its name. Google's protoc reads each frame, and
+// writes the same bytes again: echo "frame 1 HEX" | tools/decode 1=Watch
 const NAMED: &str =
     r#"pod: {"type":"ADDED","object":{"apiVersion":"v1","kind":"Pod","metadata":{"name":"web-1","namespace":"app","labels":{"app":"web"}},"spec":{"containers":[{"ports":[{"name":"http","containerPort":8080}]}]}}}
 watch_port: {"control":"subscribe","id":1,"query":{"method":"WatchPort","workload":"app:web-1","port":8080}}

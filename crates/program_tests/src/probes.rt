@@ -2,8 +2,8 @@ use crate::cases::{holds, holds_by};
 use mesh_base::limits::Limits;
 use std::test::Fail;
 
-// Lines, and frames that are written, each after its name. Google's protoc reads each frame, and writes the same bytes again:
-// echo "frame 1 HEX" | tools/decode 1=WatchPort
+// Lines, and frames that are written, each after its name. Google's protoc reads each frame, and
+// writes the same bytes again: echo "frame 1 HEX" | tools/decode 1=WatchPort
 const NAMED: &str =
     r#"server: {"type":"ADDED","object":{"apiVersion":"policy.linkerd.io/v1beta3","kind":"Server","metadata":{"name":"web","namespace":"app"},"spec":{"podSelector":{"matchLabels":{"app":"web"}},"port":8080}}}
 pod: {"type":"ADDED","object":{"apiVersion":"v1","kind":"Pod","metadata":{"name":"web-1","namespace":"app","labels":{"app":"web"}},"spec":{"containers":[{"ports":[{"name":"http","containerPort":8080}]}]}}}

@@ -2,8 +2,8 @@ use crate::cases::{holds, holds_within};
 use mesh_base::limits::Limits;
 use std::test::Fail;
 
-// Lines, and frames that are written, each after its name. Google's protoc reads each frame, and writes the same bytes again:
-// echo "frame 1 HEX" | tools/decode 1=GetProfile
+// Lines, and frames that are written, each after its name. Google's protoc reads each frame, and
+// writes the same bytes again: echo "frame 1 HEX" | tools/decode 1=GetProfile
 const NAMED: &str =
     r#"service_noted: {"type":"ADDED","object":{"apiVersion":"v1","kind":"Service","metadata":{"name":"web","namespace":"app","annotations":{"config.linkerd.io/opaque-ports":"x, 070-090"}},"spec":{"clusterIP":"10.96.0.10","ports":[{"name":"http","port":80}]}}}
 profile_with_all: {"type":"ADDED","object":{"apiVersion":"linkerd.io/v1alpha2","kind":"ServiceProfile","metadata":{"name":"web.app.svc.cluster.local","namespace":"app"},"spec":{"retryBudget":{"retryRatio":0.2},"routes":[{"name":"get","condition":{"method":"GET"},"isRetryable":true,"timeout":"1.5s"}],"dstOverrides":[{"authority":"b.app.svc.cluster.local","weight":"500m"}]}}}

@@ -57,7 +57,8 @@ pub(crate) fn ended(outcome: Outcome) -> Result<Status, Fail> {
     }
 }
 
-// Returns the output of words for bytes in memory. No read and no write fails, so all bytes are read unless memory runs out.
+// Returns the output of words for bytes in memory. No read and no write fails, so all bytes are
+// read unless memory runs out.
 fn replayed(
     alloc: Global,
     words: &[Text],

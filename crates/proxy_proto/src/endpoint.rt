@@ -68,7 +68,8 @@ impl Part for (Text, Text) {
     }
 }
 
-/// Whether an endpoint accepts HTTP/2, and the port at which its proxy accepts tunnelled connections.
+/// Whether an endpoint accepts HTTP/2, and the port at which its proxy accepts tunnelled
+/// connections.
 #[derive(Clone, Copy)]
 pub struct Hint {
     pub h2: bool,

@@ -5,12 +5,13 @@ use mesh_base::memory;
 use proto_wire::fault::WireFault;
 use std::alloc::{AllocError, AllocFailed};
 
-/// Why bytes are no valid message. `field` is the number of a field in the message type that has it, which may be a nested one.
+/// Why bytes are no valid message. `field` is the number of a field in the message type that has
+/// it, which may be a nested one.
 #[derive(Clone, Copy, Debug, PartialEq, Eq)]
 pub enum ProtoFault {
     Memory,
-    /// A record cannot be read. The offset counts bytes from the start of the innermost message. The fault is never out of memory, and
-    /// never one of frames.
+    /// A record cannot be read. The offset counts bytes from the start of the innermost message.
+    /// The fault is never out of memory, and never one of frames.
     Wire(WireFault),
     /// A field or a choice occurs more often than it may, or the key of a map occurs twice.
     Repeated { field: u32 },

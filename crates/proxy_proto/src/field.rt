@@ -30,8 +30,8 @@ fn has_member(fields: &[Field], records: &[RecRef<'_>]) -> bool
     false
 }
 
-/// Whether one more record with this field number would be too many. It goes over the earlier records only if their number is limited, so
-/// at most twice for each field of the message.
+/// Whether one more record with this field number would be too many. It goes over the earlier
+/// records only if their number is limited, so at most twice for each field of the message.
 pub fn is_one_more(fields: &[Field], seen: &[RecRef<'_>], number: u32, label: Label) -> bool
     ensures { result ≡ is_repeated fields.now (map view_record seen.now) number label }
 {

@@ -1,4 +1,5 @@
-//! Writers of fields whose zero value is omitted. They write backwards: each puts its bytes before those already written.
+//! Writers of fields whose zero value is omitted. They write backwards: each puts its bytes before
+//! those already written.
 ghost use Rattle.std.specs.Prelude.{◌≡◌, ◌++◌, OnOk};
 ghost use Rattle.proto_wire.specs.Wire.{spelling};
 ghost use Rattle.proxy_proto.specs.FieldRecords.{number_field, fixed64_field, bool_field, text_field, optional_text, optional_number, texts_field};

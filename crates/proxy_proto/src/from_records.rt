@@ -10,7 +10,8 @@ use mesh_base::memory::Memory;
 use proto_wire::scan::RecRef;
 use std::alloc::Global;
 
-/// A type that can be read from the records of a message. The records are checked before; a value is defined for others, too.
+/// A type that can be read from the records of a message. The records are checked before; a value
+/// is defined for others, too.
 pub trait FromRecords: Sized + Drop {
     ghost said: { List Rec → Self };
 

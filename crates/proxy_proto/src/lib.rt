@@ -1,9 +1,11 @@
-//! The messages that proxies are sent, and the requests that they send, as Protocol Buffers. Each message has one canonical encoding.
-//! Reading is strict: any bytes have exactly one meaning or a first fault.
+//! The messages that proxies are sent, and the requests that they send, as Protocol Buffers. Each
+//! message has one canonical encoding. Reading is strict: any bytes have exactly one meaning or a
+//! first fault.
 //!
-//! Depends on view_types for the messages, on mesh_text for the strings of requests, and on proto_wire. The writers cite
-//! `specs/Messages`, which defines the records of each message; they write backwards, so that lengths are known. The readers cite
-//! `specs/MessageReading` and `specs/RequestReading`: the result is the first fault of `specs/Faults` over the fields of
+//! Depends on view_types for the messages, on mesh_text for the strings of requests, and on
+//! proto_wire. The writers cite `specs/Messages`, which defines the records of each message; they
+//! write backwards, so that lengths are known. The readers cite `specs/MessageReading` and
+//! `specs/RequestReading`: the result is the first fault of `specs/Faults` over the fields of
 //! `specs/Tables`, or else the contents of the records.
 #![tactic(auto)]
 

@@ -50,7 +50,8 @@ fn width(ip: Ip) -> u8
     }
 }
 
-/// Returns the network of an address with a prefix of this many bits, or of 0 bits if the address is shorter.
+/// Returns the network of an address with a prefix of this many bits, or of 0 bits if the address
+/// is shorter.
 fn net_from(ip: Ip, bits: u64) -> Net
     ensures { result ≡ net_from ip bits }
 {

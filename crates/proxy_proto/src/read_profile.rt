@@ -46,7 +46,8 @@ fn label_named(alloc: Global, labels: &[(Text, Text)], key: &[u8]) -> Result<Tex
 fn read_name(alloc: Global, records: &[RecRef<'_>]) -> Result<Text, Memory>
     ensures { IfOk result
         (λ name.
-        name ≡ label_named (codes "route") (each_message 3 label_in (map view_record records.now))) }
+        name
+        ≡ label_named (codes "route") (each_message 3 label_in (map view_record records.now))) }
 {
     let labels = read_each::<(Text, Text)>(alloc, records, 3)?;
     label_named(alloc, labels.as_slice(), b"route")

@@ -72,7 +72,8 @@ impl Part for HttpMatch {
     }
 }
 
-/// Writes a header's name and value. This differs from the `Part` of a pair of strings, which is the entry of a map.
+/// Writes a header's name and value. This differs from the `Part` of a pair of strings, which is
+/// the entry of a map.
 #[tactic(auto, using(proto_wire::proofs::Spellings::spellings), unfolding(crate::specs::Routes::value_records))]
 fn put_value(out: &mut FrontBytes, pair: &(Text, Text)) -> Result<(), Memory>
     ensures { OnOk result (out.new ≡ spelling (value_records pair.now) ++ out.old) }

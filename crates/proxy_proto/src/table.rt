@@ -5,7 +5,8 @@ ghost use Rattle.proxy_proto.specs.Tables.{fields_of};
 use crate::table::FieldKind::{Fixed32, Fixed64, Message, Number, Text};
 use crate::table::Label::{Choice, Map, Repeated, Required, Single};
 
-/// The message types. Map entries have types of their own, and so do lists of matches, one for each kind of match.
+/// The message types. Map entries have types of their own, and so do lists of matches, one for each
+/// kind of match.
 #[derive(Clone, Copy)]
 pub enum Schema {
     Update,

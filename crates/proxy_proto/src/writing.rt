@@ -48,7 +48,8 @@ impl Part for Message {
     }
 }
 
-/// Returns a capacity in bytes that is enough for most messages with this number of rows. A longer message is moved as it grows.
+/// Returns a capacity in bytes that is enough for most messages with this number of rows. A longer
+/// message is moved as it grows.
 fn room_for(message: &Message) -> usize {
     match message {
         Message::Add(rows) => rows.len().saturating_mul(512),
@@ -76,7 +77,8 @@ pub fn write_message(alloc: Global, message: &Message) -> Result<Bytes, Memory>
     Ok(Bytes::copy_from_slice(alloc, out.as_slice())?)
 }
 
-/// Returns the frame that carries a message. Returns `Memory` also for a message of 2^32 bytes or more, which no frame can hold.
+/// Returns the frame that carries a message. Returns `Memory` also for a message of 2^32 bytes or
+/// more, which no frame can hold.
 pub fn frame_message(alloc: Global, message: &Message) -> Result<Bytes, Memory>
     ensures { IfOk result (λ bytes. bytes ≡ frame_of (canonical message.now)) }
 {

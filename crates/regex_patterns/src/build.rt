@@ -50,7 +50,8 @@ fn whole_of(alloc: Global, pattern: &str) -> Result<String, Memory>
 
 /// Whether a regular expression is found in a string.
 pub(crate) fn is_found(alloc: Global, regex: &Regex, text: &str) -> Result<bool, Memory>
-    ensures { IfOk result (λ found. found ≡ is_some (find_str (regex_pattern regex.now) text.now 0)) }
+    ensures { IfOk result
+        (λ found. found ≡ is_some (find_str (regex_pattern regex.now) text.now 0)) }
 {
     let mut matcher = regex.matcher(alloc)?;
     Ok(matcher.is_match(text))

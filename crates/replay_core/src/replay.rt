@@ -16,8 +16,8 @@ use mesh_outside::{Patterns, Sink, Source};
 use std::alloc::Global;
 use view_types::config::Config;
 
-/// Replays a recorded feed: reads its lines to the end and writes the output of each, or why it is refused, and at the end what each
-/// live subscription is sent.
+/// Replays a recorded feed: reads its lines to the end and writes the output of each, or why it is
+/// refused, and at the end what each live subscription is sent.
 pub fn replay<H: Machine, S: Source, K: Sink, P: Patterns>(
     alloc: Global,
     hub: &mut H,
@@ -29,8 +29,8 @@ pub fn replay<H: Machine, S: Source, K: Sink, P: Patterns>(
 ) -> Status
     requires { 1 ≤ limits.now.frame_addrs }
 
-    // If all lines were read, what was written is the defined output, each length in it is below 2 ^ 64, and the status says whether a
-    // line was refused.
+    // If all lines were read, what was written is the defined output, each length in it is below 2
+    // ^ 64, and the status says whether a line was refused.
     ensures output { OnEnd result (WritesOutput config.now limits.now
         (known_over P.Patterns patterns.old patterns.new)
         (H.state hub.old) (S.left input.old) (K.held out.old) (K.held out.new)) }

@@ -25,7 +25,8 @@ pub(crate) struct Replaying<'a, 'w, 'h, 'p, 'l, 's, H: Machine, P: Patterns, L> 
     pub(crate) hub: &'h mut H,
     /// Decides which patterns match, for simulated requests.
     pub(crate) patterns: &'p mut P,
-    /// The live ids, in ascending order. At the end of the input the list stays as it is, and `sent` counts those that were drained.
+    /// The live ids, in ascending order. At the end of the input the list stays as it is, and
+    /// `sent` counts those that were drained.
     pub(crate) live: &'l mut List<u32>,
     /// How many ids were drained at the end.
     pub(crate) sent: usize,
@@ -128,7 +129,8 @@ impl<H: Machine, P: Patterns, L> LineMachine for Replaying<'_, '_, '_, '_, '_, '
         }
     }
 
-    // Drains the next live id. The list stays as it is, so that an id that ends does not move the others.
+    // Drains the next live id. The list stays as it is, so that an id that ends does not move the
+    // others.
     fn end(&mut self, out: &mut Vec<u8>) -> Result<bool, AllocError> {
         let Some(id) = self.live.as_slice().get(self.sent).copied() else {
             return Ok(false);

@@ -45,7 +45,8 @@ pub(crate) fn report_text(
     Ok(format!(in alloc; "{report}")?)
 }
 
-// What standard error is told of replays, in pieces of each length: a terminal in full, another place without the counts.
+// What standard error is told of replays, in pieces of each length: a terminal in full, another
+// place without the counts.
 #[test]
 fn runs(rt: HostRuntime) -> Result<(), Fail> {
     let alloc = rt.alloc();

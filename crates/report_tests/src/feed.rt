@@ -43,7 +43,8 @@ fn assert_report(
     Ok(())
 }
 
-// What was recorded in place of a feed, by the first line that was refused, and what makes a feed of it.
+// What was recorded in place of a feed, by the first line that was refused, and what makes a feed
+// of it.
 #[test]
 fn hints(rt: HostRuntime) -> Result<(), Fail> {
     let alloc = rt.alloc();
@@ -109,10 +110,12 @@ fn hints(rt: HostRuntime) -> Result<(), Fail> {
     Ok(())
 }
 
-// Rows of four lines: the words, the names of the input's lines, the output, and what is told. A line that is `-` is empty.
+// Rows of four lines: the words, the names of the input's lines, the output, and what is told. A
+// line that is `-` is empty.
 //
-// First come views without what the query asks for. An event whose members come in an order that isn't looked through may be one
-// of any kind. Then come feeds in which nobody subscribes, a hint that is another line's, and an input that is no feed.
+// First come views without what the query asks for. An event whose members come in an order that
+// isn't looked through may be one of any kind. Then come feeds in which nobody subscribes, a hint
+// that is another line's, and an input that is no feed.
 const KINDS: &str = "\
 diagnose --id 1 --method Get --path web.app.svc.cluster.local
 -
@@ -286,7 +289,8 @@ fn servers(alloc: Global, end: &str) -> Result<String, Fail> {
     Ok(list)
 }
 
-// The names of an input's lines, and what is told of pages and second lists of a built-in kind. There are two kinds of routes.
+// The names of an input's lines, and what is told of pages and second lists of a built-in kind.
+// There are two kinds of routes.
 const LISTS: &str = "\
 subscribe page pods => warning: line 2 is one page of a list of kind Pod: it counts as the whole list and replaces all objects of the kind
 pods subscribe pods => warning: line 3 lists kind Pod again after line 1: each list counts as the whole and replaces all objects of the kind

@@ -26,7 +26,8 @@ fn bytes(alloc: Global, link: u32, bytes: &str) -> Result<MemStep, Fail> {
     ))
 }
 
-// Three links: a feed that is read in two pieces, a subscription that takes few bytes at once, and a link with an unknown first line.
+// Three links: a feed that is read in two pieces, a subscription that takes few bytes at once, and
+// a link with an unknown first line.
 fn script(alloc: Global) -> Result<List<MemStep>, Fail> {
     let mut steps = List::new(alloc);
     for link in [1, 2, 3] {
@@ -78,7 +79,8 @@ fn counts(links: u64, feeds: u64, subscriptions: u64, lines: u64, frames: u64) -
     }
 }
 
-// What is counted after each call. Frames have a flag, four bytes of length and as many bytes: one of none, one of one, one of two.
+// What is counted after each call. Frames have a flag, four bytes of length and as many bytes: one
+// of none, one of one, one of two.
 #[test]
 fn what_goes_over_links(rt: HostRuntime) -> Result<(), Fail> {
     let alloc = rt.alloc();
@@ -117,7 +119,8 @@ fn what_goes_over_links(rt: HostRuntime) -> Result<(), Fail> {
     Ok(())
 }
 
-// The counts are shown before a poll, once a second after the first, and go at the end. The clock goes on by 0.4 seconds at each poll.
+// The counts are shown before a poll, once a second after the first, and go at the end. The clock
+// goes on by 0.4 seconds at each poll.
 #[test]
 fn counts_on_a_terminal(rt: HostRuntime) -> Result<(), Fail> {
     let alloc = rt.alloc();

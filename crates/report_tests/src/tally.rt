@@ -117,7 +117,8 @@ pub(crate) fn words_of(alloc: Global, words: &str) -> Result<Vec<Text>, Fail> {
     Ok(texts)
 }
 
-// Progress is shown once a second after the first, and goes at the end. The clock reads 0.4 seconds at the first byte.
+// Progress is shown once a second after the first, and goes at the end. The clock reads 0.4 seconds
+// at the first byte.
 #[test]
 fn progress_of_reading(rt: HostRuntime) -> Result<(), Fail> {
     let alloc = rt.alloc();

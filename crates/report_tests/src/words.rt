@@ -83,8 +83,8 @@ fn wrong_words(rt: HostRuntime) -> Result<(), Fail> {
 const USED: &str =
     "--cluster-domain|--trust-domain|--control-plane-namespace|--cluster-networks|--default-policy|all-unauthenticated\n|all-authenticated,|cluster-unauthenticated,|cluster-authenticated,|deny,|audit\n|--id|--method|Get,|GetProfile,|WatchPort,|WatchPort2\n|or Watch\n|--path|--workload|--port|--token|--bind|10.0.0.0/8,100.64.0.0/10,172.16.0.0/12,192.168.0.0/16\n";
 
-// The usage is told whole where there are no words, where they ask for help, and where nothing is found wrong. It begins as scripts
-// expect it, names all words, and fits a terminal of 80 columns.
+// The usage is told whole where there are no words, where they ask for help, and where nothing is
+// found wrong. It begins as scripts expect it, names all words, and fits a terminal of 80 columns.
 #[test]
 fn usage(rt: HostRuntime) -> Result<(), Fail> {
     let alloc = rt.alloc();

@@ -40,9 +40,10 @@ pub struct Simulation<'a, S> {
     pub authz: &'a S,
 }
 
-/// Returns the verdict on the request, from the inbound view of its port. The authorizations of the routes in the view are not read:
-/// those of the matched route are looked up. Returns `Pattern` if a regular expression of an attached HTTPRoute is used and refused; no
-/// other result counts a refusal.
+/// Returns the verdict on the request, from the inbound view of its port. The authorizations of the
+/// routes in the view are not read: those of the matched route are looked up. Returns `Pattern` if
+/// a regular expression of an attached HTTPRoute is used and refused; no other result counts a
+/// refusal.
 pub fn decide<S: RouteAuthz, P: Patterns, L>(
     alloc: Global,
     simulation: &Simulation<'_, S>,
@@ -50,7 +51,8 @@ pub fn decide<S: RouteAuthz, P: Patterns, L>(
     patterns: &mut P,
     steps: &mut Steps<L>,
 ) -> Result<Verdict, SimFault>
-    // Over any objects that have this view, with the authorizations of its routes, the result is the verdict of the written policy.
+    // Over any objects that have this view, with the authorizations of its routes, the result is
+    // the verdict of the written policy.
     ensures simulated { (held : ObjectMap) (authz : TheRouteRow → List TheAuthzRow) → AtKeys held
         → S.gives simulation.now.authz.now authz
         → inbound simulation.now.config.now held simulation.now.request.now.ns
@@ -187,7 +189,8 @@ fn by_server(config: &Config, request: &Request, server: &ServerRow) -> Result<V
     by_row(otherwise, row)
 }
 
-// By the rows of the Server and of the matched route, then by the policy. Those of the route are looked up.
+// By the rows of the Server and of the matched route, then by the policy. Those of the route are
+// looked up.
 fn by_route<S: RouteAuthz, L>(
     simulation: &Simulation<'_, S>,
     server: &ServerRow,

@@ -8,7 +8,8 @@ use mesh_base::text::OwnedText;
 #[derive(Debug, Drop)]
 pub enum SimFault {
     Memory,
-    /// A regular expression was refused. It is in a match of a route that is attached to the Server of the port.
+    /// A regular expression was refused. It is in a match of a route that is attached to the Server
+    /// of the port.
     Pattern {
         /// The route, as `namespace/name`.
         route: OwnedText,

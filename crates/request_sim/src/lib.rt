@@ -1,9 +1,11 @@
 //! The verdict on a simulated request, decided from the inbound view of its port.
 //!
-//! Depends on route_match for the best match, on request_rules for the definition `verdict` over the objects, and on row_places for the
-//! order of authorizations. `decide` returns the `verdict` over any objects that have the view; `specs/Decision` is the same decision
-//! over the rows of the view. The authorizations of routes are not read from the view: those of the matched route are looked up, in a
-//! source that the caller passes, and `specs/FullViews` is the view with all of them.
+//! Depends on route_match for the best match, on request_rules for the definition `verdict` over
+//! the objects, and on row_places for the order of authorizations. `decide` returns the `verdict`
+//! over any objects that have the view; `specs/Decision` is the same decision over the rows of the
+//! view. The authorizations of routes are not read from the view: those of the matched route are
+//! looked up, in a source that the caller passes, and `specs/FullViews` is the view with all of
+//! them.
 #![tactic(auto)]
 
 mod admits;

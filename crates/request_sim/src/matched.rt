@@ -20,7 +20,8 @@ use std::alloc::Global;
 use view_types::request::HttpRequest;
 use view_types::server_view::RouteRow;
 
-/// Returns the route with the best match, if there is one. The routes must be those of a Server in the namespace.
+/// Returns the route with the best match, if there is one. The routes must be those of a Server in
+/// the namespace.
 pub(crate) fn matched_route<'a, P: Patterns>(
     alloc: Global,
     ns: &Text,
@@ -59,10 +60,12 @@ fn route_found(routes: &[RouteRow], found: Option<Candidate>) -> Option<&RouteRo
     }
 }
 
-// Allocates `namespace/` with room to append the name of any of the routes, so that a fault can be reported without more memory.
+// Allocates `namespace/` with room to append the name of any of the routes, so that a fault can be
+// reported without more memory.
 fn room_for_text(alloc: Global, ns: &Text, routes: &[RouteRow]) -> Result<String, Memory>
     ensures front { IfOk result (λ room. string_bytes room ≡ ns.now ++ codes "/") }
-    ensures room { IfOk result (λ room. HasRoomFor routes.now (string_len room) (string_capacity room)) }
+    ensures room { IfOk result
+        (λ room. HasRoomFor routes.now (string_len room) (string_capacity room)) }
 {
     let mut room = String::from_str(alloc, ns.as_str())?;
     room.push_str("/")?;

@@ -1,4 +1,5 @@
-// The verdict by the policy in force, if no authorization admits the client and the request is no probe.
+// The verdict by the policy in force, if no authorization admits the client and the request is no
+// probe.
 ghost use Rattle.std.specs.Prelude.{◌≡◌};
 ghost use Rattle.std.specs.List.{list_any};
 ghost use Rattle.request_rules.specs.Networks.{net_holds};

@@ -61,7 +61,8 @@ fn place_asked(
     }
 }
 
-// Whether the request is a GET from a cluster network, to a port whose protocol is not opaque or TLS.
+// Whether the request is a GET from a cluster network, to a port whose protocol is not opaque or
+// TLS.
 fn may_be_probe(config: &Config, request: &Request, protocol: Protocol, http: &HttpRequest) -> bool
     ensures { result ≡ may_be_probe config.now request.now protocol http.now }
 {

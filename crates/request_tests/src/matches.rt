@@ -61,7 +61,8 @@ fn request(alloc: Global, path: &str) -> Result<HttpRequest, Memory> {
     })
 }
 
-// Routes with `,` between them, a path, and the places of the best match: of its route, of its rule, and its own.
+// Routes with `,` between them, a path, and the places of the best match: of its route, of its
+// rule, and its own.
 const BEST: &str = "/,/ /x => 0 0 0
 /a,/ /x => 1 0 0
 /|/ /x => 0 0 0

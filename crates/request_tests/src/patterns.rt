@@ -3,7 +3,8 @@ use regex_patterns::RegexPatterns;
 use std::alloc::Global;
 use std::test::Fail;
 
-// A pattern, a text, and whether the whole text is matched. The syntax is that of the documentation of Rust's regex crate.
+// A pattern, a text, and whether the whole text is matched. The syntax is that of the documentation
+// of Rust's regex crate.
 const ROWS: &str = r"a|b / a => yes
 a|b / b => yes
 a|b / ab => no

@@ -6,9 +6,9 @@ use request_writing::writing::write_request;
 use std::alloc::Global;
 use std::test::Fail;
 
-/// A request, the bytes that `protoc --encode` writes of it, and the subject of the row. A request is
-/// a method and the two fields of its message with `|` between them: a path and a token, a workload
-/// and a port, an address and a port; or the one field `authority`.
+/// A request, the bytes that `protoc --encode` writes of it, and the subject of the row. A request
+/// is a method and the two fields of its message with `|` between them: a path and a token, a
+/// workload and a port, an address and a port; or the one field `authority`.
 const REQUESTS: &str =
     r#"Get web.app.svc.cluster.local:8080| => 121e7765622e6170702e7376632e636c75737465722e6c6f63616c3a38303830 : a name
 Get web.app.svc.cluster.local|{"ns":"cli","nodeName":"n0"} => 12197765622e6170702e7376632e636c75737465722e6c6f63616c1a1c7b226e73223a22636c69222c226e6f64654e616d65223a226e30227d : a token

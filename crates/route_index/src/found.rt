@@ -62,7 +62,8 @@ fn objects_named<'a, L>(
     steps: &mut Steps<L>,
 ) -> Result<Vec<&'a Object>, Memory>
     ensures objects { IfOk result (λ found. map (λ o. o.now) found.items
-        ≡ filter_map (get server.now.store.now.objects) (keys_named server.now.key.now.ns name.now)) }
+        ≡ filter_map (get server.now.store.now.objects)
+        (keys_named server.now.key.now.ns name.now)) }
     ensures steps { steps.new ≤ steps.old + 2 }
 {
     let Server { alloc, store, key } = *server;

@@ -33,7 +33,8 @@ pub(crate) fn follow<L>(
     steps: &mut Steps<L>,
 ) -> Result<bool, Memory>
     requires { server.now.store.now.spent ≡ false }
-    ensures rows { OnOk result ((held : ObjectMap) → rows.old ≡ server_routes held server.now.key.now
+    ensures rows { OnOk result
+        ((held : ObjectMap) → rows.old ≡ server_routes held server.now.key.now
         → Leads changed.now held server.now.store.now.objects
         → rows.new ≡ server_routes server.now.store.now.objects server.now.key.now) }
     ensures differ { IfOk result (λ differs. differs ≡ false → rows.new ≡ rows.old) }

@@ -37,7 +37,8 @@ fn has_named(rows: &[RouteRow], name: &Text) -> bool
 /// Inserts each route at its place. Returns whether there was any.
 pub(crate) fn put_rows(rows: &mut Vec<RouteRow>, added: Vec<RouteRow>) -> Result<bool, Memory>
     ensures put { OnOk result (Rise rows.old.items
-        → by_place rows.new.items ≡ put_all route_cmp row_place added.items (by_place rows.old.items)) }
+        → by_place rows.new.items
+        ≡ put_all route_cmp row_place added.items (by_place rows.old.items)) }
     ensures rise { OnOk result (Rise rows.old.items → Rise rows.new.items) }
     ensures same { IfOk result (λ differs. differs ≡ false → rows.new.items ≡ rows.old.items) }
 {

@@ -71,7 +71,8 @@ fn value_in<'a>(query: &'a str, name: &str) -> Option<&'a str>
 /// Returns the query before the first `&`, and what follows it.
 fn cut(query: &str) -> Option<(&str, &str)>
     ensures whole { IfNone result (pieces 38 query.now ≡ query.now ∷ []) }
-    ensures cut { IfSome result (λ halves. pieces 38 query.now ≡ halves.0.now ∷ pieces 38 halves.1.now) }
+    ensures cut { IfSome result
+        (λ halves. pieces 38 query.now ≡ halves.0.now ∷ pieces 38 halves.1.now) }
     ensures shorter { IfSome result (λ halves. length halves.1.now < length query.now) }
 {
     query.split_once('&')

@@ -22,8 +22,8 @@ use slab::Slab;
 use std::alloc::Global;
 use view_types::mark::Mark;
 
-/// The rows at the marks that they read, by their numbers. A new row is added at its marks only when
-/// `due` is called, so that a row that comes and goes between two changes costs nothing here.
+/// The rows at the marks that they read, by their numbers. A new row is added at its marks only
+/// when `due` is called, so that a row that comes and goes between two changes costs nothing here.
 #[derive(Drop)]
 pub struct WatchedMarks {
     pub(crate) at_marks: RowsAtMarks,

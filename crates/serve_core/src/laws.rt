@@ -8,22 +8,25 @@ use serve_rules::laws::{
     due, erasure, failures_close, outboxes_hold_one, places, what_is_owed_is_work,
 };
 
-/// States that what a server writes on a link is the beginning of what the link is due: the answers to its lines, and the frames of its
-/// drains. If the link is open after whole turns, its outbox is the rest.
+/// States that what a server writes on a link is the beginning of what the link is due: the answers
+/// to its lines, and the frames of its drains. If the link is open after whole turns, its outbox is
+/// the rest.
 pub fn what_is_due_is_sent()
     ensures { SendsWhatIsDue }
 {
     due();
 }
 
-/// States that what a link that is no feed is due depends only on the lines fed, on its request and on the places of its drains.
+/// States that what a link that is no feed is due depends only on the lines fed, on its request and
+/// on the places of its drains.
 pub fn due_by_places()
     ensures { DueIsByPlaces }
 {
     places();
 }
 
-/// States that a link that is no feed changes nothing of what any other link is sent, whatever it does, unless a limit is reached.
+/// States that a link that is no feed changes nothing of what any other link is sent, whatever it
+/// does, unless a limit is reached.
 pub fn a_link_left_out_changes_nothing_else()
     ensures { OthersStay }
 {
@@ -55,7 +58,8 @@ pub fn each_failure_closes()
     failures_close();
 }
 
-/// States that at each point of a turn where a link may be closed, it is closed exactly for the causes of that point, by the next call.
+/// States that at each point of a turn where a link may be closed, it is closed exactly for the
+/// causes of that point, by the next call.
 pub fn each_close_has_its_cause()
     ensures { EachCloseHasItsCause }
 {}

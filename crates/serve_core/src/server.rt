@@ -71,7 +71,8 @@ impl Server {
         })
     }
 
-    /// Takes one turn: a poll, which waits if no link has work, then a read, a drain and a write of each link that has a turn.
+    /// Takes one turn: a poll, which waits if no link has work, then a read, a drain and a write of
+    /// each link that has a turn.
     #[tactic(auto, using(crate::proofs::CallSteps::no_turn, feed_history::specs::KnownPatterns::goes_on_here))]
     pub fn turn<N: Links, P: Patterns>(
         &mut self,

@@ -324,7 +324,8 @@ impl Turning {
         }
     }
 
-    // Processes a piece of a link's bytes; the empty piece is their end. Returns whether they have no fault and reach no limit.
+    // Processes a piece of a link's bytes; the empty piece is their end. Returns whether they have
+    // no fault and reach no limit.
     fn hear<P: Patterns>(
         &mut self,
         patterns: &mut P,
@@ -343,7 +344,8 @@ impl Turning {
         }
     }
 
-    // Carries out the requests of a link, and puts the answers into its outbox. Returns whether no limit is reached.
+    // Carries out the requests of a link, and puts the answers into its outbox. Returns whether no
+    // limit is reached.
     #[tactic(auto, using(feed_history::specs::KnownPatterns::goes_on_further, feed_history::specs::KnownPatterns::goes_on_here))]
     fn take_asks<P: Patterns>(
         &mut self,

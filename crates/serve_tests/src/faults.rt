@@ -5,13 +5,15 @@ use serve_core::server::{ServeFault, Turn};
 use std::alloc::Global;
 use std::test::Fail;
 
-// A feed and a Get. Each line is sent after the link of the Get was sent the effect of the line before.
+// A feed and a Get. Each line is sent after the link of the Get was sent the effect of the line
+// before.
 const SCRIPT: &str =
     "arrive:1 arrive:2 bytes:2:@+#request tick tick bytes:1:/feed+#0a+service tick tick bytes:1:slice tick tick bytes:1:slice_moved tick tick tick bytes:1:slice_gone tick tick";
 
 const ANSWERS: &str = "ok 1\nok 2\nok 3\nok 4\n";
 
-// What is written to the Get: no Service, the Service, its endpoint, another endpoint in its place in two frames, and none.
+// What is written to the Get: no Service, the Service, its endpoint, another endpoint in its place
+// in two frames, and none.
 const FRAMES: &str =
     "00000000021a0000000000041a02080100000000130a110a0f0a0a0a050d0302010a10903f18904e00000000130a110a0f0a0a0a050d0402010a10903f18904e000000000e120c0a0a0a050d0302010a10903f00000000041a020801";
 
@@ -60,8 +62,8 @@ fn due(alloc: Global, link: u32) -> Result<Vec<u8>, Fail> {
     Ok(hex::decode(alloc, FRAMES)?)
 }
 
-// Whether the other link stays open, is written what it is due before the poll at this index, and in all a prefix of what it is due. The
-// answers to a feed do not depend on which links subscribe.
+// Whether the other link stays open, is written what it is due before the poll at this index, and
+// in all a prefix of what it is due. The answers to a feed do not depend on which links subscribe.
 fn spares(alloc: Global, place: usize, fault: &str, other: u32) -> Result<bool, Fail> {
     let before = play(alloc, "usual", &polls_before(alloc, place)?, 100)?;
     let before = written(alloc, before.links.trace(), other)?;
@@ -77,7 +79,8 @@ fn spares(alloc: Global, place: usize, fault: &str, other: u32) -> Result<bool, 
     )
 }
 
-// Whether a poll that fails ends the turn with its fault, and both links were written prefixes of what they are due.
+// Whether a poll that fails ends the turn with its fault, and both links were written prefixes of
+// what they are due.
 fn ends(alloc: Global, place: usize) -> Result<bool, Fail> {
     let played = play(alloc, "usual", &with_step(alloc, place, "failpoll")?, 100)?;
     let trace = played.links.trace();

@@ -1,5 +1,6 @@
-//! Tests of a server over links in memory: what is written on each link, in which order the links are called, and which are closed, also if
-//! a call fails. They are in a crate of their own, since a crate with tests is proved twice.
+//! Tests of a server over links in memory: what is written on each link, in which order the links
+//! are called, and which are closed, also if a call fails. They are in a crate of their own, since
+//! a crate with tests is proved twice.
 //!
 //! Depends on serve_core and mem_links.
 #![tactic(auto)]

@@ -1,6 +1,7 @@
 // Rows of scripts.
 
-/// A description of the row, the limits, the script, what is written on each link, which links are closed, and how the last turn ended.
+/// A description of the row, the limits, the script, what is written on each link, which links are
+/// closed, and how the last turn ended.
 pub const WRITTEN: &str =
     "a feed and a Get: usual | arrive:1 arrive:2 bytes:1:/feed+#0a+service+slice bytes:2:@+#request => 1 ok 1,ok 2; 2 00000000130a110a0f0a0a0a050d0302010a10903f18904e; Going
 room for one byte of each write: usual | arrive:1 arrive:2 room:2:1 bytes:1:/feed+#0a+service+slice bytes:2:@+#request => 1 ok 1,ok 2; 2 00000000130a110a0f0a0a0a050d0302010a10903f18904e; Going

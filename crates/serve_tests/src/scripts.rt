@@ -45,8 +45,8 @@ pub fn number(word: &str) -> Result<u32, Fail> {
     }
 }
 
-// Appends the bytes of a part: hex after `#`, the request, this number of `a` after `*`, a line by its name, or a string. A line ends
-// with a line feed.
+// Appends the bytes of a part: hex after `#`, the request, this number of `a` after `*`, a line by
+// its name, or a string. A line ends with a line feed.
 fn push_part(alloc: Global, bytes: &mut List<u8>, part: &str) -> Result<(), Fail> {
     if let Some(count) = part.strip_prefix('*') {
         for _ in 0..number(count)? {
@@ -102,7 +102,8 @@ fn step(alloc: Global, word: &str) -> Result<MemStep, Fail> {
     }
 }
 
-// Appends the steps of a word. The steps of `each:1:` are the bytes after it one by one, with a tick after each.
+// Appends the steps of a word. The steps of `each:1:` are the bytes after it one by one, with a
+// tick after each.
 fn add_steps(alloc: Global, steps: &mut List<MemStep>, word: &str) -> Result<(), Fail> {
     let Some(of) = word.strip_prefix("each:") else {
         return Ok(steps.add(step(alloc, word)?)?);

@@ -108,8 +108,8 @@ fn push_events(text: &mut String, word: &str, events: &[LinkEvent]) -> Result<()
     Ok(write!(text, "{word}:{n}")?)
 }
 
-/// Returns the calls in their order: `wait` and `poll` with the number of events, `r` and `w` with the link and the number of bytes, `?`
-/// for Pending and `!` for a failure, `c` for a close.
+/// Returns the calls in their order: `wait` and `poll` with the number of events, `r` and `w` with
+/// the link and the number of bytes, `?` for Pending and `!` for a failure, `c` for a close.
 pub fn calls(alloc: Global, trace: &[LinkCall]) -> Result<String, Fail> {
     let mut text = String::new(alloc);
     let mut before = "";

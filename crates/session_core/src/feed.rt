@@ -80,7 +80,8 @@ impl Feed {
         Ok(())
     }
 
-    /// Appends each line that is now complete to the requests, and keeps the beginning of the next line.
+    /// Appends each line that is now complete to the requests, and keeps the beginning of the next
+    /// line.
     pub fn take(
         &mut self,
         alloc: Global,

@@ -60,8 +60,9 @@ impl Session {
         })
     }
 
-    /// Processes the next piece of the link's bytes, and returns the requests that it completes. The empty piece is the end of the input.
-    /// After a fault each further piece has that fault as its result.
+    /// Processes the next piece of the link's bytes, and returns the requests that it completes.
+    /// The empty piece is the end of the input. After a fault each further piece has that fault as
+    /// its result.
     pub fn feed(&mut self, piece: &[u8]) -> Result<List<Ask>, SessionFault>
         ensures answers { (config : Config) (limits : Limits) (given : Given)
             → Stands config limits given self.old

@@ -22,7 +22,8 @@ fn read_before(
     message: &[u8],
     after: &[u8],
 ) -> Result<Option<Query>, SessionFault>
-    ensures { GivesPhase result (asked_before (request_of config.now method message.now) after.now) }
+    ensures { GivesPhase result
+        (asked_before (request_of config.now method message.now) after.now) }
 {
     match read_request(alloc, method, message, config) {
         Ok(query) => {

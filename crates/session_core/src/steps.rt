@@ -81,7 +81,8 @@ fn feed_on(
     mut asks: List<Ask>,
     piece: &[u8],
 ) -> Result<Step, SessionFault>
-    ensures { (config : Config) (given next : Given) (text : List ℕ) → Cuts limits.now.line text feed
+    ensures { (config : Config) (given next : Given) (text : List ℕ)
+        → Cuts limits.now.line text feed
         → ToFeed config limits.now given next text piece.now asks
         → Steps config limits.now given next result }
 {
@@ -133,14 +134,16 @@ fn begin(
 // Returns the index of the first LF.
 fn first_break(bytes: &[u8]) -> Option<usize>
     ensures within { IfSome result (λ at. at < length bytes.now) }
-    ensures cut { IfSome result (λ at. bytes.now ≡ take at bytes.now ++ 10 ∷ drop (at + 1) bytes.now) }
+    ensures cut { IfSome result
+        (λ at. bytes.now ≡ take at bytes.now ++ 10 ∷ drop (at + 1) bytes.now) }
     ensures line { IfSome result (λ at. NoBreak (take at bytes.now)) }
     ensures none { IfNone result (NoBreak bytes.now) }
 {
     memchr(LINE_FEED, bytes)
 }
 
-// Appends bytes up to the first LF to the path line, and returns those after it; without an LF it appends all bytes and returns None.
+// Appends bytes up to the first LF to the path line, and returns those after it; without an LF it
+// appends all bytes and returns None.
 fn fill_path<'a>(part: &mut List<u8>, piece: &'a [u8]) -> Result<Option<&'a [u8]>, Memory>
     ensures path { IfOk result (λ found.
         IfSome found (λ rest. NoBreak part.old

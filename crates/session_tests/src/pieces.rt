@@ -13,8 +13,8 @@ const SMALL: Limits = Limits {
     ..Limits::USUAL
 };
 
-// The pieces of a link's bytes, and the answer to each. A `|` stands between pieces and between answers, and an empty piece
-// is the end of the input. `@` is the path line of Get.
+// The pieces of a link's bytes, and the answer to each. A `|` stands between pieces and between
+// answers, and an empty piece is the end of the input. `@` is the path line of Get.
 const ROWS: &str = "/feed+#0a => [begins]
 /feed+#0a|{+#0a0a|G+#0a => [begins]|[1 7b][2 ]|[3 47]
 /|f|e|e|d|#0a|S|#0a => |||||[begins]||[1 53]

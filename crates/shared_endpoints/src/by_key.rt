@@ -55,7 +55,8 @@ fn leave_streams(streams: &mut KeyStreams<List<Bytes>>, id: u64) -> bool
     streams.is_empty()
 }
 
-/// Updates the streams of these keys after a change of the index. Each key occurs once. Returns the ids of the streams.
+/// Updates the streams of these keys after a change of the index. Each key occurs once. Returns the
+/// ids of the streams.
 pub(crate) fn change_all(
     alloc: Global,
     index: &EndpointIndex,

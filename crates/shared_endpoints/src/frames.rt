@@ -16,8 +16,8 @@ use mesh_base::memory::Memory;
 use std::alloc::Global;
 use view_types::endpoint::EndpointView;
 
-/// Returns the frames that bring a subscriber from the endpoints that it was last shown to the current ones. If this fails, what
-/// subscribers were shown stays as it was.
+/// Returns the frames that bring a subscriber from the endpoints that it was last shown to the
+/// current ones. If this fails, what subscribers were shown stays as it was.
 pub(crate) fn drain(
     alloc: Global,
     streams: &mut KeyStreams<List<Bytes>>,

@@ -22,8 +22,8 @@ use std::collections::BTreeMap;
 use view_rules::laws::endpoints_are_orderly;
 use view_types::config::Config;
 
-/// The streams of endpoints. The streams of a key share its endpoints, and subscribers that were last shown the same endpoints share
-/// frames.
+/// The streams of endpoints. The streams of a key share its endpoints, and subscribers that were
+/// last shown the same endpoints share frames.
 #[derive(Drop)]
 pub struct SharedEndpoints {
     /// The endpoints by key. A key that has streams counts as one user.
@@ -65,7 +65,8 @@ impl SharedEndpoints {
         })
     }
 
-    /// States that a key has one user of its endpoints while a stream of it is open, and none otherwise.
+    /// States that a key has one user of its endpoints while a stream of it is open, and none
+    /// otherwise.
     pub fn keys_have_one_user(&self)
         ensures { (config : TheConfig) (limits : TheLimits) (held : ObjectMap)
             → ⟦<SharedEndpoints as EndpointStreams>⟧.stands self.now config limits held
@@ -106,7 +107,8 @@ impl SharedEndpoints {
     fn add(&mut self, id: u64, key: EndpointKey) -> Result<(), Memory>
         requires free { key_of_id self.old id ≡ None }
         requires there { is_some (streams_at self.old.by_key key) ≡ true }
-        ensures keys { OnOk result (SetsAt id (Some key) (key_of_id self.old) (key_of_id self.new)) }
+        ensures keys { OnOk result
+            (SetsAt id (Some key) (key_of_id self.old) (key_of_id self.new)) }
         ensures stands { OnOk result ((config : TheConfig) (limits : TheLimits) (held : ObjectMap)
             → Stands config limits held self.old → Stands config limits held self.new) }
         ensures each { OthersHaveOne key_cmp key (streams_at self.old.by_key)

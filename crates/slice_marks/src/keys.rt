@@ -26,7 +26,8 @@ pub(crate) fn keys_at<'a>(by: &'a BTreeMap<Mark, KeyList>, mark: &Mark) -> &'a [
     by_mark::keys_at(by, mark)
 }
 
-/// Adds the key of a slice at each of its marks. The marks that did not have it are appended to `moved`.
+/// Adds the key of a slice at each of its marks. The marks that did not have it are appended to
+/// `moved`.
 pub(crate) fn put_keys(
     alloc: Global,
     by: &mut BTreeMap<Mark, KeyList>,

@@ -133,8 +133,9 @@ impl SliceMarks {
         }
     }
 
-    /// Sets the marks that the slice reads. Returns the marks that may have changed: all others are read as before. If one mark is added,
-    /// removed or replaced, the marks that stay are not returned (no clause says so).
+    /// Sets the marks that the slice reads. Returns the marks that may have changed: all others are
+    /// read as before. If one mark is added, removed or replaced, the marks that stay are not
+    /// returned (no clause says so).
     pub fn put(&mut self, key: ObjKey, marks: List<Mark>) -> Result<List<Mark>, Memory>
         ensures agree { Agree self.old → OnOk result (Agree self.new) }
         ensures put { OnOk result ((k : ObjKey)
@@ -183,7 +184,8 @@ impl SliceMarks {
         marks
     }
 
-    /// Splits marks by whether a slice reads them now. A mark that one slice no longer reads may be read by another.
+    /// Splits marks by whether a slice reads them now. A mark that one slice no longer reads may be
+    /// read by another.
     pub fn moves(&self, alloc: Global, marks: List<Mark>) -> Result<MarkMoves<Mark>, Memory>
         ensures gone { IfOk result (λ moves. moves.gone
             ≡ filter (λ mark. not (is_read self.now.by_mark mark)) marks) }
@@ -213,8 +215,8 @@ fn are_same(marks: &[Mark], before: &[Mark]) -> bool
     }
 }
 
-/// Returns the earlier marks that are no longer there, and maybe others: both lists are compared side by side, and a mark that is not
-/// found at its expected index is returned.
+/// Returns the earlier marks that are no longer there, and maybe others: both lists are compared
+/// side by side, and a mark that is not found at its expected index is returned.
 fn left_out(alloc: Global, before: &[Mark], marks: &[Mark]) -> Result<List<Mark>, Memory>
     ensures { IfOk result (Leaves before.now marks.now) }
 {
@@ -255,7 +257,8 @@ fn leave_unless(
     add_copy(alloc, left, mark)
 }
 
-/// Returns the index at which the next mark is expected: the same one if the next mark is there and the last one was not found.
+/// Returns the index at which the next mark is expected: the same one if the next mark is there and
+/// the last one was not found.
 fn place_after(marks: &[Mark], place: usize, stood: bool, next: Option<&Mark>) -> usize {
     match next {
         Some(next) if !stood && stands_at(marks, place, next) => place,

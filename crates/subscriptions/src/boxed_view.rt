@@ -5,7 +5,8 @@ use std::boxed::Box;
 use std::marker::Model;
 use view_types::view::View;
 
-/// A boxed view, so that a subscription that was shown none needs no room for one. Contracts see it as the view.
+/// A boxed view, so that a subscription that was shown none needs no room for one. Contracts see it
+/// as the view.
 #[derive(Drop)]
 pub struct BoxedView {
     inner: Box<View>,

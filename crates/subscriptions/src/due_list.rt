@@ -14,7 +14,8 @@ use std::marker::Model;
 /// Ids in ascending order, each once. Contracts see them as a list.
 #[derive(Drop)]
 pub struct DueList {
-    /// The ids from `start` on; those before it were removed. They are dropped once they outnumber the others.
+    /// The ids from `start` on; those before it were removed. They are dropped once they outnumber
+    /// the others.
     ids: Vec<SubId>,
     start: usize,
 }

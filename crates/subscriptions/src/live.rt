@@ -20,8 +20,8 @@ use view_types::view::View;
 pub struct Subscription {
     pub id: SubId,
     pub query: Query,
-    /// The view that the subscriber was last shown, with its rows in order; None before the first drain. For endpoints it is None, since
-    /// the stream of the subscription knows what was shown.
+    /// The view that the subscriber was last shown, with its rows in order; None before the first
+    /// drain. For endpoints it is None, since the stream of the subscription knows what was shown.
     shown: Option<BoxedView>,
 }
 

@@ -41,7 +41,8 @@ use std::alloc::Global;
 use view_types::query::Query;
 use view_types::view::View;
 
-/// The live subscriptions, some of which are due. Those to endpoints have a stream each; the others share kept views.
+/// The live subscriptions, some of which are due. Those to endpoints have a stream each; the others
+/// share kept views.
 #[derive(Drop)]
 pub struct Subscribers<E: EndpointStreams, V: QueryViews> {
     live: Roster,
@@ -82,7 +83,8 @@ impl<E: EndpointStreams, V: QueryViews> Subscribers<E, V> {
         self.live.len()
     }
 
-    /// Returns the subscription under the id. For endpoints, the stream knows what the subscriber was shown.
+    /// Returns the subscription under the id. For endpoints, the stream knows what the subscriber
+    /// was shown.
     pub fn get(&self, id: SubId) -> Option<&Subscription>
         ensures { option_copied result ≡ sub_at id.0 self.now.live.subs }
     {
@@ -104,8 +106,8 @@ impl<E: EndpointStreams, V: QueryViews> Subscribers<E, V> {
         self.live.is_due(id)
     }
 
-    /// States that the rows that have users, in the indexes of endpoints and of other views together, are exactly those of the queries
-    /// of the live subscriptions.
+    /// States that the rows that have users, in the indexes of endpoints and of other views
+    /// together, are exactly those of the queries of the live subscriptions.
     pub fn rows_in_use_are_those_of_queries(&self)
         ensures { (config : Config) (limits : Limits) (held : ObjectMap) → Covers V.kept_query
             → AllStand E.key_of E.shown_to E.stands V.kept_query V.query_of V.stands
@@ -172,8 +174,8 @@ impl<E: EndpointStreams, V: QueryViews> Subscribers<E, V> {
         self.live.end(id)
     }
 
-    /// Returns a copy of the kept view of the subscription under the id. For endpoints, and for an id without a subscription, it returns
-    /// None.
+    /// Returns a copy of the kept view of the subscription under the id. For endpoints, and for an
+    /// id without a subscription, it returns None.
     pub fn view(&self, id: SubId) -> Result<Option<View>, Memory>
         ensures { IfOk result (λ view. (config : Config) (limits : Limits)
             (held : ObjectMap) → AtKeys held → AreLawful held → Covers V.kept_query
@@ -188,7 +190,8 @@ impl<E: EndpointStreams, V: QueryViews> Subscribers<E, V> {
         }
     }
 
-    /// Records that the subscriber under the id was shown the view, which is not of endpoints. The id is no longer due.
+    /// Records that the subscriber under the id was shown the view, which is not of endpoints. The
+    /// id is no longer due.
     pub fn show(&mut self, id: SubId, view: BoxedView)
         requires orderly { IsOrderlyIfShown (Some view) }
         requires other { key_at id.0 self.old.live.subs ≡ None }
@@ -209,9 +212,10 @@ impl<E: EndpointStreams, V: QueryViews> Subscribers<E, V> {
         self.live.show(id, view);
     }
 
-    /// Returns the frames that bring the subscriber of the id from the endpoints that it was last shown to the current ones. The id is
-    /// no longer due. Returns `Oversize`, with the length of the first such message, if a message is longer than the limit. After an
-    /// error, what subscribers were shown is as before.
+    /// Returns the frames that bring the subscriber of the id from the endpoints that it was last
+    /// shown to the current ones. The id is no longer due. Returns `Oversize`, with the length of
+    /// the first such message, if a message is longer than the limit. After an error, what
+    /// subscribers were shown is as before.
     pub fn drain(&mut self, id: SubId) -> Result<List<Bytes>, HubFault>
         requires standing { (config : Config) × (limits : Limits) × (held : ObjectMap)
             × E.stands self.old.endpoints config limits held }
@@ -253,7 +257,8 @@ impl<E: EndpointStreams, V: QueryViews> Subscribers<E, V> {
         }
     }
 
-    /// Makes those subscriptions due whose queries read a mark of this change of the store, which must be that of an event.
+    /// Makes those subscriptions due whose queries read a mark of this change of the store, which
+    /// must be that of an event.
     pub fn follow<L>(
         &mut self,
         store: &Store,

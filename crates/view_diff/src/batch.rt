@@ -11,7 +11,8 @@ use std::alloc::Global;
 use view_types::endpoint::{EndpointRow, EndpointView};
 use view_types::message::Message;
 
-/// Returns the messages that bring a subscriber from the old endpoints, or from none, to the new ones. Their rows are copies.
+/// Returns the messages that bring a subscriber from the old endpoints, or from none, to the new
+/// ones. Their rows are copies.
 pub fn endpoint_batch(
     alloc: Global,
     old: Option<&EndpointView>,
@@ -32,7 +33,8 @@ pub fn endpoint_batch(
 }
 
 fn to_none(alloc: Global, old: Option<&EndpointView>, exists: bool) -> Result<List<Message>, Memory>
-    ensures { IfOk result (λ messages. messages ≡ messages_to_none (option_copied old.entry) exists) }
+    ensures { IfOk result
+        (λ messages. messages ≡ messages_to_none (option_copied old.entry) exists) }
 {
     let mut messages = List::new(alloc);
     if is_news(old, exists) {

@@ -12,7 +12,8 @@ use row_places::keyed::KeyedRow;
 use std::alloc::Global;
 use view_types::message::Message;
 
-/// Returns the messages from the old rows to the new ones. Both lists must be sorted by key, each key once.
+/// Returns the messages from the old rows to the new ones. Both lists must be sorted by key, each
+/// key once.
 pub(crate) fn keyed_batch<T: KeyedRow>(
     alloc: Global,
     old: &[T],
@@ -28,8 +29,8 @@ pub(crate) fn keyed_batch<T: KeyedRow>(
     messages_of::<T>(alloc, find_changes(alloc, old, new)?, size)
 }
 
-/// The messages for the changed rows, followed by those for the removed keys. Each has `size` entries; the last of either kind may
-/// have fewer.
+/// The messages for the changed rows, followed by those for the removed keys. Each has `size`
+/// entries; the last of either kind may have fewer.
 pub(crate) fn messages_of<T: KeyedRow>(
     alloc: Global,
     found: Changes<T, T::Key>,

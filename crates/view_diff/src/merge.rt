@@ -55,7 +55,8 @@ pub fn find_changes<T: KeyedRow>(
     Ok(found)
 }
 
-/// Advances past the first row with the lesser key, or past both first rows if their keys are equal.
+/// Advances past the first row with the lesser key, or past both first rows if their keys are
+/// equal.
 fn pass<'a, T: KeyedRow>(
     alloc: Global,
     found: &mut Changes<T, T::Key>,

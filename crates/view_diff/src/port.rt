@@ -15,8 +15,9 @@ use std::alloc::Global;
 use view_types::message::Message;
 use view_types::server_view::{AuthzRow, ServerView};
 
-/// Returns the messages that bring a subscriber from the old view of a port, or from none, to the new one: the differences of the
-/// Server's authorizations if nothing else differs, and otherwise the whole view.
+/// Returns the messages that bring a subscriber from the old view of a port, or from none, to the
+/// new one: the differences of the Server's authorizations if nothing else differs, and otherwise
+/// the whole view.
 pub(crate) fn port_batch(
     alloc: Global,
     old: Option<&ServerView>,

@@ -19,9 +19,10 @@ use std::alloc::Global;
 use view_types::endpoint::{EndpointRow, EndpointView};
 use view_types::message::Message;
 
-/// Returns the messages that bring a subscriber from the endpoints that it was shown to the current ones. `exists` says whether the
-/// Service existed then. `before` has the addresses that may have changed since, in order, each with the row that was there, if any. At
-/// all other addresses the subscriber was shown the current rows, which are not looked at.
+/// Returns the messages that bring a subscriber from the endpoints that it was shown to the current
+/// ones. `exists` says whether the Service existed then. `before` has the addresses that may have
+/// changed since, in order, each with the row that was there, if any. At all other addresses the
+/// subscriber was shown the current rows, which are not looked at.
 pub fn batch_since(
     alloc: Global,
     exists: bool,

@@ -16,8 +16,9 @@ use view_types::outbound::{OutboundView, ProfileView};
 use view_types::server_view::ServerView;
 use view_types::view::View;
 
-/// Returns the messages that bring a subscriber from the old view, or from none, to the new one. Views of endpoints are sent as
-/// differences, and so are inbound views of which only the Server's authorizations have changed; all others are sent whole.
+/// Returns the messages that bring a subscriber from the old view, or from none, to the new one.
+/// Views of endpoints are sent as differences, and so are inbound views of which only the Server's
+/// authorizations have changed; all others are sent whole.
 pub fn batch(
     alloc: Global,
     old: Option<&View>,
@@ -27,7 +28,8 @@ pub fn batch(
     requires limit { 1 ≤ limits.now.frame_addrs }
     requires old { IsOrderlyIfShown (option_copied old) }
     requires new { IsOrderlyIfShown (Some new.now) }
-    ensures { IfOk result (λ messages. messages ≡ batch (option_copied old.entry) new.now limits.now) }
+    ensures { IfOk result
+        (λ messages. messages ≡ batch (option_copied old.entry) new.now limits.now) }
 {
     match new {
         View::Endpoints(view) => endpoint_batch(alloc, endpoints_in(old), view, limits),

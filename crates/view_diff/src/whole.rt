@@ -103,8 +103,8 @@ impl Whole for PortRows {
     }
 }
 
-/// Returns the message that brings a subscriber from the old view, or from none, to the new one, unless both are the same. The message
-/// has a copy of the view.
+/// Returns the message that brings a subscriber from the old view, or from none, to the new one,
+/// unless both are the same. The message has a copy of the view.
 pub fn whole_batch<T: Whole>(
     alloc: Global,
     old: Option<&T::View>,

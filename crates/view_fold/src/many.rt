@@ -13,7 +13,8 @@ use mesh_base::memory::Memory;
 use row_places::keyed::KeyedRow;
 use std::cmp::Ordering;
 
-/// Inserts rows by their keys, replacing those with the same key. If memory runs out, the rows stay as they were.
+/// Inserts rows by their keys, replacing those with the same key. If memory runs out, the rows stay
+/// as they were.
 pub fn put_many<T: KeyedRow>(rows: &mut Vec<T>, added: Vec<T>) -> Result<(), Memory>
     ensures ok { OnOk result (rows.new.items
         ≡ values (put_all T.cmp T.key_of added.items (map_of T.cmp T.key_of rows.old.items))) }

@@ -5,7 +5,8 @@ use mesh_base::memory::Memory;
 use row_places::keyed::KeyedRow;
 use row_places::order::keep_first;
 
-/// Sorts rows by key. Of the rows with one key the last is kept. If memory runs out, the rows stay as they were.
+/// Sorts rows by key. Of the rows with one key the last is kept. If memory runs out, the rows stay
+/// as they were.
 pub fn put_in_order<T: KeyedRow>(rows: &mut Vec<T>) -> Result<(), Memory>
     ensures ok { OnOk result
         (rows.new.items ≡ in_order_by T.cmp T.key_of (reverse rows.old.items)) }

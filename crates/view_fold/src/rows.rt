@@ -13,11 +13,12 @@ use row_places::place::{place, place_of};
 use std::alloc::Global;
 use std::mem;
 
-/// The most rows that are inserted or removed one by one, each at its place, which moves the rows after it only if a key is added or
-/// removed. For more rows, one pass goes over all of them.
+/// The most rows that are inserted or removed one by one, each at its place, which moves the rows
+/// after it only if a key is added or removed. For more rows, one pass goes over all of them.
 const FEW: usize = 16;
 
-/// Inserts rows by their keys, replacing those with the same key. If memory runs out, the rows stay as they were.
+/// Inserts rows by their keys, replacing those with the same key. If memory runs out, the rows stay
+/// as they were.
 pub fn put_rows<T: KeyedRow>(
     alloc: Global,
     rows: &mut List<T>,

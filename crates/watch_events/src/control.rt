@@ -75,7 +75,8 @@ fn query_in<'a>(line: &'a Place<'a>) -> Result<Place<'a>, LineFault>
 }
 
 fn read_method<'a>(query: &'a Place<'a>) -> Result<Method, LineFault>
-    ensures { Gives result (of_query (required (choice method_of) ((seen query.now) · keys.Method))) }
+    ensures { Gives result
+        (of_query (required (choice method_of) ((seen query.now) · keys.Method))) }
 {
     match query.required(Key::Method, &Choice(MethodWord)) {
         Ok(method) => Ok(method),
@@ -140,7 +141,8 @@ fn read_simulation<'a>(line: &'a Place<'a>) -> Result<Line, LineFault>
 }
 
 fn word_of<'a>(line: &'a Place<'a>) -> Option<ControlWord>
-    ensures { result ≡ option_and_then control_word (string_in ((seen line.now) · keys.Control).value) }
+    ensures { result ≡ option_and_then control_word
+        (string_in ((seen line.now) · keys.Control).value) }
 {
     match line.member(Key::Control).as_text() {
         Some(word) => control_word(word),

@@ -31,7 +31,8 @@ fn object_in<'a>(event: &'a Place<'a>) -> Result<Place<'a>, LineFault>
 }
 
 fn kind_in<'a>(object: &'a Place<'a>) -> Result<Kind, LineFault>
-    ensures { Gives result (kind_of (text_or_empty ((seen object.now) · keys.Kind)) (seen object.now)) }
+    ensures { Gives result
+        (kind_of (text_or_empty ((seen object.now) · keys.Kind)) (seen object.now)) }
 {
     let name = text_or_empty(&object.member(Key::Kind));
     kind_of(name.as_bytes(), object)

@@ -123,7 +123,8 @@ NetworkAuthentication {"metadata":{"name":"a"},"spec":{"networks":[{"cidr":"::/0
 NetworkAuthentication {"metadata":{"name":"a"},"spec":{"networks":[{"cidr":"::/0","except":["::1","::x"]}]}} => BadValue object.spec.networks[0].except[1] Network"#;
 
 /// A kind, an object and what it is read as, with an empty line between.
-// Those with an apiVersion are as on the pages of the Linkerd documentation on authorization policy.
+// Those with an apiVersion are as on the pages of the Linkerd documentation on authorization
+// policy.
 pub const OBJECTS: &str = r#"Server {"apiVersion":"policy.linkerd.io/v1beta3","kind":"Server",
     "metadata":{"namespace":"emojivoto","name":"backend-services","labels":{"app":"emoji-svc"}},
     "spec":{"podSelector":{"matchLabels":{"app.kubernetes.io/part-of":"emojivoto"},"matchExpressions":[

@@ -103,8 +103,9 @@ LinkerdRoute {} => Missing object.metadata.name
 LinkerdRoute {"metadata":{"name":"web"},"spec":1} => WrongType object.spec"#;
 
 /// A kind, an object and what it is read as, with an empty line between.
-// Those with an apiVersion are as in the Linkerd documentation on per-route authorization, request routing, traffic shifting
-// and timeouts, and in the Gateway API documentation on redirects and header modifiers.
+// Those with an apiVersion are as in the Linkerd documentation on per-route authorization, request
+// routing, traffic shifting and timeouts, and in the Gateway API documentation on redirects and
+// header modifiers.
 pub const OBJECTS: &str =
     r#"GatewayRoute {"apiVersion":"gateway.networking.k8s.io/v1","kind":"HTTPRoute",
     "metadata":{"name":"backend-router","namespace":"test"},
