@@ -219,6 +219,9 @@ impl RowIndex for EndpointIndex {
     }
 
     fn met_keys(&self) -> Result<List<EndpointKey>, Memory> {
+        if self.spent {
+            return Err(Memory);
+        }
         self.rows.met_keys()
     }
 
@@ -239,6 +242,9 @@ impl RowIndex for EndpointIndex {
     }
 
     fn marks(&self, key: &EndpointKey) -> Result<List<Mark>, Memory> {
+        if self.spent {
+            return Err(Memory);
+        }
         self.rows.marks(key)
     }
 

@@ -128,7 +128,8 @@ pub trait RowIndex {
 
     /// Returns a copy of the keys of the rows that read a mark of the last change.
     fn met_keys(&self) -> Result<List<Self::Key>, Memory>
-        ensures { IfOk result (λ keys. keys ≡ met_keys self.now) };
+        ensures keys { IfOk result (λ keys. keys ≡ met_keys self.now) }
+        ensures was_spent { is_spent self.now ≡ true → IsErr result };
 
     /// Returns the row of a key that has users.
     fn row(&self, key: &Self::Key) -> Option<&Self::Row>
@@ -149,7 +150,8 @@ pub trait RowIndex {
 
     /// Returns the marks that the row of a key with users reads. A mark may occur more than once.
     fn marks(&self, key: &Self::Key) -> Result<List<Mark>, Memory>
-        ensures { IfOk result (λ marks. marks ≡ marks_at self.now key.now) };
+        ensures marks { IfOk result (λ marks. marks ≡ marks_at self.now key.now) }
+        ensures was_spent { is_spent self.now ≡ true → IsErr result };
 
     /// A current index has the row and the marks of each key with users, and of no other key.
     ghost current: { (index : Self) (held : ObjectMap) → stands index held → (key : Self.Key)

@@ -202,6 +202,9 @@ impl<F: RowRule> RowIndex for RowTable<F> {
     }
 
     fn met_keys(&self) -> Result<List<F::Key>, Memory> {
+        if self.spent {
+            return Err(Memory);
+        }
         self.table.met_keys()
     }
 
@@ -228,6 +231,9 @@ impl<F: RowRule> RowIndex for RowTable<F> {
     }
 
     fn marks(&self, key: &F::Key) -> Result<List<Mark>, Memory> {
+        if self.spent {
+            return Err(Memory);
+        }
         match self.kept(key) {
             Some(kept) => F::marks(self.alloc, kept),
             None => Ok(List::new(self.alloc)),

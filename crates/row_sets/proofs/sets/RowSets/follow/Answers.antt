@@ -15,7 +15,7 @@ returns-clause-touched g c =
     if_then c.rows_at.result c.rows_at.ensures.rows (λ ids are held st.
     ids_touched cmp g.met.I.Key.Ord.total g.met.I.RowIndex.exact g.I.RowIndex.users g.I.RowIndex.stands (g.I.RowIndex.filter self.used.index) g.I.RowIndex.row_at g.I.RowIndex.marks_at held self.used.index self.used.by_key self.by_id
     (g.met.I.RowIndex.current self.used.index held) st c.args.change.now.marks keys c.in_ok-on_change.ensures.keys ids
-    (λ n. are n ∙ ap (list_any (λ key. row_at cmp self.used.by_key key n)) (c.as_slice.ensures ∙ c.in_ok-keys.ensures)))
+    (λ n. are n ∙ ap (list_any (λ key. row_at cmp self.used.by_key key n)) (c.as_slice.ensures ∙ c.in_ok-keys.ensures.keys)))
 
 pub returns-clause-stands : goal.returns-clause-stands
 returns-clause-stands g c =
