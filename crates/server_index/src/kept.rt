@@ -16,7 +16,6 @@ use crate::change_notes::ChangeNotes;
 use crate::concerns::pod_values;
 use crate::matching::Matching;
 use crate::name_filter::NameFilter;
-use crate::pods::pod_near;
 use crate::port::{PodPort, Port};
 use crate::servers::{count_servers, follow_servers, servers_for};
 use mark_rules::keys::ServerKey;
@@ -29,6 +28,7 @@ use mesh_base::text::Text;
 use policy_rows::probes::probe_paths;
 use row_reads::rows::server_reads;
 use view_scratch::inbound::{default_policy, default_protocol};
+use view_scratch::pod::pod_named;
 use view_types::mark::Mark;
 use view_types::policy::{Policy, Protocol};
 
@@ -37,14 +37,12 @@ use view_types::policy::{Policy, Protocol};
 pub type ServerPart = (Protocol, Policy, Option<Text>, List<Text>);
 
 /// The server part of a port, if its Pod is held, with the Servers that match the port, the marks
-/// that are read, the position of the Pod among the Pods held when it was last looked up, and a
-/// filter of the values of the Pod's labels.
+/// that are read, and a filter of the values of the Pod's labels.
 #[derive(Drop)]
 pub struct KeptServer {
     pub(crate) row: Option<ServerPart>,
     pub(crate) servers: Matching,
     pub(crate) marks: List<Mark>,
-    pod_place: usize,
     values: NameFilter,
 }
 
@@ -61,7 +59,6 @@ pub(crate) fn find<L>(port: &Port, steps: &mut Steps<L>) -> Result<KeptServer, M
         row: None,
         servers: Matching::new(alloc),
         marks: server_reads(alloc, port.key)?,
-        pod_place: 0,
         values: NameFilter::new(),
     };
     find_again(port, &mut kept, steps)?;
@@ -177,7 +174,7 @@ fn find_again<L>(port: &Port, kept: &mut KeptServer, steps: &mut Steps<L>) -> Re
 {
     let Port { from, key } = *port;
     from.store.stand_at_keys();
-    match pod_near(from.store, key, &mut kept.pod_place, steps) {
+    match pod_named(from.store, &key.ns, &key.pod, steps) {
         Some(pod) => {
             fill(&PodPort { from, key, pod }, kept, steps)?;
             Ok(())
@@ -236,7 +233,7 @@ fn follow_in_place<L>(
         (server_reads port.now.key.now) }
 {
     let Port { from, key } = *port;
-    match pod_near(from.store, key, &mut kept.pod_place, steps) {
+    match pod_named(from.store, &key.ns, &key.pod, steps) {
         Some(pod) => Ok(renew(&PodPort { from, key, pod }, changed, kept, notes, steps)?),
         None => Ok(false),
     }

@@ -21,7 +21,6 @@ pub mod kept;
 pub mod matching;
 mod name_filter;
 pub mod notes;
-mod pods;
 mod port;
 mod required;
 pub mod rule;
