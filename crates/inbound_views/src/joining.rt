@@ -1,5 +1,5 @@
 // The views of ports, joined from their rows.
-ghost use Rattle.std.specs.Prelude.{◌≡◌, ◌≤◌, ◌+◌, IfOk, Some, map};
+ghost use Rattle.std.specs.Prelude.{◌≡◌, ◌≤◌, ◌+◌, [], IfOk, Some, map, unwrap_or};
 ghost use Rattle.std.specs.Option.{option_copied};
 ghost use Rattle.view_types.specs.Objects.{ObjectMap};
 ghost use Rattle.view_types.specs.declared.config.Config.{Config};
@@ -15,8 +15,9 @@ ghost use Rattle.inbound_views.specs.Standing.{kept_authz, kept_routes};
 use crate::keys::{key_of_row, routes_key, server_key};
 use crate::sources::RowSource;
 use crate::views::{InboundViews, KeepsRows};
-use mark_rules::keys::ServerKey;
+use mark_rules::keys::{RouteKey, ServerKey};
 use mesh_base::copied::Copied;
+use mesh_base::key::ObjKey;
 use mesh_base::list::List;
 use mesh_base::memory::Memory;
 use mesh_base::steps::Steps;
@@ -38,33 +39,108 @@ impl InboundViews {
         match self.servers.row(id) {
             Some(part) => {
                 let part = copied_part(self.alloc, part)?;
-                joined_port(self, self.alloc, &key.ns, part)
+                self.joined_port(&key.ns, part)
             }
             None => Ok(ServerView::Absent),
         }
     }
-}
 
-/// Returns the view of a port in a namespace with this server part.
-pub(crate) fn joined_port<S: RowSource>(
-    source: &S,
-    alloc: Global,
-    ns: &Text,
-    part: Option<ServerPart>,
-) -> Result<ServerView, Memory>
-    ensures { IfOk result (λ view. (config : Config) (held : ObjectMap)
-        → S.stand source.now config held
-        → view ≡ join_inbound (S.routes_at source.now held) (S.authz_at source.now config held)
-        ns.now part) }
-{
-    let mut none = Steps::<()>::new();
-    match bare_port(source, alloc, ns, part, &mut none)? {
-        ServerView::Present(row) => {
-            let mut row = row;
-            row.routes = joined_routes(source, alloc, ns, row.routes)?;
-            Ok(ServerView::Present(row))
+    // Returns the view of a port in a namespace with this server part.
+    fn joined_port(&self, ns: &Text, part: Option<ServerPart>) -> Result<ServerView, Memory>
+        ensures { IfOk result (λ view. (config : Config) (held : ObjectMap)
+            → ⟦<InboundViews as KeepsRows>⟧.stand self.now config held
+            → view ≡ join_inbound (kept_routes self.now held) (kept_authz self.now config held)
+            ns.now part) }
+    {
+        match part {
+            Some(part) => Ok(ServerView::Present(self.joined_row(ns, part)?)),
+            None => Ok(ServerView::Absent),
         }
-        ServerView::Absent => Ok(ServerView::Absent),
+    }
+
+    // Returns the row of a port with this server part.
+    fn joined_row(&self, ns: &Text, part: ServerPart) -> Result<ServerRow, Memory>
+        ensures { IfOk result (λ row. (config : Config) (held : ObjectMap)
+            → ⟦<InboundViews as KeepsRows>⟧.stand self.now config held
+            → Present row ≡ join_inbound (kept_routes self.now held)
+            (kept_authz self.now config held) ns.now (Some part)) }
+    {
+        let server = part.2.as_ref();
+        let authz = self.server_authz(ns, server)?;
+        let routes = self.server_routes(ns, server)?;
+        Ok(row_of_part(self.alloc, part, authz, routes))
+    }
+
+    // Returns the authorizations of a Server, if there is one.
+    fn server_authz(&self, ns: &Text, server: Option<&Text>) -> Result<List<AuthzRow>, Memory>
+        ensures { IfOk result (λ rows. (config : Config) (held : ObjectMap)
+            → ⟦<InboundViews as KeepsRows>⟧.stand self.now config held
+            → rows ≡ authz_behind (kept_authz self.now config held) ns.now
+            (option_copied server.entry)) }
+    {
+        match server {
+            Some(name) => self.copied_authz(&server_key(ns, name)?),
+            None => Ok(List::new(self.alloc)),
+        }
+    }
+
+    // Returns the routes of a Server, if there is one, with their authorizations.
+    fn server_routes(&self, ns: &Text, server: Option<&Text>) -> Result<List<RouteRow>, Memory>
+        ensures { IfOk result (λ rows. (config : Config) (held : ObjectMap)
+            → ⟦<InboundViews as KeepsRows>⟧.stand self.now config held
+            → rows ≡ map (with_authz (kept_authz self.now config held) ns.now)
+            (routes_behind (kept_routes self.now held) ns.now (option_copied server.entry))) }
+    {
+        match server {
+            Some(name) => {
+                let routes = self.copied_routes(&routes_key(ns, name)?)?;
+                self.joined_routes(ns, routes)
+            }
+            None => Ok(List::new(self.alloc)),
+        }
+    }
+
+    // Adds the authorizations of each of these routes.
+    fn joined_routes(&self, ns: &Text, routes: List<RouteRow>) -> Result<List<RouteRow>, Memory>
+        ensures { IfOk result (λ rows. (config : Config) (held : ObjectMap)
+            → ⟦<InboundViews as KeepsRows>⟧.stand self.now config held
+            → rows ≡ map (with_authz (kept_authz self.now config held) ns.now) routes) }
+    {
+        let mut rows = List::new(self.alloc);
+        for route in routes.into_vec() {
+            rows.add(self.joined_route(ns, route)?)?;
+        }
+        Ok(rows)
+    }
+
+    // Adds the authorizations of a route.
+    fn joined_route(&self, ns: &Text, route: RouteRow) -> Result<RouteRow, Memory>
+        ensures { IfOk result (λ row. (config : Config) (held : ObjectMap)
+            → ⟦<InboundViews as KeepsRows>⟧.stand self.now config held
+            → row ≡ with_authz (kept_authz self.now config held) ns.now route) }
+    {
+        let mut route = route;
+        let key = key_of_row(ns, &route)?;
+        route.authz = self.copied_authz(&key)?;
+        Ok(route)
+    }
+
+    // Returns the routes of a Server, without their authorizations.
+    fn copied_routes(&self, key: &RouteKey) -> Result<List<RouteRow>, Memory>
+        ensures { IfOk result (λ rows. (config : Config) (held : ObjectMap)
+            → ⟦<InboundViews as KeepsRows>⟧.stand self.now config held
+            → rows ≡ kept_routes self.now held key.now) }
+    {
+        copied(self.alloc, self.routes.row(key))
+    }
+
+    // Returns the authorizations of a Server or of a route.
+    fn copied_authz(&self, key: &ObjKey) -> Result<List<AuthzRow>, Memory>
+        ensures { IfOk result (λ rows. (config : Config) (held : ObjectMap)
+            → ⟦<InboundViews as KeepsRows>⟧.stand self.now config held
+            → rows ≡ kept_authz self.now config held key.now) }
+    {
+        copied(self.alloc, self.authz.row(key))
     }
 }
 
@@ -178,37 +254,6 @@ fn bare_routes<S: RowSource, L>(
     }
 }
 
-// Adds the authorizations of each of these routes.
-fn joined_routes<S: RowSource>(
-    source: &S,
-    alloc: Global,
-    ns: &Text,
-    routes: List<RouteRow>,
-) -> Result<List<RouteRow>, Memory>
-    ensures { IfOk result (λ rows. (config : Config) (held : ObjectMap)
-        → S.stand source.now config held
-        → rows ≡ map (with_authz (S.authz_at source.now config held) ns.now) routes) }
-{
-    let mut rows = List::new(alloc);
-    for route in routes.into_vec() {
-        rows.add(joined_route(source, ns, route)?)?;
-    }
-    Ok(rows)
-}
-
-// Adds the authorizations of a route.
-fn joined_route<S: RowSource>(source: &S, ns: &Text, route: RouteRow) -> Result<RouteRow, Memory>
-    ensures { IfOk result (λ row. (config : Config) (held : ObjectMap)
-        → S.stand source.now config held
-        → row ≡ with_authz (S.authz_at source.now config held) ns.now route) }
-{
-    let mut route = route;
-    let mut none = Steps::<()>::new();
-    let key = key_of_row(ns, &route)?;
-    route.authz = source.authz(&key, &mut none)?;
-    Ok(route)
-}
-
 /// Copies the server part of a port.
 pub(crate) fn copied_part(
     alloc: Global,
@@ -219,5 +264,15 @@ pub(crate) fn copied_part(
     match part {
         Some(part) => Ok(Some((part.0, part.1, part.2.copy(alloc)?, part.3.copy(alloc)?))),
         None => Ok(None),
+    }
+}
+
+// Copies the rows, if there are any.
+fn copied<T: Copied>(alloc: Global, rows: Option<&List<T>>) -> Result<List<T>, Memory>
+    ensures { IfOk result (λ copy. copy ≡ unwrap_or (option_copied rows.entry) []) }
+{
+    match rows {
+        Some(rows) => rows.copy(alloc),
+        None => Ok(List::new(alloc)),
     }
 }

@@ -1,6 +1,5 @@
 // Sources of the rows of ports.
-ghost use Rattle.std.specs.Prelude.{◌≡◌, ◌≤◌, ◌+◌, List, [], IfOk, unwrap_or};
-ghost use Rattle.std.specs.Option.{option_copied};
+ghost use Rattle.std.specs.Prelude.{◌≡◌, ◌≤◌, ◌+◌, List, IfOk};
 ghost use Rattle.mesh_base.specs.declared.key.ObjKey.{ObjKey as TheObjKey};
 ghost use Rattle.view_types.specs.Objects.{ObjectMap};
 ghost use Rattle.view_types.specs.declared.config.Config.{Config};
@@ -9,14 +8,11 @@ ghost use Rattle.view_types.specs.declared.server_view.RouteRow.{RouteRow as The
 ghost use Rattle.mark_rules.specs.Reads.{authz_reads, cost, route_reads};
 ghost use Rattle.mark_rules.specs.declared.keys.RouteKey.{RouteKey as TheRouteKey};
 
-use crate::views::{InboundViews, KeepsRows};
 use mark_rules::keys::RouteKey;
-use mesh_base::copied::Copied;
 use mesh_base::key::ObjKey;
 use mesh_base::list::List;
 use mesh_base::memory::Memory;
 use mesh_base::steps::Steps;
-use std::alloc::Global;
 use view_types::server_view::{AuthzRow, RouteRow};
 
 /// The routes and the authorizations of ports, each list by its key.
@@ -41,33 +37,4 @@ pub trait RowSource {
             → stand self.now config held → rows ≡ authz_at self.now config held key.now) }
         ensures steps { (config : Config) (held : ObjectMap) → stand self.now config held
             → steps.new ≤ steps.old + cost held (authz_reads held key.now) };
-}
-
-/// Stored rows, each while an id is open with its key.
-impl RowSource for InboundViews {
-    ghost use Rattle.inbound_views.specs.Standing.{kept_authz, kept_routes};
-
-    ghost stand = { λ s config held. ⟦<InboundViews as KeepsRows>⟧.stand s config held };
-
-    ghost routes_at = { λ s held key. kept_routes s held key };
-
-    ghost authz_at = { λ s config held key. kept_authz s config held key };
-
-    fn routes<L>(&self, key: &RouteKey, _steps: &mut Steps<L>) -> Result<List<RouteRow>, Memory> {
-        copied(self.alloc, self.routes.row(key))
-    }
-
-    fn authz<L>(&self, key: &ObjKey, _steps: &mut Steps<L>) -> Result<List<AuthzRow>, Memory> {
-        copied(self.alloc, self.authz.row(key))
-    }
-}
-
-// Copies the rows, if there are any.
-fn copied<T: Copied>(alloc: Global, rows: Option<&List<T>>) -> Result<List<T>, Memory>
-    ensures { IfOk result (λ copy. copy ≡ unwrap_or (option_copied rows.entry) []) }
-{
-    match rows {
-        Some(rows) => rows.copy(alloc),
-        None => Ok(List::new(alloc)),
-    }
 }
