@@ -214,6 +214,21 @@ server_b_of_tier: {"type":"ADDED","object":{"apiVersion":"policy.linkerd.io/v1be
 pod_of_tier_alone: {"type":"MODIFIED","object":{"apiVersion":"v1","kind":"Pod","metadata":{"name":"web-1","namespace":"app","labels":{"tier":"x"}},"spec":{"containers":[{"ports":[{"name":"http","containerPort":8080}]},{"ports":[{"name":"http","containerPort":9090}]}]}}}
 a_deny: frame 1 0000000007080110051a0161
 b_open: frame 1 0000000007080110011a0162
+only_server_a: {"kind":"ServerList","apiVersion":"policy.linkerd.io/v1beta3","items":[{"metadata":{"name":"a","namespace":"app"},"spec":{"podSelector":{"matchLabels":{"app":"web"}},"port":8080}}]}
+a_sa: frame 1 0000000026080110051a0161221d0801120273611a090a070a050d000000001a060a040a02120022020a00
+route_r2_to_b: {"type":"ADDED","object":{"apiVersion":"policy.linkerd.io/v1","kind":"HTTPRoute","metadata":{"name":"r2","namespace":"app"},"spec":{"parentRefs":[{"group":"policy.linkerd.io","kind":"Server","name":"b"}]}}}
+policy_on_b: {"type":"ADDED","object":{"apiVersion":"policy.linkerd.io/v1alpha1","kind":"AuthorizationPolicy","metadata":{"name":"pb","namespace":"app"},"spec":{"targetRef":{"group":"policy.linkerd.io","kind":"Server","name":"b"},"requiredAuthenticationRefs":[]}}}
+a_pa_r1: frame 1 0000000039080110051a0161221d0802120270611a090a070a050d000000001a060a040a02120022020a002a110801120272312a090a070a05080212012f
+b_open_pb_r2: frame 1 0000000039080110011a0162221d0802120270621a090a070a050d000000001a060a040a02120022020a002a110801120272322a090a070a05080212012f
+server_a_9090: {"type":"ADDED","object":{"apiVersion":"policy.linkerd.io/v1beta3","kind":"Server","metadata":{"name":"a","namespace":"app"},"spec":{"podSelector":{"matchLabels":{"app":"web"}},"port":9090}}}
+watch_9090_2: {"control":"subscribe","id":2,"query":{"method":"WatchPort","workload":"app:web-1","port":9090}}
+a_to_2: frame 2 0000000007080110051a0161
+drain_2: {"control":"drain","id":2}
+a_r1_of_pa_to_2: frame 2 0000000039080110051a01612a300801120272312a090a070a05080212012f321d0802120270611a090a070a050d000000001a060a040a02120022020a00
+authz_chosen_by_back: {"type":"ADDED","object":{"apiVersion":"policy.linkerd.io/v1beta1","kind":"ServerAuthorization","metadata":{"name":"sa","namespace":"app"},"spec":{"server":{"selector":{"matchLabels":{"role":"back"}}},"client":{"unauthenticated":true}}}}
+web_pa_x_to_2: frame 2 000000002b080110051a0377656222200802120270611a090a070a050d000000001a060a040a02120022051a030a0178
+cancel: {"control":"cancel","id":1}
+web_pa_x_and_y_to_2: frame 2 000000002f080110051a0377656222240802120270611a090a070a050d000000001a060a040a02120022091a070a017812022e79
 "#;
 
 // The inbound views of ports: a case, the names of its lines, and the output.
@@ -313,6 +328,11 @@ a Server comes and goes: pod watch_port drain server drain server_gone => defaul
 a list without Servers: pod server watch_port drain no_servers => web, default
 two subscriptions to one port, each with its own last view: pod watch_port drain server watch_port_2 => default, web, web_to_2
 a Pod that loses the label of the least Server has the next: pod_two_tiers server_b_of_tier server_a watch_9090 drain pod_of_tier_alone => a_deny, b_open
+a Server that is renamed in a list has the authorizations of its new name, while that is the least: pod server policy authz_to_a watch_port drain only_server_a drain server drain server_a_gone drain => web_pa, a_sa, web_pa
+a Pod that gets other labels has another Server, with the route and the policy of that one: pod server_a server_b_of_tier route_to_a route_r2_to_b policy_on_a policy_on_b watch_port drain pod_of_tier_alone drain pod_two_tiers drain => a_pa_r1, b_open_pb_r2, a_pa_r1
+a route that moves to another Server and back takes its authorization along: pod server server_a_9090 route policy_on_r1 watch_port watch_9090_2 drain drain_2 route_to_a drain drain_2 route drain_2 drain => web_r1_of_pa, a_to_2, web, a_r1_of_pa_to_2, a_to_2, web_r1_of_pa
+a ServerAuthorization whose selector matches no more, by a change of its own or of the Server: pod server_labelled authz_chosen policy watch_port drain authz_chosen_by_back drain authz_chosen drain server drain => web_sa_and_pa, web_pa, web_sa_and_pa, web_pa
+two subscriptions to one port, of which one is cancelled before a change: pod server policy_mesh mesh watch_port watch_port_2 drain drain_2 cancel mesh_y drain_2 mesh_gone => web_pa_x, web_pa_x_to_2, web_pa_x_and_y_to_2, web_to_2
 ";
 
 // Limits, and a case as above.
