@@ -145,8 +145,8 @@ fn split<T: Drop>(chunks: &mut Vec<Vec<T>>, alloc: Global, chunk: usize) -> Resu
     }
 }
 
-/// Moves the items from an index on to a new chunk, and leaves no room behind the others, since items
-/// that are inserted in ascending order go to the new chunk.
+/// Moves the items from an index on to a new chunk, and leaves no room behind the others, since
+/// items that are inserted in ascending order go to the new chunk.
 fn cut<T: Drop>(chunk: &mut Vec<T>, at: usize) -> Result<Vec<T>, Memory>
     requires { at ≤ vec_len chunk.old }
     ensures items { OnOk result (chunk.new.items ≡ take at chunk.old.items) }

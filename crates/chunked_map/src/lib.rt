@@ -1,5 +1,6 @@
-//! An ordered map in chunks, searched by halves, without free room where keys are inserted in
-//! ascending order.
+//! An ordered map in chunks, searched by halves. Where keys are inserted in ascending order, no
+//! chunk but the last has free room.
+//!
 //! Depends on mesh_base and chunked_list.
 #![tactic(auto)]
 

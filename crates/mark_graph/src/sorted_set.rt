@@ -12,8 +12,8 @@ use mesh_base::memory::Memory;
 use std::alloc::Global;
 use std::marker::Model;
 
-/// A set as a sorted list, for sets with few items: one item is stored in place. Contracts see it as
-/// a `BTreeSet`.
+/// A set as a sorted list, for sets with few items: one item is stored in place. Contracts see it
+/// as a `BTreeSet`.
 #[derive(Drop)]
 pub struct SortedSet<T: Ord> {
     items: FewItems<T>,

@@ -1,8 +1,9 @@
-//! The types that all crates share: strings, lists, labels, keys of objects, limits and the step counter. Contracts see
-//! each as a plain value.
+//! The types that all crates share: strings, lists, labels, keys of objects, limits and the step
+//! counter. Contracts see each as a plain value.
 //!
-//! Depends on std alone. `Copied` is the trait of copies that equal their source, `Same` that of comparisons that decide
-//! equality. `specs/Keyed` defines sorted lists with keys, and `specs/KeyOrder` the order of objects' keys.
+//! Depends on std alone. `Copied` is the trait of copies that equal their source, `Same` that of
+//! comparisons that decide equality. `specs/Keyed` defines sorted lists with keys, and
+//! `specs/KeyOrder` the order of objects' keys.
 #![tactic(auto)]
 
 pub mod boxed;

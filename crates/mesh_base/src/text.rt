@@ -11,7 +11,8 @@ use std::hash::{Hash, Hasher};
 use std::marker::Model;
 use std::rc::RcStr;
 
-/// An immutable string, which contracts see as its bytes. Copies share the bytes, so that a copy allocates nothing.
+/// An immutable string, which contracts see as its bytes. Copies share the bytes, so that a copy
+/// allocates nothing.
 #[derive(Debug)]
 pub struct Text {
     text: RcStr,

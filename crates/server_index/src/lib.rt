@@ -3,7 +3,8 @@
 //!
 //! Depends on row_table for the rows, on mark_rules for the definition of a row and the marks that
 //! it reads, on object_store, on policy_rows for whether a Server selects a port, on view_scratch
-//! for the defaults without a Server, and on chunked_map for the Servers that match a port.
+//! for the Pod of a port and the defaults without a Server, and on chunked_map for the Servers that
+//! match a port.
 //! `ServerIndex` is the table of row_table over `ServerRule`, so its contract is that of
 //! `RowIndex`, with `server_part` and `server_reads` of mark_rules as its filter. A row stores the
 //! Servers that match its port (`specs/Matches`, `specs/Standing`), so that a changed Server is
