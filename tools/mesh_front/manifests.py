@@ -7,7 +7,7 @@ from dataclasses import dataclass
 from mesh_front.faults import Fault, Status
 from mesh_front.feed import Key, items, key_of, members, read_bytes
 from mesh_front.kinds import KINDS
-from mesh_front.yaml_subset import Unreadable, documents
+from mesh_front.manifest_yaml import Unreadable, documents
 
 
 @dataclass

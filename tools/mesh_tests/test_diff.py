@@ -95,7 +95,7 @@ class Diff(Case):
         """A file that is no YAML, one of another kind, one that is not there, and none."""
         change = self.room / "change"
         run = self.diff("policy.jsonl", b"kind: Server\n  name: web\n")
-        self.require(run, 2, "", f"mesh: cannot read {change}: line 2: name: web goes on with nothing above it\n")
+        self.require(run, 2, "", f"mesh: cannot read {change}: line 2: mapping values are not allowed here\n")
         run = self.diff("policy.jsonl", b"kind: ConfigMap\nmetadata:\n  name: a\n")
         self.require(run, 2, "", f"mesh: {change} has ConfigMap a, which is none of the kinds that are read, or no change of an object\n")
         run = self.mesh("diff", "policy.jsonl", "--apply", self.room / "none")

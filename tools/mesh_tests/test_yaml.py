@@ -1,8 +1,11 @@
-"""The part of YAML that is read, beside the values that it has by the standard."""
+"""The YAML that is read, beside the values that it has by the standard, and what is refused."""
 
+import sys
 import unittest
+from unittest import mock
 
-from mesh_front.yaml_subset import Unreadable, documents
+from mesh_front.faults import Fault, Status
+from mesh_front.manifest_yaml import Unreadable, documents
 
 MANIFEST = """
 ---
@@ -60,6 +63,28 @@ WANTED = {
         "yes-or-no": True,
     },
 }
+FOLDED = """
+--- # Source: chart/templates/server.yaml
+a: >-
+  two lines
+  of one string
+b: two lines
+  of one string
+c: [1,
+  "x"]
+d: {e: f,
+  g: "two lines
+  of one string"}
+? h
+: - i
+"""
+FOLDED_VALUE = {
+    "a": "two lines of one string",
+    "b": "two lines of one string",
+    "c": [1, "x"],
+    "d": {"e": "f", "g": "two lines of one string"},
+    "h": ["i"],
+}
 REFUSED = [
     "a: yes",
     "a: 010",
@@ -68,21 +93,20 @@ REFUSED = [
     "a: 1:30",
     "a: 1e3",
     "a: 1.0",
+    "yes: 1",
+    "a: [1, [no]]",
     "a: &x 1",
     "a: *x",
+    "a: &x 1\nb: *x",
+    "a: {<<: {b: 1}}",
     "a: !!str 1",
-    "a: >\n  x",
     "a: [1",
     "a: {b: 1, b: 2}",
     "a: 1\na: 2",
     "a: b: c",
     'a: "x',
-    "a: x\n  y",
     "a:\n  - 1\n b: 2",
     "\ta: 1",
-    "? a",
-    "a\nb",
-    "--- {}",
 ]
 
 
@@ -94,6 +118,17 @@ class Yaml(unittest.TestCase):
     def test_what_is_read(self):
         """Two documents; the part before the first `---` is empty."""
         self.assertEqual([WANTED, {"kind": "Pod"}], documents(MANIFEST))
+
+    def test_strings_and_brackets_over_several_lines(self):
+        """Folded strings, plain and quoted strings over several lines, and a document behind a comment."""
+        self.assertEqual([FOLDED_VALUE], documents(FOLDED))
+
+    def test_without_pyyaml(self):
+        """The package that is missing is named."""
+        with mock.patch.dict(sys.modules, {"yaml": None}), self.assertRaises(Fault) as raised:
+            documents("a: 1")
+        self.assertEqual(Status.NO_TOOL, raised.exception.status)
+        self.assertEqual("there is no PyYAML, which reads YAML (Debian: apt-get install python3-yaml)", str(raised.exception))
 
     def test_what_is_refused(self):
         """What is not read, or is read in two ways by two versions of YAML."""
