@@ -163,15 +163,19 @@ def left_out(kind: Kind) -> str:
     return f"left out {kind.title}: the cluster does not have it in the group {kind.group}"
 
 
+def empty_list(kind: Kind) -> dict:
+    """The list of a kind that the cluster lacks."""
+    return {"kind": f"{kind.name}List", "apiVersion": kind.api_version, "metadata": {}, "items": []}
+
+
 def run(cluster: Cluster, namespaces: list[str]) -> Status:
-    """Prints a list of each kind, one a line, once all are read."""
+    """Prints a list of each kind, one a line, once all are read. The list of a kind that the cluster lacks is empty."""
     lists = []
     for kind in KINDS:
         listing = listing_of(cluster, kind, namespaces)
         if listing is None:
-            print(f"mesh: {left_out(kind)}", file=sys.stderr)
-        else:
-            lists.append(listing.value)
+            print(f"mesh: the list of {kind.title} is empty: the cluster does not have it in the group {kind.group}", file=sys.stderr)
+        lists.append(listing.value if listing else empty_list(kind))
     for value in lists:
         print(line_of(value))
     return Status.DONE

@@ -2,7 +2,7 @@
 
 import json
 
-from mesh_tests.support import Case, list_page
+from mesh_tests.support import Case, list_page, replay
 
 
 class Record(Case):
@@ -13,18 +13,28 @@ class Record(Case):
         self.put_kubectl(answers)
         return self.run_mesh("record", *words)
 
-    def left_out(self, *names: str) -> str:
-        """What is said of kinds that the cluster lacks."""
-        return "".join(f"mesh: left out {kind}: the cluster does not have it in the group {group}\n" for kind, group in map(str.split, names))
+    def absent(self, *kinds: tuple[str, str, str]) -> tuple[list[dict], str]:
+        """The empty lists of kinds that the cluster lacks, and what is said of them."""
+        lists = [{"kind": f"{kind}List", "apiVersion": f"{group}/{version}", "metadata": {}, "items": []} for kind, group, version in kinds]
+        titles = [(f"{kind}.{group}" if kind == "HTTPRoute" else kind, group) for kind, group, _ in kinds]
+        said = [f"mesh: the list of {title} is empty: the cluster does not have it in the group {group}\n" for title, group in titles]
+        return lists, "".join(said)
 
-    def policies(self) -> list[str]:
-        """The kinds of Linkerd and of the Gateway API."""
-        kinds = ["Server", "ServerAuthorization", "AuthorizationPolicy", "MeshTLSAuthentication", "NetworkAuthentication"]
-        routes = [f"HTTPRoute.{group} {group}" for group in ("policy.linkerd.io", "gateway.networking.k8s.io")]
-        return ["ServiceProfile linkerd.io", *(f"{kind} policy.linkerd.io" for kind in kinds), *routes]
+    def policies(self) -> list[tuple[str, str, str]]:
+        """The kinds of Linkerd and of the Gateway API, each with its group and the version that docs/FEED.md has."""
+        versions = {
+            "Server": "v1beta3",
+            "ServerAuthorization": "v1beta1",
+            "AuthorizationPolicy": "v1alpha1",
+            "MeshTLSAuthentication": "v1alpha1",
+            "NetworkAuthentication": "v1alpha1",
+            "HTTPRoute": "v1beta3",
+        }
+        kinds = [(kind, "policy.linkerd.io", version) for kind, version in versions.items()]
+        return [("ServiceProfile", "linkerd.io", "v1alpha2"), *kinds, ("HTTPRoute", "gateway.networking.k8s.io", "v1")]
 
     def test_pages_and_kinds_that_the_cluster_lacks(self):
-        """The Services come in two pages; there is no Linkerd, and EndpointSlice has an older version."""
+        """The Services come in two pages; there is no Linkerd, whose lists are empty, and EndpointSlice has an older version."""
         groups = {"versions": [{"version": "v1beta1"}], "preferredVersion": {"version": "v1beta1"}}
         run = self.record({
             "/api/v1/services?limit=500": list_page("Service", "a", more="x y"),
@@ -33,9 +43,12 @@ class Record(Case):
             "/apis/discovery.k8s.io": groups,
             "/apis/discovery.k8s.io/v1beta1/endpointslices?limit=500": list_page("EndpointSlice", "c"),
         })
-        expected = [list_page("Service", "a", "b"), list_page("Pod"), list_page("EndpointSlice", "c")]
+        empty_lists, said = self.absent(*self.policies())
+        expected = [list_page("Service", "a", "b"), list_page("Pod"), list_page("EndpointSlice", "c"), *empty_lists]
         self.assertEqual(expected, list(map(json.loads, run.output.splitlines())))
-        self.assertEqual((0, self.left_out(*self.policies())), (run.status, run.error_output))
+        self.assertEqual((0, said), (run.status, run.error_output))
+        empty_lines = "".join(f"{json.dumps(it)}\n" for it in empty_lists)
+        self.assertEqual(b"", replay(empty_lines.encode()), "the program accepts each of them")
 
     def test_single_namespaces(self):
         """Two namespaces make one list of a kind, also where one is named twice. The context goes to kubectl."""
@@ -45,9 +58,10 @@ class Record(Case):
             "--context c /api/v1/namespaces/x/pods?limit=500": list_page("Pod", "p"),
             "--context c /api/v1/namespaces/y/pods?limit=500": list_page("Pod"),
         }, "-n", "x", "-n", "y", "-n", "x", "--context", "c")
-        expected = [list_page("Service", "a", "b"), list_page("Pod", "p")]
+        empty_lists, said = self.absent(("EndpointSlice", "discovery.k8s.io", "v1"), *self.policies())
+        expected = [list_page("Service", "a", "b"), list_page("Pod", "p"), *empty_lists]
         self.assertEqual(expected, list(map(json.loads, run.output.splitlines())))
-        self.assertEqual((0, self.left_out("EndpointSlice discovery.k8s.io", *self.policies())), (run.status, run.error_output))
+        self.assertEqual((0, said), (run.status, run.error_output))
 
     def test_the_first_failure_ends_it(self):
         """Nothing is printed, and the kind is named."""
