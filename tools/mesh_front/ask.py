@@ -4,7 +4,8 @@ The reasons are found by asking again. Of each authorization in the view all oth
 it is, from an address that the authorization shows, as a client that it shows, and as both. Where the policy of the Server or the
 default one denies, the request is simulated with an identity, at the address of a Pod, and with both, so that the answer can say what
 the client lacks for the policy to admit it, or for the request to be a probe. A policy that names the Server and is not in the view
-is asked for once more with the references that it lacks.
+is asked for once more with the references that it lacks. Which match of a route holds is found with a route for each match, and a policy
+for each of these routes that admits everyone: the policy that decides names the match.
 """
 
 import ipaddress
@@ -12,12 +13,13 @@ from dataclasses import dataclass, replace
 
 from mesh_front import policy, probes, views
 from mesh_front.faults import Fault, Status
-from mesh_front.feed import Key, Objects, members
-from mesh_front.kinds import AUTHORIZATION_POLICY, POD, SERVER_AUTHORIZATION
+from mesh_front.feed import Key, Objects, items, members
+from mesh_front.kinds import AUTHORIZATION_POLICY, GATEWAY_ROUTE, LINKERD_ROUTE, POD, POLICY_KINDS, SERVER, SERVER_AUTHORIZATION, Kind
 from mesh_front.names import PodName, PodPort, require_pod
 from mesh_front.program import Answers, Script, Session
 from mesh_front.tables import show, table
 
+NOBODY = "nobody"
 KINDS = {kind.name: kind for kind in (SERVER_AUTHORIZATION, AUTHORIZATION_POLICY)}
 
 
@@ -63,13 +65,13 @@ class Words:
 
 @dataclass
 class Reason:
-    """An authorization of the view, and which part of it admits the client. Without `counts` none of it is asked here."""
+    """An authorization of the view, and which part of it admits the client. Without `counts` that is asked only of what admits nobody."""
 
     authorization: views.Authorization
     admits: bool
     counts: bool
-    network_admits: bool
-    client_admits: bool
+    network_admits: bool | None
+    client_admits: bool | None
 
 
 @dataclass
@@ -81,9 +83,29 @@ class HiddenPolicy:
 
 
 @dataclass
-class Answer:
-    """What comes of the request, and why. Where a policy denies: what the client would need for it, and for the request as a probe."""
+class MatchedRoute:
+    """The route that the request uses, and its match: the place of the rule in the route, and of the match in the rule, from 0."""
 
+    name: str
+    group: str
+    rule: int
+    match: int
+    text: str
+
+    def __str__(self) -> str:
+        return f"HTTPRoute/{self.name} of {self.group}, rule {self.rule}, match {self.match}: {self.text}"
+
+
+@dataclass
+class Answer:
+    """What comes of the request, and why. Where the feed lacks something, `allowed` is not known.
+
+    Where a policy denies: what the client would need for it, and for the request as a probe.
+    """
+
+    allowed: bool | None
+    decider: str | None
+    route: MatchedRoute | None
     verdict: str
     policy_needs: str | None
     probe_needs: str | None
@@ -102,6 +124,18 @@ class First:
     view: views.Inbound
     is_meshed: bool
     client: Client
+
+
+@dataclass
+class Match:
+    """The simulation over a route for each match, and the match of each verdict that it can have."""
+
+    number: int
+    matches: dict[str, MatchedRoute]
+
+    def matched(self, answers: Answers) -> MatchedRoute | None:
+        """The match that the request has, None where no route is used."""
+        return self.matches.get(answers.verdicts.get(self.number, ""))
 
 
 @dataclass
@@ -169,11 +203,55 @@ def object_of(objects: Objects, namespace: str, authorization: views.Authorizati
     return objects.by_key[Key(KINDS[authorization.kind], namespace, authorization.name)]
 
 
+def route_kind(route: views.Route) -> Kind:
+    """The kind of a route of a view."""
+    return GATEWAY_ROUTE if route.group == GATEWAY_ROUTE.group else LINKERD_ROUTE
+
+
 def ask_trial(script: Script, words: Words, client: Client, one: views.Authorization) -> Trial:
     """Asks which part of an authorization admits the client, where it is the only one."""
     elsewhere, other = shown_address(one, client), shown_client(one, client)
     clients = [client, elsewhere, other, shown_client(one, elsewhere)]
     return Trial(*(script.simulate(words.request(it)) for it in clients))
+
+
+def split_routes(objects: Objects, namespace: str, view: views.Inbound) -> list[tuple[MatchedRoute, dict]]:
+    """A route for each match of the routes of a view, in their order, with the match that it has."""
+    name, routes = objects.free_name(namespace), []
+    for one in view.routes:
+        spec = objects.spec(Key(route_kind(one), namespace, one.name))
+        texts = iter(one.matches)
+        for place, rule in enumerate(items(spec, "rules")):
+            for number, match in enumerate(items(rule, "matches") or [{}]):
+                parent = {"group": SERVER.group, "kind": SERVER.name, "name": view.server}
+                rest = {"hostnames": spec.get("hostnames"), "parentRefs": [parent], "rules": [{"matches": [match]}]}
+                value = probes.new_object(LINKERD_ROUTE, namespace, f"{name}-{len(routes):06}", spec=rest)
+                routes.append((MatchedRoute(one.name, one.group, place, number, next(texts, "-")), value))
+    return routes
+
+
+def open_policy(route: dict) -> dict:
+    """A policy of a route that admits everyone."""
+    metadata = route["metadata"]
+    target = {"group": LINKERD_ROUTE.group, "kind": LINKERD_ROUTE.name, "name": metadata["name"]}
+    spec = {"targetRef": target, "requiredAuthenticationRefs": []}
+    return probes.new_object(AUTHORIZATION_POLICY, metadata["namespace"], metadata["name"], spec=spec)
+
+
+def ask_match(objects: Objects, script: Script, words: Words, first: First) -> Match:
+    """Asks which match the request has."""
+    namespace = words.target.pod.namespace
+    routes = split_routes(objects, namespace, first.view)
+    own = [it for _, value in routes for it in (value, open_policy(value))]
+    values = [object_of(objects, namespace, it) for it in first.view.authorizations]
+    values += [objects.by_key[Key(route_kind(it), namespace, it.name)] for it in first.view.routes]
+    script.remove(*values)
+    script.hold(*own)
+    number = script.simulate(words.request(first.client))
+    script.remove(*own)
+    script.hold(*values)
+    verdicts = {f"allowed {AUTHORIZATION_POLICY.name} {namespace}/{value['metadata']['name']}": it for it, value in routes}
+    return Match(number, verdicts)
 
 
 def hidden_policies(objects: Objects, first: First, namespace: str) -> list[Key]:
@@ -218,7 +296,10 @@ def reason(authorization: views.Authorization, namespace: str, trial: Trial, ans
     """What the simulations of an authorization say."""
     verdict = f"allowed {authorization.kind} {namespace}/{authorization.name}"
     as_it_is, address, client, both = (answers.verdicts.get(number) == verdict for number in vars(trial).values())
-    return Reason(authorization, as_it_is, as_it_is or both, as_it_is or client, as_it_is or address)
+    if as_it_is or both:
+        return Reason(authorization, as_it_is, True, as_it_is or client, as_it_is or address)
+    no_place = None if authorization.networks else False
+    return Reason(authorization, False, False, no_place, False if str(authorization.clients) == NOBODY else None)
 
 
 def least(needs: dict[str, int], decider: str, answers: Answers) -> str | None:
@@ -243,13 +324,14 @@ def second_run(session: Session, words: Words, first: First) -> Answer:
 
     def questions(objects, script):
         verdict = script.simulate(words.request(first.client))
+        match = ask_match(objects, script, words, first) if first.view.routes and words.http is not None else None
         trials = ask_reasons(objects, script, words, first) if first.view.server else []
         needs = ask_policy(objects, script, words, first)
         hidden_keys = hidden_policies(objects, first, namespace) if first.view.server else []
         script.hold(*probes.stand_ins([it for key in hidden_keys for it in probes.missing_references(objects, key)]))
-        return verdict, needs, trials, hidden_keys, script.view(policy.inbound_query(words.target))
+        return verdict, match, needs, trials, hidden_keys, script.view(policy.inbound_query(words.target))
 
-    (verdict, needs, trials, hidden_keys, number), answers = session.ask(questions)
+    (verdict, match, needs, trials, hidden_keys, number), answers = session.ask(questions)
     if verdict in answers.refusals:
         raise Fault(Status.REFUSED, f"the simulation is refused: {answers.refusals[verdict]}")
     reasons = [reason(it, namespace, trial, answers) for it, trial in zip(first.view.authorizations, trials)]
@@ -258,11 +340,30 @@ def second_run(session: Session, words: Words, first: First) -> Answer:
     text = answers.verdicts[verdict]
     lacks = [least(needs, decider, answers) if text.startswith("denied") else None for decider in ("default", "probe")]
     reasons_for_request = [] if text == "not-found" else reasons
-    return Answer(text, *lacks, words.request_text(), first.client, first.is_meshed, first.view, reasons_for_request, policies)
+    allowed = None if session.gaps(POLICY_KINDS) else text.startswith("allowed")
+    head = allowed, decider(text, first.view, namespace), match.matched(answers) if match else None, text
+    return Answer(*head, *lacks, words.request_text(), first.client, first.is_meshed, first.view, reasons_for_request, policies)
+
+
+def decider(verdict: str, view: views.Inbound, namespace: str) -> str | None:
+    """What decides, None where no route matches."""
+    _, *rest = verdict.split(" ")
+    if not rest:
+        return None
+    if rest[0] == "probe":
+        return f"probe GET {view.probes[int(rest[1])]}"
+    if rest[0] != "default":
+        return " ".join(rest)
+    return f"policy {rest[1]} of Server {namespace}/{view.server}" if view.server else f"default policy {rest[1]}"
 
 
 def verdict_text(answer: Answer) -> str:
-    """The verdict as people read it."""
+    """The verdict as people read it, which is not known where the feed lacks something."""
+    return ("not known; as far as the feed goes: " if answer.allowed is None else "") + plain_verdict_text(answer)
+
+
+def plain_verdict_text(answer: Answer) -> str:
+    """The verdict over what is held."""
     word, *rest = answer.verdict.split(" ")
     if word == "not-found":
         return f"not found: the Server {answer.view.server} has routes, and none matches the request"
@@ -283,7 +384,7 @@ def reason_cells(it: Reason, view: views.Inbound) -> list[str]:
     if it.counts:
         cells = ["admits" if admits else f"needs {text}" for text, admits in parts]
     else:
-        cells = [f"admits {text}" if text in ("nobody", "nowhere") else "-" for text, _ in parts]
+        cells = ["-" if admits is None else f"admits {text}" for text, admits in parts]
     other = ", not matched" if one.route and not it.counts and cells == ["-", "-"] else ""
     return [one.title, policy.scope(one, view) + other, *cells]
 
@@ -299,6 +400,7 @@ def lines(answer: Answer) -> list[str]:
         "REQUEST": answer.request,
         "CLIENT": answer.client,
         "SERVER": f"{server} {view.policy}",
+        **({"ROUTE": answer.route} if answer.route else {}),
         "MESHED": "yes" if answer.is_meshed else "no: the Pod has no proxy of this control plane to apply this",
     }
     output = [f"{name:<9}{text}" for name, text in pairs.items()]
@@ -315,5 +417,6 @@ def lines(answer: Answer) -> list[str]:
 def run(session: Session, words: Words, as_json: bool) -> Status:
     """Shows what comes of a request, and why."""
     answer = second_run(session, words, first_run(session, words))
-    show(answer, lines(answer), as_json)
-    return Status.DONE if answer.verdict.startswith("allowed") else Status.NO
+    gaps = session.gaps(POLICY_KINDS)
+    show(gaps, answer, lines(answer), as_json)
+    return gaps.status(Status.DONE if answer.verdict.startswith("allowed") else Status.NO)

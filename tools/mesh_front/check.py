@@ -10,14 +10,11 @@ from dataclasses import dataclass, field
 from mesh_front import policy, probes, views
 from mesh_front.faults import Status
 from mesh_front.feed import Key, Objects, items, members
-from mesh_front.kinds import AUTHORIZATION_POLICY, GATEWAY_ROUTE, LINKERD_ROUTE, POD, SERVER, SERVER_AUTHORIZATION, SERVICE, kind_of
+from mesh_front.kinds import AUTHORIZATION_POLICY, KINDS, POD, ROUTE_KINDS, SERVER, SERVER_AUTHORIZATION, SERVICE, kind_of
 from mesh_front.messages import Message
 from mesh_front.names import PodName, PodPort
 from mesh_front.program import Answers, Query, Script, Session
 from mesh_front.tables import show, table
-
-ROUTE_KINDS = (LINKERD_ROUTE, GATEWAY_ROUTE)
-
 
 @dataclass(frozen=True)
 class Problem:
@@ -25,6 +22,22 @@ class Problem:
 
     object: str
     problem: str
+
+
+@dataclass(frozen=True)
+class Held:
+    """How many objects of a kind the feed holds at its end, None where it says nothing of the kind."""
+
+    kind: str
+    held: int | None
+
+
+@dataclass
+class Answer:
+    """What the feed holds, and the problems in it."""
+
+    kinds: list[Held]
+    problems: list[Problem]
 
 
 @dataclass
@@ -75,10 +88,14 @@ def first_questions(objects: Objects, script: Script) -> First:
     return first
 
 
-def servers_of(ports: dict[PodPort, int], answers: Answers) -> dict[PodPort, str]:
+def views_of(ports: dict[PodPort, int], answers: Answers) -> dict[PodPort, views.Inbound]:
+    """The view of each port."""
+    return {target: views.inbound(answers.view(number)) for target, number in ports.items()}
+
+
+def servers_of(inbound: dict[PodPort, views.Inbound]) -> dict[PodPort, str]:
     """The Server of each port that has one."""
-    servers = {target: views.inbound(answers.view(number)).server for target, number in ports.items()}
-    return {target: server for target, server in servers.items() if server}
+    return {target: view.server for target, view in inbound.items() if view.server}
 
 
 def by_server(server_by_port: dict[PodPort, str]) -> dict[tuple[str, str], list[PodPort]]:
@@ -89,10 +106,10 @@ def by_server(server_by_port: dict[PodPort, str]) -> dict[tuple[str, str], list[
     return ports
 
 
-def second_questions(objects: Objects, script: Script, server_by_port: dict[PodPort, str]) -> Second:
+def second_questions(objects: Objects, script: Script, inbound: dict[PodPort, views.Inbound]) -> Second:
     """Asks for each port with a Server which one it has without it, and what applies to each Server with all references."""
     ports = {}
-    for (namespace, name), targets in by_server(server_by_port).items():
+    for (namespace, name), targets in by_server(servers_of(inbound)).items():
         server = objects.by_key[Key(SERVER, namespace, name)]
         script.remove(server)
         for target in targets:
@@ -114,7 +131,7 @@ def idle_servers_of(session: Session, first: First, rest: set[Key]) -> set[Key]:
     """Of the Servers that no port has beside all others, those that no port has without the others either."""
     while rest:
         ports, answers = session.ask(lambda objects, script: ask_without(objects, script, first, rest))
-        servers = {Key(SERVER, namespace, name) for namespace, name in by_server(servers_of(ports, answers))}
+        servers = {Key(SERVER, namespace, name) for namespace, name in by_server(servers_of(views_of(ports, answers)))}
         if not servers & rest:
             break
         rest = rest - servers
@@ -213,9 +230,9 @@ def port_problems(server_by_port: dict[PodPort, str], second: dict[PodPort, str]
 def find(session: Session) -> list[Problem]:
     """The problems of a feed."""
     first, answers = session.ask(first_questions)
-    server_by_port = servers_of(first.ports, answers)
-    second, more = session.ask(lambda objects, script: second_questions(objects, script, server_by_port))
-    second_servers = servers_of(second.ports, more)
+    inbound = views_of(first.ports, answers)
+    second, more = session.ask(lambda objects, script: second_questions(objects, script, inbound))
+    server_by_port, second_servers = servers_of(inbound), servers_of(views_of(second.ports, more))
     names = {name for servers in (server_by_port, second_servers) for name in by_server(servers)}
     servers_in_use = {Key(SERVER, *name) for name in names}
     idle_servers = idle_servers_of(session, first, set(session.objects.of(SERVER)) - servers_in_use)
@@ -227,9 +244,22 @@ def find(session: Session) -> list[Problem]:
     return problems + backend_problems(first, answers)
 
 
+def held_kinds(session: Session) -> list[Held]:
+    """What the feed holds of each kind."""
+    missing = session.gaps(KINDS).missing
+    return [Held(kind.title, None if kind.title in missing else len(session.objects.of(kind))) for kind in KINDS]
+
+
+def lines(answer: Answer) -> list[str]:
+    """The answer as people read it."""
+    output = table(["KIND", "HELD"], [[it.kind, "-" if it.held is None else str(it.held)] for it in answer.kinds])
+    rows = [[it.object, it.problem] for it in answer.problems]
+    return [*output, "", *(table(["OBJECT", "PROBLEM"], rows) if rows else ["no problem found"])]
+
+
 def run(session: Session, as_json: bool) -> Status:
-    """Shows the problems of a feed."""
+    """Shows what a feed holds, and its problems."""
     problems = find(session)
-    rows = [[it.object, it.problem] for it in problems]
-    show(problems, table(["OBJECT", "PROBLEM"], rows) if rows else ["no problem found"], as_json)
-    return Status.NO if problems else Status.DONE
+    answer, gaps = Answer(held_kinds(session), problems), session.gaps(KINDS)
+    show(gaps, answer, lines(answer), as_json)
+    return gaps.status(Status.NO if problems else Status.DONE)

@@ -6,7 +6,7 @@ from dataclasses import dataclass
 from mesh_front import policy, views
 from mesh_front.faults import Fault, Status
 from mesh_front.feed import Objects, apply
-from mesh_front.kinds import POD, SERVICE
+from mesh_front.kinds import KINDS, POD, SERVICE
 from mesh_front.manifests import Change
 from mesh_front.messages import Message, address
 from mesh_front.names import PodName, PodPort
@@ -32,6 +32,13 @@ class Difference:
     view: str
     before: list[str]
     after: list[str]
+
+
+@dataclass
+class Answer:
+    """The views that change."""
+
+    changes: list[Difference]
 
 
 @dataclass
@@ -155,6 +162,6 @@ def run(session: Session, changes: list[Change], as_json: bool) -> Status:
     require_changes(changes, comparison, answers)
     questions = zip(comparison.questions, comparison.before, comparison.after)
     results = [difference(it, answers.view(before), answers.view(after)) for it, before, after in questions]
-    differences = [it for it in results if it]
-    show(differences, lines(differences, comparison), as_json)
-    return Status.NO if differences else Status.DONE
+    differences, gaps = [it for it in results if it], session.gaps(KINDS)
+    show(gaps, Answer(differences), lines(differences, comparison), as_json)
+    return gaps.status(Status.NO if differences else Status.DONE)

@@ -4,6 +4,7 @@ from dataclasses import dataclass
 
 from mesh_front import views
 from mesh_front.faults import Status
+from mesh_front.kinds import ENDPOINT_KINDS
 from mesh_front.names import ServiceName, require_service
 from mesh_front.program import Query, Session
 from mesh_front.tables import show, table
@@ -20,11 +21,18 @@ class PortEndpoints:
     endpoints: list[views.Endpoint]
 
 
-def lines(service: ServiceName, answer: list[PortEndpoints]) -> list[str]:
+@dataclass
+class Answer:
+    """The endpoints of each port that is asked for."""
+
+    ports: list[PortEndpoints]
+
+
+def lines(service: ServiceName, answer: Answer) -> list[str]:
     """The answer as people read it."""
-    rows = [[str(it.service_port), *row.cells()] for it in answer for row in it.endpoints]
+    rows = [[str(it.service_port), *row.cells()] for it in answer.ports for row in it.endpoints]
     output = table(HEADINGS, rows) if rows else []
-    for it in answer:
+    for it in answer.ports:
         if not it.exists:
             output.append(f"{service.name}.{service.namespace}:{it.service_port} counts as not existing, as an ExternalName does")
         elif not it.endpoints:
@@ -42,6 +50,7 @@ def run(session: Session, service: ServiceName, as_json: bool) -> Status:
 
     numbers, answers = session.ask(questions)
     pairs = [(port, views.endpoints(answers.view(number))) for port, number in numbers]
-    answer = [PortEndpoints(port, it.exists, it.endpoints) for port, it in pairs]
-    show(answer, lines(service, answer), as_json)
-    return Status.DONE
+    answer = Answer([PortEndpoints(port, it.exists, it.endpoints) for port, it in pairs])
+    gaps = session.gaps(ENDPOINT_KINDS)
+    show(gaps, answer, lines(service, answer), as_json)
+    return gaps.status(Status.DONE)

@@ -20,6 +20,7 @@ class Status(enum.IntEnum):
     NO_SERVER = 8
     CLOSED = 9
     NO_LINKERD = 10
+    INCOMPLETE = 11
 
 
 MEANINGS = {
@@ -31,6 +32,7 @@ MEANINGS = {
     Status.NO_TOOL: "linkerd_cli, protoc or kubectl is not there",
     Status.TOOL_FAILED: "linkerd_cli, protoc or kubectl failed",
     Status.REFUSED: "a line of the feed is refused, and the answer is without it; or the simulation or the change is refused",
+    Status.INCOMPLETE: "the feed says nothing of a kind on which the answer rests: the first line of the answer names the kinds",
 }
 
 

@@ -59,6 +59,22 @@ def key_of(value: dict) -> Key | None:
     return Key(kind, namespace, name) if kind and isinstance(name, str) and isinstance(namespace, str) else None
 
 
+def kind_of_line(value) -> Kind | None:
+    """The kind of the list or the event that the value of a line is, None of a BOOKMARK and of what is neither."""
+    if not isinstance(value, dict):
+        return None
+    if value.get("type") is not None:
+        one = members(value, "object")
+        return kind_of(one.get("kind"), one.get("apiVersion")) if value["type"] in ("ADDED", "MODIFIED", "DELETED") else None
+    name = value.get("kind")
+    return kind_of(name.removesuffix("List"), value.get("apiVersion")) if isinstance(name, str) and name.endswith("List") else None
+
+
+def object_of_line(value) -> Key | None:
+    """The key of the object of an event; None of a list, and where it has none."""
+    return key_of(members(value, "object")) if isinstance(value, dict) and value.get("type") is not None else None
+
+
 def apply_list(objects: dict[Key, dict], value: dict) -> None:
     """Holds the items of a list in place of all objects of its kind."""
     kind = kind_of(value["kind"].removesuffix("List"), value.get("apiVersion"))

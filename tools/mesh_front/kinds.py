@@ -52,6 +52,10 @@ KINDS = (
     GATEWAY_ROUTE,
 )
 
+ROUTE_KINDS = (LINKERD_ROUTE, GATEWAY_ROUTE)
+POLICY_KINDS = (POD, SERVER, SERVER_AUTHORIZATION, AUTHORIZATION_POLICY, MESH_AUTHENTICATION, NETWORK_AUTHENTICATION, *ROUTE_KINDS)
+ENDPOINT_KINDS = (SERVICE, SLICE, POD)
+
 
 def kind_of(name: object, api_version: object) -> Kind | None:
     """The kind with this name and the group of this `apiVersion`, or None."""

@@ -2,6 +2,7 @@
 
 from mesh_front import views
 from mesh_front.faults import Fault, Status
+from mesh_front.kinds import POLICY_KINDS
 from mesh_front.names import PodPort, require_pod
 from mesh_front.program import Query, Session
 from mesh_front.tables import show, table
@@ -54,5 +55,6 @@ def run(session: Session, target: PodPort, as_json: bool) -> Status:
 
     number, answers = session.ask(questions)
     view = require_view(views.inbound(answers.view(number)), target)
-    show(view, lines(view), as_json)
-    return Status.DONE
+    gaps = session.gaps(POLICY_KINDS)
+    show(gaps, view, lines(view), as_json)
+    return gaps.status(Status.DONE)

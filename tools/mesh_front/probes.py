@@ -17,14 +17,14 @@ def new_object(kind: Kind, namespace: str, name: str, labels: dict | None = None
     return {"apiVersion": kind.api_version, "kind": kind.name, "metadata": metadata, **rest}
 
 
-def ask_row(objects: Objects, script: Script, pod: PodName) -> int:
-    """Asks for the row of a Pod, whatever its address is: by a Service with one endpoint that targets it."""
+def ask_row(objects: Objects, script: Script, pod: PodName, port: int = PORT) -> int:
+    """Asks for the row of a Pod at a port, whatever its address is: by a Service with one endpoint that targets it."""
     name = objects.free_name(pod.namespace)
     service = new_object(SERVICE, pod.namespace, name, spec={"ports": [{"port": PORT}]})
     target = {"kind": "Pod", "namespace": pod.namespace, "name": pod.name}
     endpoints = [{"addresses": [ADDRESS], "targetRef": target}]
     labels = {"kubernetes.io/service-name": name}
-    endpoint_slice = new_object(SLICE, pod.namespace, name, labels, addressType="IPv4", endpoints=endpoints, ports=[{"port": PORT}])
+    endpoint_slice = new_object(SLICE, pod.namespace, name, labels, addressType="IPv4", endpoints=endpoints, ports=[{"port": port}])
     script.hold(service, endpoint_slice)
     number = script.view(Query("Get", f"{name}.{pod.namespace}", PORT))
     script.remove(service, endpoint_slice)

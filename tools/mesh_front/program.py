@@ -7,10 +7,12 @@ import subprocess
 import sys
 import tempfile
 from dataclasses import dataclass, field
-from typing import Callable, TypeVar
+from typing import Callable, Iterable, TypeVar
 
 from mesh_front.faults import Fault, Status
 from mesh_front.feed import Feed, Objects
+from mesh_front.gaps import Gaps, gaps_of
+from mesh_front.kinds import Kind
 from mesh_front.messages import Message, decode_each, message_in, tree
 
 Numbers = TypeVar("Asked")
@@ -192,6 +194,10 @@ class Session:
         """Raises a Fault where an event that the questions need is refused, as it is where too many objects are held."""
         for number in script.events & answers.refusals.keys():
             raise Fault(Status.TOOL_FAILED, f"an event that the question needs is refused: {answers.refusals[number]}")
+
+    def gaps(self, kinds: Iterable[Kind]) -> Gaps:
+        """What the feed lacks of some kinds."""
+        return gaps_of(self.feed, self.refusals, kinds)
 
     def require_objects(self) -> None:
         """Raises a Fault where the feed holds nothing."""

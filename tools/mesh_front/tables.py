@@ -3,6 +3,8 @@
 import dataclasses
 import json
 
+from mesh_front.gaps import Gaps
+
 
 def table(headings: list[str], rows: list[list[str]]) -> list[str]:
     """The lines of a table: each column as wide as its widest cell."""
@@ -19,6 +21,6 @@ def values(answer):
     return answer
 
 
-def show(answer, lines: list[str], as_json: bool) -> None:
-    """Prints an answer as JSON, or its lines."""
-    print(json.dumps(values(answer), indent=2) if as_json else "\n".join(lines))
+def show(gaps: Gaps, answer, lines: list[str], as_json: bool) -> None:
+    """Prints an answer as JSON or in lines, behind what the feed lacks for it."""
+    print(json.dumps({**values(gaps), **values(answer)}, indent=2) if as_json else "\n".join(gaps.lines() + lines))

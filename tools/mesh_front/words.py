@@ -3,7 +3,10 @@
 import argparse
 import ipaddress
 import pathlib
+import re
 import sys
+import urllib.parse
+from dataclasses import dataclass
 from typing import Callable
 
 from mesh_front import ask, check, diff, endpoints, policy, record
@@ -51,6 +54,32 @@ def header(word: str) -> list[str]:
     if not equals or not name:
         raise ValueError
     return [name, value]
+
+
+@dataclass(frozen=True)
+class RequestPath:
+    """The path of a request, and the host and the query that were written with it."""
+
+    path: str
+    host: str | None = None
+    query: str | None = None
+
+
+def request_path(word: str) -> RequestPath:
+    """The path of a word, which may be a URL; a ValueError where there is none. What follows a `#` is not sent."""
+    is_url = re.match("(?i)https?://", word) is not None
+    url = urllib.parse.urlsplit(word if is_url else f"http://host{word}")
+    path = url.path or "/"
+    if not re.fullmatch("[!-~]+", word) or not path.startswith("/") or not (url.hostname if is_url else word.startswith("/")):
+        raise ValueError
+    return RequestPath(path, url.hostname if is_url else None, url.query or None)
+
+
+def only_one(what: str, in_path: str | None, given: str | None) -> str | None:
+    """A part of the request that the path or an option gives."""
+    if in_path is not None and given is not None:
+        raise Fault(Status.USAGE, f"give the {what} in --path or as --{what}, not both")
+    return in_path if given is None else given
 
 
 def common(wants_feed: bool) -> argparse.ArgumentParser:
@@ -107,7 +136,8 @@ def add_ask(commands) -> None:
     client.add_argument("--tls", action="store_true", help="the client uses TLS without an identity")
     request = parser.add_argument_group("the request")
     request.add_argument("--method", default="GET", help="the method (default: GET)")
-    request.add_argument("--path", default="/", help="the path (default: /)")
+    path = {"type": of_form(request_path, "a path that begins with / or a URL"), "metavar": "PATH"}
+    request.add_argument("--path", **path, default=RequestPath("/"), help="the path, with a query or not, or a URL (default: /)")
     request.add_argument("--host", help="the host")
     request.add_argument("--query", help="the query without the question mark")
     pair = of_form(header, "NAME=VALUE")
@@ -151,7 +181,7 @@ def answer_over_feed(words: argparse.Namespace, run: Callable[[Session], Status]
             number, why = next(iter(question_session.refusals.items()))
             lines = "1 line is" if len(question_session.refusals) == 1 else f"{len(question_session.refusals)} lines are"
             print(f"mesh: {lines} refused; the first is line {number}: {why}", file=sys.stderr)
-    return Status.REFUSED if question_session.refusals else status
+    return Status.REFUSED if question_session.refusals and status is not Status.INCOMPLETE else status
 
 
 def run_record(words: argparse.Namespace) -> Status:
@@ -175,7 +205,8 @@ def ask_words(words: argparse.Namespace) -> ask.Words:
         raise Fault(Status.USAGE, "give either --from or --client")
     if words.pod and (words.identity or words.tls):
         raise Fault(Status.USAGE, "--identity and --tls go with --client; with --from the identity is that of the Pod")
-    http = {"method": words.method, "path": words.path, "host": words.host, "query": words.query, "headers": words.header}
+    host, query = only_one("host", words.path.host, words.host), only_one("query", words.path.query, words.query)
+    http = {"method": words.method.upper(), "path": words.path.path, "host": host, "query": query, "headers": words.header}
     values = {name: value for name, value in http.items() if value is not None}
     client = ask.Client(str(words.client), words.identity, words.tls) if words.client else None
     return ask.Words(words.target, words.pod, client, None if words.no_http else values)

@@ -20,6 +20,7 @@ EXAMPLES = ROOT / "examples"
 RECORDINGS = ROOT.parent / "shared" / "recordings"
 PROGRAM = "LINKERD_CLI"
 POLICY = "policy.linkerd.io"
+AUTHENTICATIONS = ["AuthorizationPolicy", "MeshTLSAuthentication", "NetworkAuthentication"]
 IDENTITIES = "serviceaccount.identity.linkerd.cluster.local"
 
 
@@ -102,9 +103,37 @@ def policy(name: str, target: dict, *references: dict) -> dict:
     return new_object("AuthorizationPolicy", name, spec, f"{POLICY}/v1alpha1")
 
 
+def lines_of(*values: dict) -> bytes:
+    """Lines with these values."""
+    return b"".join(json.dumps(it).encode() + b"\n" for it in values)
+
+
+def events_of(*objects: dict) -> bytes:
+    """The events that add the objects."""
+    return lines_of(*({"type": "ADDED", "object": it} for it in objects))
+
+
+def empty_lists(*without: str) -> bytes:
+    """The empty lists of all kinds of docs/FEED.md but some, which are named `Kind` or `Kind.group`."""
+    kinds = {
+        "v1": ["Service", "Pod"],
+        "discovery.k8s.io/v1": ["EndpointSlice"],
+        "linkerd.io/v1alpha2": ["ServiceProfile"],
+        f"{POLICY}/v1": ["Server", "ServerAuthorization", *AUTHENTICATIONS, "HTTPRoute"],
+        "gateway.networking.k8s.io/v1": ["HTTPRoute"],
+    }
+    pairs = [(kind, api) for api, names in kinds.items() for kind in names]
+    return lines_of(*(list_of(kind, api) for kind, api in pairs if not {kind, f"{kind}.{api.split('/')[0]}"} & set(without)))
+
+
+def list_of(kind: str, api: str, *items: dict) -> dict:
+    """A list."""
+    return {"kind": f"{kind}List", "apiVersion": api, "items": list(items)}
+
+
 def feed_of(*objects: dict) -> bytes:
-    """A feed that holds the objects."""
-    return b"".join(json.dumps({"type": "ADDED", "object": it}).encode() + b"\n" for it in objects)
+    """A feed that holds the objects and lists of all kinds."""
+    return empty_lists() + events_of(*objects)
 
 
 def list_page(kind: str, *names: str, more: str = "") -> dict:

@@ -1,6 +1,21 @@
 """`mesh ask`."""
 
-from mesh_tests.support import IDENTITIES, Case, feed_of, new_object, pod, policy, reference, server
+from mesh_tests.support import (
+    AUTHENTICATIONS,
+    IDENTITIES,
+    POLICY,
+    Case,
+    empty_lists,
+    events_of,
+    feed_of,
+    lines_of,
+    list_of,
+    new_object,
+    pod,
+    policy,
+    reference,
+    server,
+)
 
 OPERATOR = f"cli.ops.{IDENTITIES}"
 GATEWAY = f"gateway.edge.{IDENTITIES}"
@@ -20,6 +35,7 @@ class Ask(Case):
             REQUEST  GET /admin to app/web-1:8080
             CLIENT   10.0.0.5, no identity
             SERVER   web, protocol HTTP/1, policy deny
+            ROUTE    HTTPRoute/admin of policy.linkerd.io, rule 0, match 0: prefix /admin
             MESHED   yes
 
             AUTHORIZATION                        FOR               NETWORK   CLIENT
@@ -35,6 +51,7 @@ class Ask(Case):
             REQUEST  GET /admin/x to app/web-1:8080
             CLIENT   10.9.0.5, {GATEWAY}
             SERVER   web, protocol HTTP/1, policy deny
+            ROUTE    HTTPRoute/admin of policy.linkerd.io, rule 0, match 0: prefix /admin
             MESHED   yes
 
             AUTHORIZATION                        FOR               NETWORK                               CLIENT
@@ -50,6 +67,7 @@ class Ask(Case):
             REQUEST  GET /admin to app/web-1:8080
             CLIENT   10.9.0.5, {OPERATOR}
             SERVER   web, protocol HTTP/1, policy deny
+            ROUTE    HTTPRoute/admin of policy.linkerd.io, rule 0, match 0: prefix /admin
             MESHED   yes
 
             AUTHORIZATION                        FOR               NETWORK                               CLIENT
@@ -136,9 +154,13 @@ class Ask(Case):
         self.assertNotIn("POLICY", run.output)
 
     def test_a_reference_is_missing(self):
-        """`from-web` refers to an authentication that the feed lacks. The client has no proxy, and so no identity."""
+        """`from-web` refers to an authentication that the feed lacks. The client has no proxy, and so no identity.
+
+        A Server is refused, which may be the one that counts for the port, and so the verdict is not known.
+        """
         self.require(self.ask("mistakes.jsonl", "shop/cart-1:8080", "--from", "shop/web-1"), 7, f"""
-            VERDICT  denied by the policy deny of the Server cart: no authorization admits the client
+            incomplete: refused: line 8 (Server shop/web)
+            VERDICT  not known; as far as the feed goes: denied by the policy deny of the Server cart: no authorization admits the client
             REQUEST  GET / to shop/cart-1:8080
             CLIENT   10.1.0.2, no identity
             SERVER   cart, protocol HTTP/1, policy deny
@@ -148,7 +170,7 @@ class Ask(Case):
             AuthorizationPolicy/shoppers   Server/cart   admits    needs *.shop.{IDENTITIES}
 
             not counted: AuthorizationPolicy shop/from-web: MeshTLSAuthentication shop/web-clients is not in the feed
-        """, "mesh: 1 line is refused; the first is line 6: BadValue object.spec.proxyProtocol Choice\n")
+        """, "mesh: 1 line is refused; the first is line 8: BadValue object.spec.proxyProtocol Choice\n")
 
     def test_a_pod_without_a_proxy(self):
         """It is decided as if the Pod had one, and said that it has none."""
@@ -208,12 +230,126 @@ class Ask(Case):
         self.require(run, 7, "", "mesh: the simulation is refused: Pattern shop/r 0 0\n")
 
     def test_json(self):
-        """The verdict as the program writes it, and which part admits."""
+        """The verdict as the program writes it, what decides, the match, and which part admits."""
         words = ["app/web-1:8080", "--client", "10.9.0.5", "--path", "/admin", "-o", "json"]
         value = self.ask("policy.jsonl", *words).json()
-        self.assertEqual("denied default deny", value["verdict"])
+        self.assertEqual(["missing", "refused", "allowed", "decider", "route", "verdict"], list(value)[:6])
+        self.assertEqual(([], [], False, "denied default deny"), (value["missing"], value["refused"], value["allowed"], value["verdict"]))
+        self.assertEqual("policy deny of Server app/web", value["decider"])
+        route = {"name": "admin", "group": "policy.linkerd.io", "rule": 0, "match": 0, "text": "prefix /admin"}
+        self.assertEqual(route, value["route"])
         parts = [(it["authorization"]["name"], it["network_admits"], it["client_admits"]) for it in value["reasons"]]
         self.assertEqual([("from-gateway", False, False), ("operators-only", True, False)], parts)
+
+    def test_deciders_in_json(self):
+        """An authorization, a probe, a default policy, and nothing where no route matches."""
+        operator = ["--client=10.9.0.5", f"--identity={OPERATOR}"]
+        deciders = {
+            ("policy.jsonl", "app/web-1:8080", "--path=/admin", *operator): (True, "AuthorizationPolicy app/operators-only", "admin"),
+            ("probes.jsonl", "app/web-1:8080", "--path=/live", "--client=10.0.0.5"): (True, "probe GET /live", None),
+            ("policy.jsonl", "app/web-1:9090", "--client=10.0.0.5"): (True, "default policy all-unauthenticated", None),
+            ("policy.jsonl", "app/web-1:8080", "--client=10.0.0.5"): (False, None, None),
+        }
+        for words, expected in deciders.items():
+            value = self.ask(*words, "-o", "json").json()
+            self.assertEqual(expected, (value["allowed"], value["decider"], (value["route"] or {}).get("name")), words)
+
+    def test_null_where_the_table_has_a_hyphen(self):
+        """The policy of a route that is not used says nothing of this request."""
+        words = ["app/web-1:8080", "--client", "10.0.0.5", "--identity", OPERATOR, "--no-http", "-o", "json"]
+        value = self.ask("policy.jsonl", *words).json()
+        parts = [(it["counts"], it["network_admits"], it["client_admits"]) for it in value["reasons"]]
+        self.assertEqual([(True, True, False), (False, None, None)], parts)
+        self.assertIsNone(value["route"])
+
+    def test_the_match_that_decides(self):
+        """Of the matches that hold, the longest prefix is the best; of two alike, that of the older route, then that of the first rule."""
+        def route(name, *rules, created=None, **rest):
+            value = new_object("HTTPRoute", name, {"parentRefs": [reference("Server", "a")], "rules": rules, **rest})
+            value["metadata"]["creationTimestamp"] = created
+            return value
+
+        def prefixes(*values):
+            return {"matches": [{"path": {"type": "PathPrefix", "value": it}} for it in values]}
+
+        gateway = route("z", prefixes("/g"), created="2026-01-01T00:00:00Z")
+        gateway["apiVersion"] = "gateway.networking.k8s.io/v1"
+        routes = [
+            route("a", prefixes("/x/y", "/q", "/q"), prefixes("/x/y/z", "/g"), created="2026-01-02T00:00:00Z"),
+            route("b", {}, prefixes("/q"), prefixes("/deep/er"), created="2026-01-01T00:00:00Z", hostnames=["b.example"]),
+            gateway,
+        ]
+        open_server = server("a", "a", 80, accessPolicy="all-unauthenticated", proxyProtocol="HTTP/1")
+        feed = feed_of(pod("a-1", "a", "10.0.0.1", 80), open_server, *routes)
+        matches = {
+            "/x/y/z": ("a", 1, 0, "prefix /x/y/z"),
+            "/x/y/w": ("a", 0, 0, "prefix /x/y"),
+            "/q": ("a", 0, 1, "prefix /q"),
+            "/g": ("z", 0, 0, "prefix /g"),
+            "http://b.example/q": ("b", 1, 0, "prefix /q"),
+            "http://b.example:8080/other": ("b", 0, 0, "prefix /"),
+        }
+        for path, expected in matches.items():
+            found = self.ask(feed, "shop/a-1:80", "--client=10.0.0.9", "--path", path, "-o", "json").json()["route"]
+            self.assertEqual(expected, (found["name"], found["rule"], found["match"], found["text"]), path)
+        run = self.ask(feed, "shop/a-1:80", "--client=10.0.0.9", "--path", "/g")
+        self.assertIn("\nROUTE    HTTPRoute/z of gateway.networking.k8s.io, rule 0, match 0: prefix /g\n", run.output)
+
+    def test_paths_and_urls(self):
+        """A query and a fragment are cut from the path, a URL has the host too, and a method is in capitals."""
+        requests = {
+            "/admin?x=1#top": "GET /admin?x=1 to app/web-1:8080",
+            "http://web.app:80/admin?x=1#top": "GET /admin?x=1 of the host web.app to app/web-1:8080",
+            "HTTPS://Web.App": "GET / of the host web.app to app/web-1:8080",
+            "/admin?": "GET /admin to app/web-1:8080",
+            "//admin": "GET //admin to app/web-1:8080",
+        }
+        for path, request in requests.items():
+            run = self.ask("policy.jsonl", "app/web-1:8080", "--client=10.0.0.5", "--method=get", "--path", path)
+            self.assertIn(f"\nREQUEST  {request}\n", run.output)
+        for path in ("admin", "", "*", "/a b", "/a\n", "ftp://x/", "http:///x", "?a=1"):
+            run = self.ask("policy.jsonl", "app/web-1:8080", "--client=10.0.0.5", f"--path={path}")
+            self.assertEqual((2, ""), (run.status, run.output), path)
+            self.assertIn("is not a path that begins with / or a URL", run.error_output)
+        words = ["policy.jsonl", "app/web-1:8080", "--client=10.0.0.5"]
+        run = self.ask(*words, "--path=/a?b=1", "--query=c=2")
+        self.require(run, 2, "", "mesh: give the query in --path or as --query, not both\n")
+        run = self.ask(*words, "--path=http://a/", "--host=b")
+        self.require(run, 2, "", "mesh: give the host in --path or as --host, not both\n")
+
+    def test_a_feed_without_policies(self):
+        """One list of Pods says nothing of policies: the first line, the verdict, `allowed` and the status say so."""
+        feed = lines_of(list_of("Pod", "v1", pod("a-1", "a", "10.0.0.1", 80)))
+        missing = ["Server", "ServerAuthorization", *AUTHENTICATIONS, "HTTPRoute.policy.linkerd.io", "HTTPRoute.gateway.networking.k8s.io"]
+        self.require(self.ask(feed, "shop/a-1:80", "--client", "10.0.0.9"), 11, f"""
+            incomplete: the feed has neither a list nor an event of {", ".join(missing)}
+            VERDICT  not known; as far as the feed goes: allowed by the default policy all-unauthenticated: no Server selects this port
+            REQUEST  GET / to shop/a-1:80
+            CLIENT   10.0.0.9, no identity
+            SERVER   none, default policy all-unauthenticated
+            MESHED   yes
+        """)
+        value = self.ask(feed, "shop/a-1:80", "--client", "10.0.0.9", "-o", "json").json()
+        self.assertEqual((missing, None, "allowed default all-unauthenticated"), (value["missing"], value["allowed"], value["verdict"]))
+        run = self.mesh("policy", feed, "shop/a-1:80")
+        self.assertEqual((11, f"incomplete: the feed has neither a list nor an event of {', '.join(missing)}"), (run.status, run.output.splitlines()[0]))
+
+    def test_a_policy_kind_that_is_refused_or_absent(self):
+        """A list of one kind is refused, or is not there: `allowed` is never said alone."""
+        held = events_of(pod("a-1", "a", "10.0.0.1", 80))
+        kinds = {"Server": "v1beta3", "ServerAuthorization": "v1beta1", **dict.fromkeys(AUTHENTICATIONS, "v1alpha1")}
+        for kind, version in kinds.items():
+            bad_list = list_of(kind, f"{POLICY}/{version}", {"metadata": {"name": "A"}})
+            for feed in (empty_lists(kind) + held, empty_lists(kind) + lines_of(bad_list) + held):
+                run = self.ask(feed, "shop/a-1:80", "--client", "10.0.0.9")
+                self.assertEqual(11, run.status)
+                self.assertTrue(run.output.startswith(f"incomplete: the feed has neither a list nor an event of {kind}"), run.output)
+                self.assertIn("\nVERDICT  not known; as far as the feed goes: allowed by", run.output)
+            run = self.ask(empty_lists() + lines_of(bad_list) + held, "shop/a-1:80", "--client", "10.0.0.9")
+            self.assertEqual(7, run.status)
+            self.assertTrue(run.output.startswith(f"incomplete: refused: line 12 (the list of {kind})\nVERDICT  not known; "), run.output)
+        run = self.ask(empty_lists("Service", "EndpointSlice", "ServiceProfile") + held, "shop/a-1:80", "--client", "10.0.0.9")
+        self.assertEqual((0, "VERDICT  allowed by the default"), (run.status, run.output[:31]))
 
     def test_wrong_words(self):
         """Who the client is must be said, in one way."""

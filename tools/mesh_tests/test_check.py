@@ -1,16 +1,53 @@
 """`mesh check`."""
 
-from mesh_tests.support import Case, feed_of, new_object, pod, policy, reference, server
+import textwrap
+
+from mesh_tests.support import EXAMPLES, Case, Run, empty_lists, feed_of, lines_of, list_of, new_object, pod, policy, reference, server
+
+
+LINKERD_KINDS = ["Server", "ServerAuthorization", "AuthorizationPolicy", "MeshTLSAuthentication", "NetworkAuthentication"]
+KINDS = """
+    KIND                                  HELD
+    Service                               1
+    Pod                                   2
+    EndpointSlice                         1
+    ServiceProfile                        0
+    Server                                3
+    ServerAuthorization                   1
+    AuthorizationPolicy                   3
+    MeshTLSAuthentication                 1
+    NetworkAuthentication                 0
+    HTTPRoute.policy.linkerd.io           1
+    HTTPRoute.gateway.networking.k8s.io   1
+"""
 
 
 class Check(Case):
     """What in a feed refers to nothing."""
 
+    def problems(self, feed, status: int, expected: str) -> None:
+        """Checks a feed, and compares the part of the answer behind the kinds."""
+        run = self.mesh("check", feed)
+        kinds, _, problems = run.output.partition("\n\n")
+        self.assertEqual("", run.error_output)
+        self.assertTrue(kinds.startswith("KIND "), kinds)
+        self.require(Run(run.status, problems, ""), status, expected)
+
+    def test_the_kinds(self):
+        """The answer begins with what is held of each kind, behind what the feed lacks."""
+        run = self.mesh("check", "mistakes.jsonl")
+        first_line, _, rest = run.output.partition("\n")
+        self.assertEqual("incomplete: refused: line 8 (Server shop/web)", first_line)
+        self.assertEqual(textwrap.dedent(KINDS).strip(), rest.partition("\n\n")[0])
+        kinds = {it["kind"]: it["held"] for it in self.mesh("check", "first.jsonl", "-o", "json").json()["kinds"]}
+        self.assertEqual({"Service": 1, "EndpointSlice": 1}, {kind: held for kind, held in kinds.items() if held is not None})
+
     def test_each_sort_of_mistake(self):
         """examples/mistakes.jsonl has one of each."""
-        self.require(self.mesh("check", "mistakes.jsonl"), 1, """
+        run = self.mesh("check", "mistakes.jsonl")
+        self.require(Run(run.status, run.output.partition("\n\n")[2], run.error_output), 1, """
             OBJECT                                           PROBLEM
-            line 6                                           it is refused: BadValue object.spec.proxyProtocol Choice
+            line 8                                           it is refused: BadValue object.spec.proxyProtocol Choice
             AuthorizationPolicy shop/from-web                it refers to MeshTLSAuthentication shop/web-clients, which is not in the feed, and so it admits nobody
             AuthorizationPolicy shop/to-carts                its target Server shop/carts is not in the feed
             ServerAuthorization shop/old-carts               it names Server shop/carts, which is not in the feed
@@ -24,11 +61,12 @@ class Check(Case):
         """The Service `web-new` is not in the feed."""
         run = self.mesh("check", "policy.jsonl", "-o", "json")
         problem = {"object": "HTTPRoute.gateway.networking.k8s.io app/split", "problem": "its backend app/web-new:80 is missing"}
-        self.assertEqual(([problem], 1), (run.json(), run.status))
+        self.assertEqual(([problem], 1), (run.json()["problems"], run.status))
 
     def test_no_problem(self):
         """A Service with one slice, and nothing else."""
-        self.require(self.mesh("check", "first.jsonl"), 0, "no problem found\n")
+        feed = empty_lists() + (EXAMPLES / "first.jsonl").read_bytes()
+        self.problems(feed, 0, "no problem found\n")
 
     def test_a_server_behind_others(self):
         """Both ports have `a` and `b` behind it; `c`, which never counts, selects a port, and `d` selects none."""
@@ -37,7 +75,7 @@ class Check(Case):
             *(server(name, "x", 80) for name in "abc"),
             server("d", "x", 80, podSelector={"matchLabels": {"app": "y"}}),
         )
-        self.require(self.mesh("check", feed), 1, """
+        self.problems(feed, 1, """
             OBJECT            PROBLEM
             Server shop/d     it selects no port of a Pod in the feed
             Pod shop/x-1:80   the Servers a and b select it, and a is the one that counts
@@ -46,7 +84,7 @@ class Check(Case):
     def test_a_port_that_no_container_names(self):
         """A Server may have the number of a port that no container names."""
         feed = feed_of(pod("x-1", "x", "10.0.0.1"), server("a", "x", 81))
-        self.require(self.mesh("check", feed), 0, "no problem found\n")
+        self.problems(feed, 0, "no problem found\n")
 
     def test_policies_that_apply_to_nothing(self):
         """A route without a Server, a Server of another namespace, and a kind that no policy applies to."""
@@ -62,7 +100,7 @@ class Check(Case):
             policy("of-service", {"kind": "Service", "name": "s"}),
             policy("of-namespace", {"kind": "Namespace", "name": "other"}),
         )
-        self.require(self.mesh("check", feed), 1, """
+        self.problems(feed, 1, """
             OBJECT                                  PROBLEM
             AuthorizationPolicy shop/of-namespace   its target Namespace other is not its own
             AuthorizationPolicy shop/of-other       its target Server other/e is in another namespace, and so it applies to nothing
@@ -79,9 +117,18 @@ class Check(Case):
             policy("secret", reference("Server", "a"), {"kind": "Secret", "name": "s"}),
             policy("account", reference("Server", "a"), {"kind": "ServiceAccount", "name": "s"}),
         )
-        self.require(self.mesh("check", feed), 1, """
+        self.problems(feed, 1, """
             OBJECT                            PROBLEM
             AuthorizationPolicy shop/secret   it refers to Secret s of the group core, to which it cannot refer, and so it admits nobody
         """)
         run = self.mesh("ask", feed, "shop/a-1:80", "--client", "10.0.0.9")
         self.assertIn("not counted: AuthorizationPolicy shop/secret: it refers to Secret s of the group core, to which it cannot refer\n", run.output)
+
+    def test_a_feed_that_says_nothing_of_kinds(self):
+        """One list of Pods: there are no problems in what is held, and the first line and the status say what is missing."""
+        feed = lines_of(list_of("Pod", "v1", pod("a-1", "a", "10.0.0.1", 80)))
+        run = self.mesh("check", feed)
+        missing = ["Service", "EndpointSlice", "ServiceProfile", *LINKERD_KINDS, "HTTPRoute.policy.linkerd.io", "HTTPRoute.gateway.networking.k8s.io"]
+        first_line = f"incomplete: the feed has neither a list nor an event of {', '.join(missing)}"
+        self.assertEqual((11, first_line), (run.status, run.output.splitlines()[0]))
+        self.assertIn("\nServer                                -\n", run.output)

@@ -2,7 +2,7 @@
 
 import json
 
-from mesh_tests.support import EXAMPLES, IDENTITIES, Case, feed_of, pod, server
+from mesh_tests.support import EXAMPLES, IDENTITIES, Case, empty_lists, events_of, feed_of, pod, server
 
 OPEN_SERVER = (EXAMPLES / "open-server.yaml").read_bytes()
 
@@ -33,7 +33,7 @@ class Diff(Case):
         """Without its Service there are no endpoints and no routes; without its authorization the gateway is not admitted."""
         words = ["--delete", "AuthorizationPolicy/app/from-gateway", "--delete", "Service/app/web", "-o", "json"]
         run = self.mesh("diff", "policy.jsonl", *words)
-        views = {it["view"]: it for it in run.json()}
+        views = {it["view"]: it for it in run.json()["changes"]}
         self.assertEqual(1, run.status)
         expected = ["inbound policy of Pod app/web-1:8080", "endpoints of Service web.app:80", "outbound policy of Service web.app:80"]
         self.assertEqual(expected, list(views))
@@ -46,7 +46,7 @@ class Diff(Case):
 
     def test_a_new_pod(self):
         """A Pod that comes is told with its port, and so is the row of an endpoint that it gets."""
-        feed = b"\n".join((EXAMPLES / "changes.jsonl").read_bytes().split(b"\n")[:3])
+        feed = empty_lists() + b"\n".join((EXAMPLES / "changes.jsonl").read_bytes().split(b"\n")[:3])
         second = (EXAMPLES / "changes.jsonl").read_bytes().split(b"\n")[5:7]
         self.require(self.diff(feed, b"\n".join(second)), 1, """
             inbound policy of Pod app/web-2:8080
@@ -77,7 +77,7 @@ class Diff(Case):
             views that change: 1 of 1
         """)
         event = {"type": "DELETED", "object": first}
-        self.require(self.diff(feed + feed_of(first, second), json.dumps(event).encode()), 1, """
+        self.require(self.diff(feed + events_of(first, second), json.dumps(event).encode()), 1, """
             inbound policy of Pod shop/a-1:80
             - server a
             + server b

@@ -24,7 +24,7 @@ class Recordings(Case):
                 for address in part.get("addresses", [])
             }
             run = self.mesh("endpoints", LISTS.read_bytes(), f"{metadata['name']}.{metadata['namespace']}", "-o", "json")
-            rows = [row for port in run.json() for row in port["endpoints"]]
+            rows = [row for port in run.json()["ports"] for row in port["endpoints"]]
             self.assertEqual(expected, {(row["address"], row["port"], row["pod"]) for row in rows}, metadata)
             self.assertEqual(0, run.status)
 
@@ -35,7 +35,8 @@ class Recordings(Case):
 
     def test_a_check(self):
         """Each name that these objects refer to is there, and each Server selects a Pod."""
-        self.require(self.mesh("check", LISTS.read_bytes()), 0, "no problem found\n")
+        run = self.mesh("check", LISTS.read_bytes())
+        self.assertEqual((0, "no problem found\n", ""), (run.status, run.output.partition("\n\n")[2], run.error_output))
 
     def test_a_request(self):
         """`anyone` admits everyone to the Server; `web-get` needs a client of `alpha` or the account `cart`; both match GET alone."""

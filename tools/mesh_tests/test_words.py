@@ -43,7 +43,8 @@ class Words(Case):
 
     def test_subscriptions_of_the_feed(self):
         """Lines of control do not count: neither ids nor verdicts of the feed are taken for answers."""
-        self.assertEqual(0, self.mesh("endpoints", "configured.jsonl", "web.app").status)
+        run = self.mesh("endpoints", "configured.jsonl", "web.app")
+        self.assertEqual((0, ""), (run.status, run.error_output))
 
     def test_a_program_that_is_not_there(self):
         """The program that the words name, and one that fails."""
@@ -78,7 +79,7 @@ class Words(Case):
         words = [MESH, "endpoints", "--program", program(), "api.gamma:80"]
         feed = (EXAMPLES / "first.jsonl").read_bytes()
         run = subprocess.run(words, input=feed, capture_output=True)
-        self.assertEqual((0, b""), (run.returncode, run.stderr))
+        self.assertEqual((11, b""), (run.returncode, run.stderr))
         self.assertTrue(run.stdout.endswith(b"80             10.42.0.20   8080   -     -         -        -\n"))
         with subprocess.Popen(words, stdin=subprocess.PIPE, stdout=subprocess.PIPE, stderr=subprocess.PIPE) as reader:
             reader.stdout.close()
