@@ -7,7 +7,7 @@ the objects refer to.
 
 from dataclasses import dataclass, field
 
-from mesh_front import policy, probes, views
+from mesh_front import limits, policy, probes, views
 from mesh_front.faults import Status
 from mesh_front.feed import Key, Objects, items, members
 from mesh_front.kinds import AUTHORIZATION_POLICY, KINDS, POD, ROUTE_KINDS, SERVER, SERVER_AUTHORIZATION, SERVICE, kind_of
@@ -51,10 +51,11 @@ class First:
 
 @dataclass
 class Second:
-    """What the second run is asked: each Server with all that policies refer to, and the ports without their Servers."""
+    """What the second run is asked: each Server with all that policies refer to, the ports without their Servers, and the limits."""
 
     servers: dict[Key, int]
     ports: dict[PodPort, int]
+    limits: limits.Questions
 
 
 def parents(objects: Objects, route: Key) -> list[dict]:
@@ -108,7 +109,7 @@ def by_server(server_by_port: dict[PodPort, str]) -> dict[tuple[str, str], list[
 
 def second_questions(objects: Objects, script: Script, inbound: dict[PodPort, views.Inbound]) -> Second:
     """Asks for each port with a Server which one it has without it, and what applies to each Server with all references."""
-    ports = {}
+    ports, questions = {}, limits.ask(objects, script, inbound)
     for (namespace, name), targets in by_server(servers_of(inbound)).items():
         server = objects.by_key[Key(SERVER, namespace, name)]
         script.remove(server)
@@ -117,7 +118,7 @@ def second_questions(objects: Objects, script: Script, inbound: dict[PodPort, vi
         script.hold(server)
     absent = [key for it in objects.of(AUTHORIZATION_POLICY) for key in probes.missing_references(objects, it)]
     script.hold(*probes.stand_ins(absent))
-    return Second({server: probes.ask_server(objects, script, server) for server in objects.of(SERVER)}, ports)
+    return Second({server: probes.ask_server(objects, script, server) for server in objects.of(SERVER)}, ports, questions)
 
 
 def ask_without(objects: Objects, script: Script, first: First, rest: set[Key]) -> dict[PodPort, int]:
@@ -241,7 +242,8 @@ def find(session: Session) -> list[Problem]:
     problems += parent_problems(session.objects)
     problems += [Problem(str(key), "it selects no port of a Pod in the feed") for key in sorted(idle_servers, key=str)]
     problems += port_problems(server_by_port, second_servers)
-    return problems + backend_problems(first, answers)
+    problems += backend_problems(first, answers)
+    return problems + [Problem(*it) for it in limits.problems(session.objects, second.limits, more, inbound)]
 
 
 def held_kinds(session: Session) -> list[Held]:

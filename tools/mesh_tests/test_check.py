@@ -132,3 +132,48 @@ class Check(Case):
         first_line = f"incomplete: the feed has neither a list nor an event of {', '.join(missing)}"
         self.assertEqual((11, first_line), (run.status, run.output.splitlines()[0]))
         self.assertIn("\nServer                                -\n", run.output)
+
+
+class OtherThanLinkerd(Case):
+    """The objects with which this program does something else than Linkerd."""
+
+    def found(self, *objects: dict) -> list[list[str]]:
+        """The problems of a feed with these objects."""
+        return [[it["object"], it["problem"]] for it in self.mesh("check", feed_of(*objects), "-o", "json").json()["problems"]]
+
+    def test_topology_hints(self):
+        """A slice with hints and one without them, of one Service."""
+        endpoint = {"addresses": ["10.0.0.1"], "hints": {"forZones": [{"name": "z1"}]}}
+        labels = {"kubernetes.io/service-name": "web"}
+        slices = [new_object("EndpointSlice", name, api="discovery.k8s.io/v1", labels=labels) for name in ("with", "without")]
+        slices[0] |= {"addressType": "IPv4", "endpoints": [endpoint], "ports": [{"port": 80}]}
+        slices[1] |= {"addressType": "IPv4", "endpoints": [{"addresses": ["10.0.0.2"]}], "ports": [{"port": 80}]}
+        why = "its EndpointSlice with has topology hints, which do not count: clients are sent the endpoints of all zones"
+        self.assertEqual([["Service shop/web", why]], self.found(*slices))
+
+    def test_a_consumer_route(self):
+        """A route in the namespace of its clients, and one in that of the Service."""
+        service = new_object("Service", "web", {"ports": [{"port": 80}]}, "v1")
+        service["metadata"]["namespace"] = "app"
+        parent = {"group": "core", "kind": "Service", "name": "web", "namespace": "app"}
+        routes = [new_object("HTTPRoute", "retry", {"parentRefs": [parent]}) for _ in "ab"]
+        routes[1]["metadata"]["namespace"] = "app"
+        why = "its parent Service app/web is in another namespace, and so it does not count, not even for the clients in shop"
+        self.assertEqual([["HTTPRoute.policy.linkerd.io shop/retry", why]], self.found(service, *routes))
+
+    def test_the_hint_of_an_opaque_port(self):
+        """The Server makes port 80 of three Pods opaque: one says so itself, one has no proxy, and the endpoint of the third keeps the hint."""
+        annotated, plain, unmeshed = (pod(name, "a", "10.0.0.1", 80, is_meshed=name != "a-3") for name in ("a-1", "a-2", "a-3"))
+        annotated["metadata"]["annotations"] = {"config.linkerd.io/opaque-ports": "80"}
+        why = "shop/a-2:80 is opaque by it, and still sent with the HTTP/2 hint, which only the annotation config.linkerd.io/opaque-ports of the Pod ends"
+        self.assertEqual([["Server shop/db", why]], self.found(annotated, plain, unmeshed, server("db", "a", 80, proxyProtocol="opaque")))
+        self.assertEqual([], self.found(plain, server("db", "a", 80, proxyProtocol="HTTP/1")))
+
+    def test_a_native_sidecar(self):
+        """Of the ports of init containers, a Server would select that of the one that is restarted."""
+        value = pod("a-1", "a", "10.0.0.1", 80)
+        ports = {"ports": [{"name": "admin", "containerPort": 4191}]}
+        value["spec"]["initContainers"] = [{"name": "proxy", "restartPolicy": "Always", **ports}, {"name": "init", **ports}]
+        why = "its container proxy is a native sidecar, whose ports and probes are not read; if they were, the Server admin would be that of the port"
+        self.assertEqual([["Pod shop/a-1:4191", why]], [it for it in self.found(value, server("admin", "a", "admin")) if it[0].startswith("Pod")])
+        self.assertEqual([], self.found(value))
