@@ -130,17 +130,18 @@ class Cluster(Case):
         return run, server.address, values
 
     def test_lists_and_events(self):
-        """The lists come first, then the events, and a refused one is named by its object."""
+        """The lists come first, policies before Pods and Services, then the events. A refused one is named by its object."""
         web = pod("web-1", "web", "10.1.2.3")
         changes = {"/api/v1/pods?watch=1&resourceVersion=7": {"events": [event("ADDED", web), event("DELETED", web)], "seconds": 20}}
         run, address, values = self.send(self.cluster(**changes), Feed({4: "refused 4 BadValue object.status.podIP Address"}, most=5))
-        lists = [list_page("Service", "web"), list_page("Pod"), list_page("Server")]
+        lists = [list_page("Server"), list_page("Pod"), list_page("Service", "web")]
         self.assertEqual([*lists, event("ADDED", web), event("DELETED", web)], values)
         said = run.error_output.splitlines()
         self.assertEqual(9, run.status)
         self.assertIn("feed: left out EndpointSlice: the cluster does not have it in the group discovery.k8s.io", said)
         self.assertIn(f"feed: sent 3 lists to {address}, watching", said)
-        self.assertIn("feed: ADDED Pod shop/web-1 is refused: BadValue object.status.podIP Address", said)
+        why = 'BadValue object.status.podIP Address; Pod shop/web-1 has "10.1.2.3" at status.podIP, allowed: an IP address'
+        self.assertIn(f"feed: ADDED Pod shop/web-1 is refused: {why}", said)
         self.assertRegex(said[-1], f"^feed: {address} closed the link after 5 lines")
 
     def test_a_watch_that_ends(self):
@@ -169,7 +170,7 @@ class Cluster(Case):
         answers[f"--context c /apis/{POLICY}"] = answers[f"/apis/{POLICY}"]
         answers["--context c /api/v1/namespaces/y/services?watch=1&resourceVersion=7"] = {"events": [], "seconds": 0, "error": "Unauthorized"}
         run, _, values = self.send(answers, Feed(most=4), "x", "y", "x", "--context", "c")
-        self.assertEqual([list_page("Service", "x", "y"), list_page("Service", "x", "y")], [values[0], values[3]])
+        self.assertEqual([list_page("Service", "x", "y"), list_page("Service", "x", "y")], values[2:])
         self.assertIn("feed: the watch of Service ended: Unauthorized; listing Service again\n", run.error_output)
 
     def test_a_cluster_without_linkerd(self):

@@ -1,69 +1,16 @@
 """`serve` of the program, with `tools/feed` and `tools/subscribe` as its peers. Skipped with a program that has no server."""
 
-import signal
-import socket
+import re
 import subprocess
-import time
 
-from mesh_tests.support import EXAMPLES, Case, program, replay
+from mesh_tests.live import SECONDS, ServerCase, diagnosis
+from mesh_tests.support import EXAMPLES, program, replay
 
-SECONDS = 60
 STOP = b'{"control":"stop"}\n'
 
 
-def free_address() -> str:
-    """An address of the loopback interface at which nobody listens."""
-    with socket.create_server(("127.0.0.1", 0)) as listener:
-        return f"127.0.0.1:{listener.getsockname()[1]}"
-
-
-class Serve(Case):
+class Serve(ServerCase):
     """A server from its start to its stop."""
-
-    def setUp(self):
-        super().setUp()
-        self.address = free_address()
-        self.server = self.start(self.address)
-
-    def start(self, address: str) -> subprocess.Popen:
-        """A server that listens at an address."""
-        server = subprocess.Popen([program(), "serve", "--bind", address], stdin=subprocess.DEVNULL, stderr=subprocess.PIPE)
-        self.addCleanup(self.end, server)
-        end = time.monotonic() + SECONDS
-        while server.poll() is None and time.monotonic() < end and not self.listens(address):
-            time.sleep(0.02)
-        if server.poll() == 2:
-            self.skipTest("the program has no server")
-        return server
-
-    def listens(self, address: str) -> bool:
-        """Whether somebody listens there."""
-        host, port = address.split(":")
-        try:
-            socket.create_connection((host, int(port)), 1).close()
-        except OSError:
-            return False
-        return True
-
-    def end(self, server: subprocess.Popen) -> None:
-        """Ends a server that this test started."""
-        if server.poll() is None:
-            server.send_signal(signal.SIGKILL)
-        server.wait(SECONDS)
-        server.stderr.close()
-
-    def feed(self, data: bytes):
-        """Sends lines."""
-        return self.run_tool("feed", self.address, "--from", self.file("feed.jsonl", data))
-
-    def view(self, method: str, target: str, count: int = 1):
-        """The messages that a new subscriber gets, as lines."""
-        return self.run_tool("subscribe", self.address, method, target, "--lines", "--count", count, "--seconds", SECONDS)
-
-    def diagnosis(self, feed: bytes, *words: str) -> str:
-        """The frames of a view of the objects in a feed, as lines."""
-        run = subprocess.run([program(), "diagnose", "--id", "1", *words], input=feed, capture_output=True)
-        return run.stdout.decode().replace("view 1 ", "frame 1 ")
 
     def test_views_are_those_of_diagnose(self):
         """Each method, over the objects of an example."""
@@ -79,7 +26,7 @@ class Serve(Case):
             ("WatchPort2", "app/web-1:8080"): ("--workload", "app:web-1", "--port", "8080"),
         }
         for (method, target), words in cases.items():
-            self.require(self.view(method, target), 0, self.diagnosis(objects, "--method", method, *words))
+            self.require(self.view(method, target), 0, diagnosis(objects, "--method", method, *words))
 
     def test_changes_are_sent(self):
         """A subscriber that is there before the objects folds to what diagnose shows after them."""
@@ -92,7 +39,7 @@ class Serve(Case):
             self.require(self.feed(objects), 0)
             output = first + subscriber.stdout.read()
         fold = subprocess.run([program(), "fold", "--id", "1", "--method", "Get"], input=output, capture_output=True, text=True).stdout
-        self.assertEqual(self.diagnosis(objects, "--method", "Get", "--path", "web.app.svc.cluster.local:80"), fold.replace("view 1 ", "frame 1 "))
+        self.assertEqual(diagnosis(objects, "--method", "Get", "--path", "web.app.svc.cluster.local:80"), fold.replace("view 1 ", "frame 1 "))
 
     def test_refused_lines_and_verdicts(self):
         """They are told by the numbers that the lines have."""
@@ -102,7 +49,7 @@ class Serve(Case):
         run = self.feed(b"".join(lines))
         self.assertEqual((True, 7), (bool(refused), run.status))
         for _, number, fault in refused:
-            self.assertIn(f"feed: line {number} is refused: {fault}\n", run.error_output)
+            self.assertRegex(run.error_output, rf"(?m)^feed: line {number} is refused: {re.escape(fault)}(;.*)?$")
 
     def test_stop(self):
         """The server ends with status 0, and the links of others are closed."""
