@@ -23,7 +23,7 @@ class KindFeed:
 
     def __init__(self, cluster: Cluster, kind: Kind, namespaces: list[str], lines: Lines):
         self.cluster, self.kind, self.namespaces, self.lines = cluster, kind, namespaces, lines
-        self.holding = Holding(kind, lines, True)
+        self.holding = Holding(kind, lines, not namespaces)
         self.watches: list[Watch] = []
         self.failures = 0
 
@@ -134,7 +134,10 @@ class ClusterFeed:
         """Fills the server, and follows the kinds."""
         holdings = {kind: it.holding for kind, it in self.kinds.items()}
         fill(holdings, [self.kinds[kind].list_line(it) for kind, it in listings.items()], self.skipped)
-        say(f"sent {counted(len(listings), 'list')} to {self.address}, watching")
+        lists = counted(len(listings), "list")
+        if any(it.namespaces for it in self.kinds.values()):
+            lists = f"the objects of {lists}"
+        say(f"sent {lists} to {self.address}, watching")
         ended: queue.Queue[KindFeed] = queue.Queue()
         for kind, listing in listings.items():
             self.start(kind, listing, ended)

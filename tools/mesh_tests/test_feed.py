@@ -104,6 +104,22 @@ def event(kind: str, value: dict) -> dict:
     return {"type": kind, "object": value}
 
 
+def named(kind: str, name: str, namespace: str = "shop", api: str = "v1") -> dict:
+    """An object that has a name alone."""
+    return {"apiVersion": api, "kind": kind, "metadata": {"name": name, "namespace": namespace}}
+
+
+def service(name: str, namespace: str) -> dict:
+    """A Service without ports."""
+    return {**named("Service", name, namespace), "spec": {}}
+
+
+def objects_page(kind: str, *objects: dict, api: str = "v1") -> dict:
+    """A list of objects, with items as an API server writes them."""
+    rows = [{key: value for key, value in it.items() if key not in ("kind", "apiVersion")} for it in objects]
+    return {"kind": f"{kind}List", "apiVersion": api, "metadata": {"resourceVersion": "7"}, "items": rows}
+
+
 class Cluster(Case):
     """The objects of a cluster and what changes."""
 
@@ -159,18 +175,23 @@ class Cluster(Case):
         self.assertIn("feed: the watch of Pod ended: too old resource version; listing Pod again\n", run.error_output)
 
     def test_single_namespaces(self):
-        """One list of both, a watch of each; where one ends, both are listed again."""
+        """Events alone, so that objects of other namespaces stay; a watch of each. Where one ends, both are listed again, and what is
+        gone is removed."""
         answers = self.cluster()
         for namespace in "xy":
             for path in list(answers):
                 if path.startswith(("/api/v1/", SERVERS)):
                     root, _, rest = path.rpartition("/")
                     answers[f"--context c {root}/namespaces/{namespace}/{rest}"] = answers[path]
-            answers[f"--context c /api/v1/namespaces/{namespace}/services?limit=500"] = list_page("Service", namespace)
+            pages = [objects_page("Service", service(name, namespace)) for name in ("web", "db")]
+            answers[f"--context c /api/v1/namespaces/{namespace}/services?limit=500"] = pages
         answers[f"--context c /apis/{POLICY}"] = answers[f"/apis/{POLICY}"]
         answers["--context c /api/v1/namespaces/y/services?watch=1&resourceVersion=7"] = {"events": [], "seconds": 0, "error": "Unauthorized"}
-        run, _, values = self.send(answers, Feed(most=4), "x", "y", "x", "--context", "c")
-        self.assertEqual([list_page("Service", "x", "y"), list_page("Service", "x", "y")], values[2:])
+        run, _, values = self.send(answers, Feed(most=6), "x", "y", "x", "--context", "c")
+        first = [event("MODIFIED", service("web", namespace)) for namespace in "xy"]
+        later = [event("MODIFIED", service("db", namespace)) for namespace in "xy"]
+        removed = [event("DELETED", named("Service", "web", namespace)) for namespace in "xy"]
+        self.assertEqual([*first, *later, *removed], values)
         self.assertIn("feed: the watch of Service ended: Unauthorized; listing Service again\n", run.error_output)
 
     def test_a_cluster_without_linkerd(self):

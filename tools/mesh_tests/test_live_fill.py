@@ -156,3 +156,32 @@ class LiveFill(ServerCase):
         self.require_status(7, self.feed(self.recording(lists), "--skip", "Server/shop/edge"))
         objects = feed_of(*(value for it in LISTS for value in it if value is not EDGE))
         self.assertEqual(self.views(objects), self.stop(started))
+
+    def test_namespaces(self):
+        """A feed of one namespace leaves the objects of others as they are."""
+        other = {**pod("web-1", "web", "10.1.2.9"), "metadata": {"name": "web-1", "namespace": "other"}}
+        self.require_status(0, self.feed(feed_of(other)))
+        words = ("--workload", "other:web-1", "--port", "8080")
+        there = diagnosis(feed_of(other), "--method", "WatchPort", *words)
+        self.put_kubectl(self.answers())
+        link = [sys.executable, ROOT / "tools" / "feed", self.address, "shop"]
+        with subprocess.Popen(link, stderr=subprocess.PIPE, text=True) as feed:
+            for line in feed.stderr:
+                if "watching" in line:
+                    break
+            self.assertEqual(there, self.view("WatchPort", "other/web-1:8080").output)
+            objects = feed_of(*(value for it in LISTS for value in it if value["kind"] in ("Pod", "Service", "Server")), other)
+            shown = diagnosis(objects, "--method", "WatchPort", "--workload", "shop:web-1", "--port", "9090")
+            self.assertEqual(shown, self.view("WatchPort", "shop/web-1:9090").output)
+            feed.kill()
+
+    def answers(self) -> dict:
+        """The answers of an API server with Services, Pods and Servers in the namespace `shop`."""
+        lists = {"/api/v1": ("services", LISTS[0]), "/api/v1#": ("pods", LISTS[1]), f"/apis/{POLICY}/v1beta3": ("servers", LISTS[4])}
+        versions = {"versions": [{"version": "v1beta3"}], "preferredVersion": {"version": "v1beta3"}}
+        answers: dict = {f"/apis/{POLICY}": versions}
+        for root, (plural, objects) in lists.items():
+            path = f"{root.rstrip('#')}/namespaces/shop/{plural}"
+            answers[f"{path}?limit=500"] = {**page(*objects), "metadata": {"resourceVersion": "7"}}
+            answers[f"{path}?watch=1&resourceVersion=7"] = {"events": [], "seconds": 60}
+        return answers
