@@ -1,6 +1,5 @@
 """`tools/feed`: lines that are sent to a server on a feed link, and its answers."""
 
-import pathlib
 import queue
 import sys
 import threading
@@ -8,7 +7,6 @@ from dataclasses import dataclass
 from typing import Callable, Iterator
 
 from mesh_front.faults import Fault, Status
-from mesh_front.feed import is_control, json_of
 from mesh_front.links import FEED, Link, ServerAddress
 from mesh_front.refusals import told
 
@@ -23,7 +21,6 @@ MEANINGS = {
     Status.NO_LINKERD: "the cluster has none of Linkerd's kinds",
 }
 WAITING = 256  # lines that are read and not yet sent
-LEFT_OUT = ("subscribe", "cancel", "drain")
 
 
 class Outcome:
