@@ -9,6 +9,7 @@ from dataclasses import dataclass
 from typing import Any, Iterator
 
 from mesh_front.faults import Fault, Status
+from mesh_front.packages import INSTALL
 
 UNCLEAR = re.compile(
     r"(?i)y|yes|n|no|on|off|<<|="  # words that are true or false in YAML 1.1, and marks of it
@@ -109,7 +110,7 @@ def values_of(text: str) -> list[Any]:
     try:
         import yaml
     except ImportError as error:
-        raise Fault(Status.NO_TOOL, "there is no PyYAML, which reads YAML (Debian: apt-get install python3-yaml)") from error
+        raise Fault(Status.NO_TOOL, f"there is no PyYAML, which reads YAML: {INSTALL}") from error
     try:
         return Reader(yaml.parse(text, Loader=yaml.SafeLoader)).documents()
     except yaml.MarkedYAMLError as error:

@@ -13,6 +13,7 @@ import subprocess
 from dataclasses import dataclass, field
 
 from mesh_front.faults import Fault, Status
+from mesh_front.packages import INSTALL
 
 ROOT = pathlib.Path(__file__).resolve().parent.parent.parent
 METHODS = {"Get": "Update", "GetProfile": "DestinationProfile", "WatchPort": "Server", "WatchPort2": "ServerUpdate", "Watch": "OutboundPolicy"}
@@ -24,7 +25,7 @@ ESCAPES = {b"n": b"\n", b"r": b"\r", b"t": b"\t"}
 def require_protoc() -> None:
     """Raises a Fault where there is no `protoc`."""
     if shutil.which("protoc") is None:
-        raise Fault(Status.NO_TOOL, "there is no protoc (Debian: apt-get install protobuf-compiler)")
+        raise Fault(Status.NO_TOOL, f"there is no protoc: {INSTALL}")
 
 
 @dataclass

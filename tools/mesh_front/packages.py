@@ -29,6 +29,7 @@ class Package:
         return bool(self.module) and not os.path.realpath(sys.executable).startswith("/usr/bin/")
 
 
+INSTALL = "tools/packages --install installs it"
 PACKAGES = (Package("protobuf-compiler", command="protoc"), Package("python3-yaml", module="yaml", in_pip="PyYAML"))
 
 

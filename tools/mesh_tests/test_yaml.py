@@ -128,7 +128,7 @@ class Yaml(unittest.TestCase):
         with mock.patch.dict(sys.modules, {"yaml": None}), self.assertRaises(Fault) as raised:
             documents("a: 1")
         self.assertEqual(Status.NO_TOOL, raised.exception.status)
-        self.assertEqual("there is no PyYAML, which reads YAML (Debian: apt-get install python3-yaml)", str(raised.exception))
+        self.assertEqual("there is no PyYAML, which reads YAML: tools/packages --install installs it", str(raised.exception))
 
     def test_what_is_refused(self):
         """What is not read, or is read in two ways by two versions of YAML."""
