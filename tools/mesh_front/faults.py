@@ -21,18 +21,20 @@ class Status(enum.IntEnum):
     CLOSED = 9
     NO_LINKERD = 10
     INCOMPLETE = 11
+    NOT_COMPUTED = 12
 
 
 MEANINGS = {
     Status.DONE: "the question is answered; ask: the request is allowed; diff: nothing changes; check: no problem",
     Status.NO: "ask: the request is denied or matches no route; diff: some view changes; check: there are problems",
     Status.USAGE: "wrong words, or a file that they name cannot be read",
-    Status.UNKNOWN: "no Service, Pod or port of this name is in the feed",
+    Status.UNKNOWN: "no Service, Pod or port of this name is in the feed; diff: nothing of the name that is to be removed",
     Status.EMPTY: "the feed holds no object",
     Status.NO_TOOL: "linkerd_cli, protoc or kubectl is not there",
     Status.TOOL_FAILED: "linkerd_cli, protoc or kubectl failed",
     Status.REFUSED: "a line of the feed is refused, and the answer is without it; or the simulation or the change is refused",
     Status.INCOMPLETE: "the feed says nothing of a kind on which the answer rests: the first line of the answer names the kinds",
+    Status.NOT_COMPUTED: "diff: some of what the change does is not computed: the answer names it",
 }
 
 

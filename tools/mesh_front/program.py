@@ -180,6 +180,11 @@ class Session:
                 self.require_events(script, answers)
                 return numbers, answers
 
+    def known_objects(self) -> Objects:
+        """What is held, once it is known which lines are refused."""
+        self.ask(lambda _, script: None)
+        return self.objects
+
     def replay(self, script: Script) -> Answers:
         """Runs the program over the feed and the lines of a script."""
         lines = self.feed.lines + [line.encode() for line in script.lines]

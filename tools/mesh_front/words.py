@@ -12,7 +12,7 @@ from typing import Callable
 from mesh_front import ask, check, diff, endpoints, policy, record
 from mesh_front.faults import MEANINGS, Fault, Status, epilog, run_tool
 from mesh_front.feed import Feed, read_bytes
-from mesh_front.manifests import deletion, read_changes
+from mesh_front.manifests import Changes, counts, deletion, read_changes
 from mesh_front.messages import ROOT, require_protoc
 from mesh_front.names import pod_name, pod_port, service_name
 from mesh_front.program import Program, Session
@@ -25,6 +25,7 @@ CONFIGURATION = {
     "default-policy": "POLICY",
 }
 DOMAIN = "cluster.local"
+STANDARD_INPUT = pathlib.Path("-")
 ABOUT = "Answers questions about a recorded cluster by running linkerd_cli and decoding its messages."
 STATUSES = epilog(MEANINGS)
 
@@ -87,7 +88,7 @@ def common(wants_feed: bool) -> argparse.ArgumentParser:
     options = argparse.ArgumentParser(add_help=False)
     if wants_feed:
         path = {"type": pathlib.Path, "metavar": "FILE"}
-        options.add_argument("--feed", **path, default=pathlib.Path("-"), help="the feed (default: standard input)")
+        options.add_argument("--feed", **path, default=STANDARD_INPUT, help="the feed (default: standard input)")
         options.add_argument("--program", **path, default=ROOT / "linkerd_cli", help="the program (default: ./linkerd_cli)")
         options.add_argument("-o", "--output", choices=["table", "json"], default="table", help="the form of the answer (default: table)")
         settings = options.add_argument_group("configuration of the recorded control plane, as docs/COMMANDS.md has it")
@@ -116,12 +117,17 @@ def add_record(commands) -> None:
 
 def add_diff(commands) -> None:
     """Adds the command `diff`."""
-    parser = add_command(commands, "diff", "Shows which views a change of objects changes.", run_diff)
+    about = "Shows which views a change of objects changes, or which views differ in two recordings."
+    parser = add_command(commands, "diff", about, run_diff)
+    two = "two recordings, in place of a feed and changes of it"
+    parser.add_argument("recordings", nargs="*", type=pathlib.Path, metavar="OLD NEW", help=two)
     several = {"action": "append", "default": []}
-    objects = "objects in YAML or JSON, each of which replaces the object of its name; may be repeated"
+    objects = "objects in YAML or JSON, as helm and kustomize print them, each of which replaces the object of its name; may be repeated"
     parser.add_argument("--apply", **several, type=pathlib.Path, metavar="FILE", help=objects)
-    form = "KIND/NS/NAME"
+    form = "KIND/[NS/]NAME"
     parser.add_argument("--delete", **several, type=of_form(deletion, form), metavar=form, help="an object to remove; may be repeated")
+    namespace = "the namespace of objects that name none (default: default)"
+    parser.add_argument("-n", "--namespace", default="default", metavar="NS", help=namespace)
 
 
 def add_ask(commands) -> None:
@@ -163,25 +169,32 @@ def parser() -> Parser:
     return words
 
 
-def session(words: argparse.Namespace) -> Session:
-    """The feed and the program that the words name."""
+def session(words: argparse.Namespace, feed: pathlib.Path | None = None) -> Session:
+    """The feed, which is another one where it is given, and the program that the words name."""
     require_protoc()
     values = {name: getattr(words, name.replace("-", "_")) for name in CONFIGURATION}
     options = [f"--{name}={value}" for name, value in values.items() if value is not None]
-    return Session(Feed(read_bytes(words.feed)), Program(words.program, options), words.cluster_domain or DOMAIN)
+    return Session(Feed(read_bytes(feed or words.feed)), Program(words.program, options), words.cluster_domain or DOMAIN)
 
 
 def answer_over_feed(words: argparse.Namespace, run: Callable[[Session], Status]) -> Status:
     """Runs a question over the feed; where lines of the feed are refused, it is said and the status tells it."""
-    question_session = session(words)
+    return answer_over_feeds({"": session(words)}, lambda sessions: run(sessions[""]))
+
+
+def answer_over_feeds(sessions: dict[str, Session], run: Callable[[dict[str, Session]], Status]) -> Status:
+    """Runs a question over feeds by their names; where lines of one are refused, it is said and the status tells it."""
     try:
-        status = run(question_session)
+        status = run(sessions)
     finally:
-        if question_session.refusals:
-            number, why = next(iter(question_session.refusals.items()))
-            lines = "1 line is" if len(question_session.refusals) == 1 else f"{len(question_session.refusals)} lines are"
-            print(f"mesh: {lines} refused; the first is line {number}: {why}", file=sys.stderr)
-    return Status.REFUSED if question_session.refusals and status is not Status.INCOMPLETE else status
+        for name, it in sessions.items():
+            if it.refusals:
+                number, why = next(iter(it.refusals.items()))
+                is_one, place = len(it.refusals) == 1, f" of {name}" if name else ""
+                lines = f"{'1 line' if is_one else f'{len(it.refusals)} lines'}{place} {'is' if is_one else 'are'}"
+                print(f"mesh: {lines} refused; the first is line {number}: {why}", file=sys.stderr)
+    is_worse = status in (Status.INCOMPLETE, Status.NOT_COMPUTED)
+    return Status.REFUSED if any(it.refusals for it in sessions.values()) and not is_worse else status
 
 
 def run_record(words: argparse.Namespace) -> Status:
@@ -220,10 +233,28 @@ def run_ask(words: argparse.Namespace) -> Status:
 
 def run_diff(words: argparse.Namespace) -> Status:
     """Runs `diff`."""
-    changes = [change for path in words.apply for change in read_changes(path)] + words.delete
-    if not changes:
-        raise Fault(Status.USAGE, "give --apply FILE or --delete KIND/NS/NAME")
+    if words.recordings:
+        return run_diff_of_recordings(words)
+    changes = Changes(deletions=words.delete, namespace=words.namespace)
+    for path in words.apply:
+        left_out = len(changes.left_out)
+        read_changes(changes, path)
+        if changes.left_out[left_out:]:
+            print(f"mesh: left out of {path}, since no view rests on them: {counts(changes.left_out[left_out:])}", file=sys.stderr)
+    if not words.apply and not words.delete:
+        raise Fault(Status.USAGE, "give --apply FILE or --delete KIND/NS/NAME, or two recordings")
     return answer_over_feed(words, lambda it: diff.run(it, changes, words.output == "json"))
+
+
+def run_diff_of_recordings(words: argparse.Namespace) -> Status:
+    """Runs `diff` over two recordings."""
+    if len(words.recordings) != 2 or words.apply or words.delete or words.feed != STANDARD_INPUT:
+        raise Fault(Status.USAGE, "give two recordings, OLD and NEW, and neither --feed nor changes; or a feed and changes alone")
+    old, new = words.recordings
+    if old == new:
+        raise Fault(Status.USAGE, "give two recordings that are not the same file")
+    sessions = {str(path): session(words, path) for path in (old, new)}
+    return answer_over_feeds(sessions, lambda it: diff.run_recordings(it, words.output == "json"))
 
 
 def run_check(words: argparse.Namespace) -> Status:
