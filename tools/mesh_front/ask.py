@@ -14,7 +14,7 @@ from dataclasses import dataclass, replace
 from mesh_front import policy, probes, views
 from mesh_front.faults import Fault, Status
 from mesh_front.feed import Key, Objects, items, members
-from mesh_front.kinds import AUTHORIZATION_POLICY, GATEWAY_ROUTE, LINKERD_ROUTE, POD, POLICY_KINDS, SERVER, SERVER_AUTHORIZATION, Kind
+from mesh_front.kinds import AUTHORIZATION_POLICY, LINKERD_ROUTE, POD, POLICY_KINDS, SERVER, SERVER_AUTHORIZATION
 from mesh_front.names import PodName, PodPort, require_pod
 from mesh_front.program import Answers, Script, Session
 from mesh_front.tables import show, table
@@ -159,7 +159,7 @@ def address_of(objects: Objects, pod: PodName) -> str:
 def first_run(session: Session, words: Words) -> First:
     """Asks for the view of the port, whether its Pod is meshed, and who the client is."""
 
-    def questions(objects, script):
+    def questions(objects: Objects, script: Script) -> tuple[int, list[int], str | None]:
         require_pod(objects, words.target.pod)
         address = address_of(objects, words.pod) if words.pod else None
         pods = [words.target.pod] + ([words.pod] if words.pod else [])
@@ -168,7 +168,7 @@ def first_run(session: Session, words: Words) -> First:
 
     (view, rows, address), answers = session.ask(questions)
     identities = [probes.identity(answers, number) for number in rows]
-    client = Client(address, identities[1]) if words.pod else words.client
+    client = words.client or Client(str(address), identities[1])
     return First(policy.require_view(views.inbound(answers.view(view)), words.target), identities[0] is not None, client)
 
 
@@ -203,11 +203,6 @@ def object_of(objects: Objects, namespace: str, authorization: views.Authorizati
     return objects.by_key[Key(KINDS[authorization.kind], namespace, authorization.name)]
 
 
-def route_kind(route: views.Route) -> Kind:
-    """The kind of a route of a view."""
-    return GATEWAY_ROUTE if route.group == GATEWAY_ROUTE.group else LINKERD_ROUTE
-
-
 def ask_trial(script: Script, words: Words, client: Client, one: views.Authorization) -> Trial:
     """Asks which part of an authorization admits the client, where it is the only one."""
     elsewhere, other = shown_address(one, client), shown_client(one, client)
@@ -217,9 +212,10 @@ def ask_trial(script: Script, words: Words, client: Client, one: views.Authoriza
 
 def split_routes(objects: Objects, namespace: str, view: views.Inbound) -> list[tuple[MatchedRoute, dict]]:
     """A route for each match of the routes of a view, in their order, with the match that it has."""
-    name, routes = objects.free_name(namespace), []
+    name = objects.free_name(namespace)
+    routes: list[tuple[MatchedRoute, dict]] = []
     for one in view.routes:
-        spec = objects.spec(Key(route_kind(one), namespace, one.name))
+        spec = objects.spec(Key(views.route_kind(one), namespace, one.name))
         texts = iter(one.matches)
         for place, rule in enumerate(items(spec, "rules")):
             for number, match in enumerate(items(rule, "matches") or [{}]):
@@ -244,7 +240,7 @@ def ask_match(objects: Objects, script: Script, words: Words, first: First) -> M
     routes = split_routes(objects, namespace, first.view)
     own = [it for _, value in routes for it in (value, open_policy(value))]
     values = [object_of(objects, namespace, it) for it in first.view.authorizations]
-    values += [objects.by_key[Key(route_kind(it), namespace, it.name)] for it in first.view.routes]
+    values += [objects.by_key[Key(views.route_kind(it), namespace, it.name)] for it in first.view.routes]
     script.remove(*values)
     script.hold(*own)
     number = script.simulate(words.request(first.client))
@@ -256,7 +252,7 @@ def ask_match(objects: Objects, script: Script, words: Words, first: First) -> M
 
 def hidden_policies(objects: Objects, first: First, namespace: str) -> list[Key]:
     """The policies that name the Server or a route of it and are not in the view."""
-    policies = probes.named_policies(objects, namespace, "Server", first.view.server)
+    policies = probes.named_policies(objects, namespace, "Server", str(first.view.server))
     policies += probes.named_policies(objects, namespace, "Namespace", namespace)
     for it in first.view.routes:
         policies += probes.named_policies(objects, namespace, "HTTPRoute", it.name, it.group)
@@ -322,7 +318,7 @@ def second_run(session: Session, words: Words, first: First) -> Answer:
     """Asks for the verdict, and why."""
     namespace = words.target.pod.namespace
 
-    def questions(objects, script):
+    def questions(objects: Objects, script: Script) -> tuple[int, Match | None, dict[str, int], list[Trial], list[Key], int]:
         verdict = script.simulate(words.request(first.client))
         match = ask_match(objects, script, words, first) if first.view.routes and words.http is not None else None
         trials = ask_reasons(objects, script, words, first) if first.view.server else []
@@ -338,11 +334,23 @@ def second_run(session: Session, words: Words, first: First) -> Answer:
     after = views.inbound(answers.view(number))
     policies = [why_hidden(session.objects, key, after) for key in hidden_keys]
     text = answers.verdicts[verdict]
-    lacks = [least(needs, decider, answers) if text.startswith("denied") else None for decider in ("default", "probe")]
+    policy_needs, probe_needs = (least(needs, it, answers) if text.startswith("denied") else None for it in ("default", "probe"))
     reasons_for_request = [] if text == "not-found" else reasons
     allowed = None if session.gaps(POLICY_KINDS) else text.startswith("allowed")
-    head = allowed, decider(text, first.view, namespace), match.matched(answers) if match else None, text
-    return Answer(*head, *lacks, words.request_text(), first.client, first.is_meshed, first.view, reasons_for_request, policies)
+    return Answer(
+        allowed,
+        decider(text, first.view, namespace),
+        match.matched(answers) if match else None,
+        text,
+        policy_needs,
+        probe_needs,
+        words.request_text(),
+        first.client,
+        first.is_meshed,
+        first.view,
+        reasons_for_request,
+        policies,
+    )
 
 
 def decider(verdict: str, view: views.Inbound, namespace: str) -> str | None:

@@ -10,7 +10,7 @@ from dataclasses import dataclass, field
 from mesh_front import limits, policy, probes, views
 from mesh_front.faults import Status
 from mesh_front.feed import Key, Objects, items, members
-from mesh_front.kinds import AUTHORIZATION_POLICY, KINDS, POD, ROUTE_KINDS, SERVER, SERVER_AUTHORIZATION, SERVICE, kind_of
+from mesh_front.kinds import AUTHORIZATION_POLICY, KINDS, POD, ROUTE_KINDS, SERVER, SERVER_AUTHORIZATION, SERVICE
 from mesh_front.messages import Message
 from mesh_front.names import PodName, PodPort
 from mesh_front.program import Answers, Query, Script, Session
@@ -69,7 +69,7 @@ def watched_ports(objects: Objects) -> list[tuple[Key, int]]:
     for kind in ROUTE_KINDS:
         for route in objects.of(kind):
             for it in parents(objects, route):
-                key = Key(SERVICE, it.get("namespace") or route.namespace, it.get("name"))
+                key = Key(SERVICE, it.get("namespace") or route.namespace, str(it.get("name")))
                 if key in objects.by_key and isinstance(it.get("port"), int):
                     ports.add((key, it["port"]))
     return sorted(ports, key=lambda it: (it[0].namespace, it[0].name, it[1]))
@@ -160,9 +160,9 @@ def target_problem(objects: Objects, key: Key) -> str:
     kind, name, group = probes.referred_kind(target), target.get("name"), target.get("group") or "core"
     if (target.get("kind"), group) == ("Namespace", "core"):
         return "it applies to no Server" if name == key.namespace else f"its target Namespace {name} is not its own"
-    if kind not in (SERVER, *ROUTE_KINDS):
+    if kind is None or kind not in (SERVER, *ROUTE_KINDS):
         return f"its target {target.get('kind')} {name} of the group {group} is none that it can apply to"
-    target_key = Key(kind, target.get("namespace") or key.namespace, name)
+    target_key = Key(kind, target.get("namespace") or key.namespace, str(name))
     if target_key not in objects.by_key:
         return f"its target {target_key} is not in the feed"
     if target_key.namespace != key.namespace:
@@ -200,7 +200,8 @@ def parent_problems(objects: Objects) -> list[Problem]:
 def absent_parents(objects: Objects, route: Key) -> list[Key]:
     """The Servers and Services that a route names as parents and that are not held."""
     pairs = [(probes.referred_kind(it), it) for it in parents(objects, route) if "group" in it]
-    keys = [Key(kind, it.get("namespace") or route.namespace, it.get("name")) for kind, it in pairs if kind in (SERVER, SERVICE)]
+    own = [(kind, it) for kind, it in pairs if kind is not None and kind in (SERVER, SERVICE)]
+    keys = [Key(kind, it.get("namespace") or route.namespace, str(it.get("name"))) for kind, it in own]
     return [key for key in keys if key not in objects.by_key]
 
 
@@ -217,7 +218,7 @@ def backend_problems(first: First, answers: Answers) -> list[Problem]:
         for message in answers.view(number):
             for route in message.at("service").all("routes"):
                 one = views.route(route)
-                key = Key(kind_of("HTTPRoute", f"{one.group}/"), service.namespace, one.name)
+                key = Key(views.route_kind(one), service.namespace, one.name)
                 problems += [Problem(str(key), f"its backend {it} is missing") for it in missing_backends(route)]
     return list(dict.fromkeys(problems))
 

@@ -4,6 +4,7 @@ import queue
 import threading
 import time
 from dataclasses import dataclass
+from typing import Any
 
 from mesh_front.faults import Fault, Status
 from mesh_front.feed import Key, json_of, key_of, members
@@ -90,7 +91,7 @@ class KindFeed:
         reasons.append(reason or watch.reason())
         self.end()
 
-    def put_event(self, event, data: bytes) -> None:
+    def put_event(self, event: Any, data: bytes) -> None:
         """Puts an event of a watch, with its type and its object in what is said of it."""
         key = key_of(members(event, "object"))
         word = event.get("type") if isinstance(event, dict) else "an event"

@@ -10,7 +10,7 @@ from typing import Callable, Iterable, Protocol
 
 from mesh_front import access, policy, slices, views
 from mesh_front.faults import Fault, Status
-from mesh_front.feed import Key, Objects, apply
+from mesh_front.feed import Key, Objects, apply, key_of, members
 from mesh_front.gaps import Gaps
 from mesh_front.kinds import KINDS, POD, SERVICE, Kind
 from mesh_front.manifests import Change, Changes, resolve
@@ -116,7 +116,7 @@ class ChangedFeed:
         after = after_changes(before, self.changes)
         changed = {it.key for it in self.changes if before.by_key.get(it.key) != after.by_key.get(it.key)}
         self.follow = slices.follow(before, after, changed, session.gaps(KINDS).missing)
-        self.events = [{"type": it.type, "object": it.object} for it in self.changes]
+        self.events: list[dict] = [{"type": it.type, "object": it.object} for it in self.changes]
         self.events += [{"type": "DELETED", "object": it} for it in self.follow.removed]
         self.events += [{"type": "MODIFIED", "object": it} for it in self.follow.added]
         self.states = before, after
@@ -137,9 +137,8 @@ class ChangedFeed:
         """Raises a Fault where the program refuses a change."""
         for line, event in zip(lines, self.events):
             if line in answers.refusals:
-                metadata = event["object"]["metadata"]
-                name = f"{event['object']['kind']} {metadata['namespace']}/{metadata['name']}"
-                raise Fault(Status.REFUSED, f"the change of {name} is refused: {answers.refusals[line]}")
+                key = key_of(members(event, "object"))
+                raise Fault(Status.REFUSED, f"the change of {key} is refused: {answers.refusals[line]}")
 
     def gaps(self, kinds: Iterable[Kind]) -> Gaps:
         """What the feed lacks of some kinds."""
@@ -199,8 +198,8 @@ def inbound_rows(view: views.Inbound) -> list[str]:
     if view.policy is None:
         return ["the Pod does not exist"]
     rows = [f"server {view.server or 'none'}", f"protocol {view.protocol}", f"policy {view.policy}"]
-    for it in view.authorizations:
-        rows.append(f"{it.title} for {policy.scope(it, view)}: networks {it.where()}, clients {it.clients}")
+    for one in view.authorizations:
+        rows.append(f"{one.title} for {policy.scope(one, view)}: networks {one.where()}, clients {one.clients}")
     for it in view.routes:
         rows.append(f"{it.title} ({it.group}): hostnames {', '.join(it.hostnames) or '*'}, matches {', '.join(it.matches) or '-'}")
     return rows + [f"probe GET {path}" for path in view.probes]
@@ -270,27 +269,33 @@ def inside_address(states: Iterable[Objects]) -> str:
     return next((it for objects, key in pods for it in slices.addresses(objects.by_key[key])), access.INSIDE)
 
 
-def accesses(comparison: Comparison, differences: list[Difference]) -> tuple[list[str], list[str]]:
-    """What opens and what closes: ports of Pods by simulated requests, and Services by whether they have endpoints."""
-    ports = [it for it in differences if it.question.target]
+def port_accesses(comparison: Comparison, differences: list[Difference]) -> dict[bool, list[str]]:
+    """What opens and what closes of ports of Pods, by simulated requests."""
     inside = inside_address(comparison.states)
-    tried = [access.trials(it.question.target, *it.messages, inside) for it in ports if it.question.target]
-    sides = comparison.ask(lambda script: [script.simulate(one.line) for rows in tried for one in rows]) if ports else ()
-    verdicts = [side.verdicts() for side in sides]
-    found: tuple[list[access.Access], list[access.Access]] = ([], [])
-    start = 0
-    for it, rows in zip(ports, tried):
-        before, after = (values[start : start + len(rows)] for values in verdicts)
-        start += len(rows)
-        for place, opens in enumerate((True, False)):
-            found[place].extend(access.accesses(it.question.name, rows, before, after, opens))
-    opened, closed = ([str(it) for it in access.together(rows)] for rows in found)
+    ports = [(it, it.question.target) for it in differences if it.question.target]
+    tried = [access.trials(target, *it.messages, inside) for it, target in ports]
+    found: dict[bool, list[access.Access]] = {True: [], False: []}
+    if ports:
+        before, after = comparison.ask(lambda script: [script.simulate(one.line) for rows in tried for one in rows])
+        verdicts = before.verdicts(), after.verdicts()
+        start = 0
+        for (it, _), rows in zip(ports, tried):
+            old, new = (values[start : start + len(rows)] for values in verdicts)
+            start += len(rows)
+            for opens, accesses in found.items():
+                accesses.extend(access.accesses(it.question.name, rows, old, new, opens))
+    return {opens: [str(it) for it in access.together(rows)] for opens, rows in found.items()}
+
+
+def endpoint_accesses(differences: list[Difference]) -> dict[bool, list[str]]:
+    """What opens and what closes of Services, by whether they have endpoints."""
+    found: dict[bool, list[str]] = {True: [], False: []}
     for it in differences:
         if it.question.query.method == "Get":
-            before, after = (len(views.endpoints(messages).endpoints) for messages in it.messages)
-            opened += [f"{it.question.name} has endpoints, and had none"] if after and not before else []
-            closed += [f"{it.question.name} has no endpoint any more"] if before and not after else []
-    return opened, closed
+            before, after = (bool(views.endpoints(messages).endpoints) for messages in it.messages)
+            if before != after:
+                found[after].append(f"{it.question.name} {'has endpoints, and had none' if after else 'has no endpoint any more'}")
+    return found
 
 
 def group_title(group: Group) -> str:
@@ -329,7 +334,8 @@ def compare(comparison: Comparison) -> Answer:
     before, after = comparison.ask(lambda script: [script.view(it.query) for it in questions])
     results = [difference(*row) for row in zip(questions, before.views(), after.views())]
     differences = [it for it in results if it]
-    opened, closed = accesses(comparison, differences)
+    ports, services = port_accesses(comparison, differences), endpoint_accesses(differences)
+    opened, closed = (ports[opens] + services[opens] for opens in (True, False))
     return Answer(opened, closed, groups(differences), len(questions), None, [], [], [], [])
 
 

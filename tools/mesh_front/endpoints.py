@@ -4,9 +4,10 @@ from dataclasses import dataclass
 
 from mesh_front import views
 from mesh_front.faults import Status
+from mesh_front.feed import Objects
 from mesh_front.kinds import ENDPOINT_KINDS
 from mesh_front.names import ServiceName, require_service
-from mesh_front.program import Query, Session
+from mesh_front.program import Query, Script, Session
 from mesh_front.tables import show, table
 
 HEADINGS = ["SERVICE PORT", "ADDRESS", "PORT", "POD", "ACCOUNT", "MESHED", "HINT"]
@@ -43,7 +44,7 @@ def lines(service: ServiceName, answer: Answer) -> list[str]:
 def run(session: Session, service: ServiceName, as_json: bool) -> Status:
     """Shows the endpoints of a port of a Service, or of each of its ports."""
 
-    def questions(objects, script):
+    def questions(objects: Objects, script: Script) -> list[tuple[int, int]]:
         key = require_service(objects, service)
         ports = [service.port] if service.port else objects.service_ports(key) or [80]
         return [(port, script.view(Query("Get", f"{service.name}.{service.namespace}", port))) for port in ports]

@@ -8,7 +8,7 @@ import json
 import pathlib
 import sys
 from dataclasses import dataclass
-from typing import Iterable
+from typing import Any, Iterable
 
 from mesh_front.faults import Fault, Status
 from mesh_front.kinds import SERVER, Kind, kind_of
@@ -26,7 +26,7 @@ class Key:
         return f"{self.kind.title} {self.namespace}/{self.name}"
 
 
-def json_of(line: bytes):
+def json_of(line: bytes) -> Any:
     """The JSON value of a line, or None where it is none."""
     try:
         return json.loads(line)
@@ -34,19 +34,19 @@ def json_of(line: bytes):
         return None
 
 
-def is_control(value) -> bool:
+def is_control(value: Any) -> bool:
     """Whether the value of a line is that of a control line."""
     return isinstance(value, dict) and value.get("control") is not None
 
 
-def members(value, *path: str) -> dict:
+def members(value: Any, *path: str) -> dict:
     """The object at the end of a path of members, the empty one where something else is there."""
     for name in path:
         value = value.get(name) if isinstance(value, dict) else None
     return value if isinstance(value, dict) else {}
 
 
-def items(value, *path: str) -> list[dict]:
+def items(value: Any, *path: str) -> list[dict]:
     """The objects in the list at the end of a path of members."""
     result = members(value, *path[:-1]).get(path[-1])
     return [it for it in result if isinstance(it, dict)] if isinstance(result, list) else []
@@ -59,7 +59,7 @@ def key_of(value: dict) -> Key | None:
     return Key(kind, namespace, name) if kind and isinstance(name, str) and isinstance(namespace, str) else None
 
 
-def kind_of_line(value) -> Kind | None:
+def kind_of_line(value: Any) -> Kind | None:
     """The kind of the list or the event that the value of a line is, None of a BOOKMARK and of what is neither."""
     if not isinstance(value, dict):
         return None
@@ -70,7 +70,7 @@ def kind_of_line(value) -> Kind | None:
     return kind_of(name.removesuffix("List"), value.get("apiVersion")) if isinstance(name, str) and name.endswith("List") else None
 
 
-def object_of_line(value) -> Key | None:
+def object_of_line(value: Any) -> Key | None:
     """The key of the object of an event; None of a list, and where it has none."""
     return key_of(members(value, "object")) if isinstance(value, dict) and value.get("type") is not None else None
 
@@ -84,12 +84,12 @@ def apply_list(objects: dict[Key, dict], value: dict) -> None:
         del objects[key]
     for item in items(value, "items"):
         item_value = {**item, "kind": kind.name, "apiVersion": value.get("apiVersion") or kind.api_version}
-        key = key_of(item_value)
-        if key:
-            objects[key] = item_value
+        item_key = key_of(item_value)
+        if item_key:
+            objects[item_key] = item_value
 
 
-def apply(objects: dict[Key, dict], value) -> None:
+def apply(objects: dict[Key, dict], value: Any) -> None:
     """Does to the held objects what the line with this value does."""
     if not isinstance(value, dict):
         return

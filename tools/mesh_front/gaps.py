@@ -5,7 +5,7 @@ have been refused. Such an answer says so on its first line, and by its status.
 """
 
 from dataclasses import dataclass
-from typing import Iterable
+from typing import Any, Iterable
 
 from mesh_front.faults import Status
 from mesh_front.feed import Feed, Key, kind_of_line, object_of_line
@@ -76,6 +76,6 @@ def gaps_of(feed: Feed, refusals: dict[int, str], kinds: Iterable[Kind]) -> Gaps
     return Gaps([kind.title for kind in wanted if kind not in seen], refused)
 
 
-def is_of_another_kind(value, why: str) -> bool:
+def is_of_another_kind(value: Any, why: str) -> bool:
     """Whether a refused line is of a kind that no answer rests on. A `List` may have items of any kind."""
     return why.startswith("UnknownKind") and isinstance(value, dict) and value.get("kind") != "List"

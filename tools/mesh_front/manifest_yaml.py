@@ -49,7 +49,7 @@ class Reader:
 
     def documents(self) -> list[Any]:
         """The values of all documents, without the empty ones."""
-        values = []
+        values: list[Any] = []
         while True:
             name, _, _ = self.next()
             if name == "StreamEnd":
@@ -108,7 +108,7 @@ def scalar(event: Any, line: int) -> Any:
 def values_of(text: str) -> list[Any]:
     """The values of the documents of a file, without the empty ones, in which what is unclear is marked."""
     try:
-        import yaml
+        import yaml  # type: ignore[import]
     except ImportError as error:
         raise Fault(Status.NO_TOOL, f"there is no PyYAML, which reads YAML: {INSTALL}") from error
     try:

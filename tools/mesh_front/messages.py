@@ -11,6 +11,7 @@ import re
 import shutil
 import subprocess
 from dataclasses import dataclass, field
+from typing import Any
 
 from mesh_front.faults import Fault, Status
 from mesh_front.packages import INSTALL
@@ -38,7 +39,7 @@ class Message:
         """The values of a field."""
         return [value for key, value in self.fields if key == name]
 
-    def one(self, name: str, default=None):
+    def one(self, name: str, default: Any = None) -> Any:
         """The value of a field that is there once, or the default."""
         return next(iter(self.all(name)), default)
 
@@ -62,7 +63,7 @@ def message_in(digits: str) -> bytes | None:
     return frame[5:]
 
 
-def scalar(text: str):
+def scalar(text: str) -> str | int | bool:
     """The value that a scalar of protoc's text has: a string, a number, a bool, or the name of an enum's value."""
     if text.startswith('"'):
         parts = re.findall(rb"\\([0-7]{3}|.)|([^\\]+)", text[1:-1].encode())
@@ -157,8 +158,10 @@ def decode_each(method: str, messages: list[bytes]) -> list[list[str] | None]:
     if not messages:
         return []
     rows = decode_together(method, messages)
-    if rows is not None or len(messages) == 1:
-        return rows or [None]
+    if rows is not None:
+        return [*rows]
+    if len(messages) == 1:
+        return [None]
     half = len(messages) // 2
     return decode_each(method, messages[:half]) + decode_each(method, messages[half:])
 

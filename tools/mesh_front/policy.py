@@ -2,9 +2,10 @@
 
 from mesh_front import views
 from mesh_front.faults import Fault, Status
+from mesh_front.feed import Objects
 from mesh_front.kinds import POLICY_KINDS
 from mesh_front.names import PodPort, require_pod
-from mesh_front.program import Query, Session
+from mesh_front.program import Query, Script, Session
 from mesh_front.tables import show, table
 
 
@@ -33,7 +34,7 @@ def route_table(routes: list[views.Route]) -> list[str]:
 
 def lines(view: views.Inbound) -> list[str]:
     """The view as people read it."""
-    output = table(["SERVER", "PROTOCOL", "POLICY"], [[view.server or "none", view.protocol, view.policy]])
+    output = table(["SERVER", "PROTOCOL", "POLICY"], [[view.server or "none", str(view.protocol), str(view.policy)]])
     if view.server and not view.authorizations:
         output += ["", "No authorization applies."]
     if view.authorizations:
@@ -49,7 +50,7 @@ def lines(view: views.Inbound) -> list[str]:
 def run(session: Session, target: PodPort, as_json: bool) -> Status:
     """Shows the Server of a port of a Pod, its policy, its authorizations and its routes, and the probes of the Pod."""
 
-    def questions(objects, script):
+    def questions(objects: Objects, script: Script) -> int:
         require_pod(objects, target.pod)
         return script.view(inbound_query(target))
 

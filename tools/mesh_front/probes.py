@@ -1,5 +1,7 @@
 """Objects that are made up to ask the program a question that no subscription asks directly."""
 
+from typing import Any
+
 from mesh_front import views
 from mesh_front.feed import Key, Objects, items, members
 from mesh_front.kinds import AUTHORIZATION_POLICY, MESH_AUTHENTICATION, NETWORK_AUTHENTICATION, POD, SERVER, SERVICE, SLICE, Kind, kind_of
@@ -11,7 +13,7 @@ PORT = 1
 ADDRESS = "192.0.2.1"
 
 
-def new_object(kind: Kind, namespace: str, name: str, labels: dict | None = None, **rest) -> dict:
+def new_object(kind: Kind, namespace: str, name: str, labels: dict | None = None, **rest: Any) -> dict:
     """An object of a kind."""
     metadata = {"name": name, "namespace": namespace, "labels": labels or {}}
     return {"apiVersion": kind.api_version, "kind": kind.name, "metadata": metadata, **rest}
@@ -63,8 +65,10 @@ def missing_references(objects: Objects, policy: Key) -> list[Key]:
     keys = []
     for reference in items(objects.spec(policy), "requiredAuthenticationRefs"):
         kind = referred_kind(reference)
-        key = Key(kind, reference.get("namespace") or policy.namespace, reference.get("name")) if kind else None
-        if kind in AUTHENTICATIONS and key not in objects.by_key:
+        if kind is None or kind not in AUTHENTICATIONS:
+            continue
+        key = Key(kind, reference.get("namespace") or policy.namespace, str(reference.get("name")))
+        if key not in objects.by_key:
             keys.append(key)
     return keys
 

@@ -7,7 +7,7 @@ import subprocess
 import sys
 import tempfile
 from dataclasses import dataclass, field
-from typing import Callable, Iterable, TypeVar
+from typing import IO, Callable, Iterable, TypeVar
 
 from mesh_front.faults import Fault, Status
 from mesh_front.feed import Feed, Objects
@@ -15,7 +15,7 @@ from mesh_front.gaps import Gaps, gaps_of
 from mesh_front.kinds import Kind
 from mesh_front.messages import Message, decode_each, message_in, tree
 
-Numbers = TypeVar("Asked")
+Numbers = TypeVar("Numbers")
 PORT_METHODS = ("WatchPort", "WatchPort2")
 
 
@@ -95,7 +95,8 @@ class Program:
     """The program linkerd_cli with its configuration."""
 
     def __init__(self, path: pathlib.Path, options: list[str]):
-        self.path, self.options, self.lines_on_error = path, options, set()
+        self.path, self.options = path, options
+        self.lines_on_error: set[str] = set()
 
     def replay(self, lines: list[bytes]) -> list[str]:
         """What `replay` writes for these lines. What else it says on standard error is passed on, each line once."""
@@ -110,13 +111,13 @@ class Program:
             raise Fault(status_kind, f"{self.path} replay ended with status {status}: {last or 'it says nothing'}")
         return output_lines
 
-    def run(self, source, output) -> tuple[int, str]:
+    def run(self, source: IO[bytes], output: IO[bytes]) -> tuple[int, str]:
         """Runs `replay`, and answers its status and the last line that it wrote on standard error."""
         last = ""
         try:
             command = [str(self.path), "replay", *self.options]
             with subprocess.Popen(command, stdin=source, stdout=output, stderr=subprocess.PIPE, text=True, errors="replace") as run:
-                for line in run.stderr:
+                for line in run.stderr or ():
                     last = line.strip()
                     if line not in self.lines_on_error and not SAID_BY_MESH.match(line):
                         self.lines_on_error.add(line)
@@ -142,10 +143,10 @@ def answers_in(output: list[str], methods: dict[int, str]) -> Answers:
         else:
             raise Fault(Status.TOOL_FAILED, f"the program wrote a line that answers no question: {line[:80]}")
     for method, pairs in frames.items():
-        for (number, _), rows in zip(pairs, decode_each(method, [message for _, message in pairs])):
+        for (question, _), rows in zip(pairs, decode_each(method, [message for _, message in pairs])):
             if rows is None:
                 raise Fault(Status.TOOL_FAILED, f"protoc cannot read a message that answers {method}")
-            answers.views.setdefault(number, []).append(tree(rows))
+            answers.views.setdefault(question, []).append(tree(rows))
     return answers
 
 

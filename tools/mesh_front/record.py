@@ -6,6 +6,7 @@ import sys
 import tempfile
 import urllib.parse
 from dataclasses import dataclass
+from typing import Iterator
 
 from mesh_front.faults import Fault, Status
 from mesh_front.feed import members
@@ -39,9 +40,9 @@ class Watch:
         self.errors = tempfile.TemporaryFile()
         self.process = subprocess.Popen(command, stdin=subprocess.DEVNULL, stdout=subprocess.PIPE, stderr=self.errors)
 
-    def lines(self):
+    def lines(self) -> Iterator[bytes]:
         """The events. A last line that is cut is none."""
-        return (line[:-1] for line in self.process.stdout if line.endswith(b"\n"))
+        return (line[:-1] for line in self.process.stdout or () if line.endswith(b"\n"))
 
     def end(self) -> None:
         """Ends the watch, if it goes on."""
@@ -103,8 +104,8 @@ def versions(cluster: Cluster, kind: Kind) -> list[str]:
         return [kind.version]
     group = cluster.value(f"/apis/{kind.group}", kind)
     preferred = members(group, "preferredVersion").get("version")
-    others = [it.get("version") for it in group.get("versions") or [] if isinstance(it, dict)]
-    served_versions = [version for version in (kind.version, preferred, *others) if version in others]
+    others = [str(it.get("version")) for it in group.get("versions") or [] if isinstance(it, dict)]
+    served_versions = [version for version in (kind.version, str(preferred), *others) if version in others]
     return list(dict.fromkeys(served_versions))
 
 

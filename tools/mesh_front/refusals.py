@@ -2,6 +2,7 @@
 
 import json
 import re
+from typing import Any
 
 from mesh_front.feed import items, json_of, key_of, members
 from mesh_front.kinds import kind_of
@@ -34,7 +35,7 @@ TABLES = "what docs/FEED.md has for the kind"
 PLACE = re.compile(r"(?:object|items\[(\d+)\])(?:\.(.*))?")
 
 
-def refused_object(fault: str, value) -> dict | None:
+def refused_object(fault: str, value: Any) -> dict | None:
     """The object in the value of a line that a fault is about, with its kind; None where it names none."""
     word, place = (*fault.split(" "), "")[:2]
     match = PLACE.fullmatch(f"items[{place}]" if word == "RepeatedItem" else place)
@@ -59,7 +60,7 @@ def listed_objects(value: dict) -> list[dict]:
     return [listed_object(value, item) for item in items(value, "items")]
 
 
-def value_at(value, path: str):
+def value_at(value: Any, path: str) -> Any:
     """The value at a path of members and places, as `spec.ports[0].port`; None where there is none."""
     for name, place in re.findall(r"([^.\[\]]+)|\[(\d+)\]", path):
         if place:

@@ -20,7 +20,7 @@ MANAGER = "endpointslice-controller.k8s.io"
 ADDRESS_TYPES = {4: "IPv4", 6: "IPv6"}
 ENDED = ("Succeeded", "Failed")
 
-Port = tuple[str, int, str]  # its name, number and protocol
+Port = tuple[str, int | None, str]  # its name, number and protocol
 Place = tuple[str, str, Port]  # an address, the Pod behind it, and a port there
 
 
@@ -123,7 +123,8 @@ def endpoints(objects: Objects, key: Key, service: dict, primary: int | None) ->
 
 def slices_of(objects: Objects, key: Key, service: dict, primary: int | None = None) -> list[dict]:
     """The slices of a Service."""
-    name, found = objects.free_name(key.namespace), []
+    name = objects.free_name(key.namespace)
+    found: list[dict] = []
     marks = {SERVICE_LABEL: key.name, MANAGER_LABEL: MANAGER}
     for (number, port_list), rows in endpoints(objects, key, service, primary).items():
         values = [{"name": it[0], "port": it[1], "protocol": it[2]} for it in port_list]
@@ -141,9 +142,9 @@ def held_slices(objects: Objects, key: Key) -> list[dict]:
 
 def ready_places(slices: list[dict]) -> set[Place]:
     """Each ready address of some slices with its Pod and each port there."""
-    found = set()
+    found: set[Place] = set()
     for value in slices:
-        numbers = [(it.get("name") or "", it.get("port"), it.get("protocol") or "TCP") for it in items(value, "ports")]
+        numbers: list[Port] = [(it.get("name") or "", it.get("port"), it.get("protocol") or "TCP") for it in items(value, "ports")]
         for row in items(value, "endpoints"):
             if members(row, "conditions").get("ready") is not False:
                 pod = members(row, "targetRef").get("name") or ""

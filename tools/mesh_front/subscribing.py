@@ -79,7 +79,7 @@ def request(method: str, target: str, domain: str, token: str) -> bytes:
         text = request_text(method, target, domain, token)
     except ValueError as error:
         raise Fault(Status.USAGE, f"{target!r} is not {FORMS[method]}, as {method} takes it") from error
-    return frame(protoc("encode", REQUESTS[method], text.encode()))
+    return frame(protoc("encode", REQUESTS[method], text.encode()) or b"")
 
 
 class Messages:

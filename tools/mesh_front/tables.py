@@ -2,6 +2,7 @@
 
 import dataclasses
 import json
+from typing import Any
 
 from mesh_front.gaps import Gaps
 
@@ -12,7 +13,7 @@ def table(headings: list[str], rows: list[list[str]]) -> list[str]:
     return ["   ".join(cell.ljust(width) for cell, width in zip(row, widths)).rstrip() for row in [headings, *rows]]
 
 
-def values(answer):
+def values(answer: Any) -> Any:
     """An answer as values of JSON."""
     if dataclasses.is_dataclass(answer):
         return {it.name: values(getattr(answer, it.name)) for it in dataclasses.fields(answer)}
@@ -21,6 +22,6 @@ def values(answer):
     return answer
 
 
-def show(gaps: Gaps, answer, lines: list[str], as_json: bool) -> None:
+def show(gaps: Gaps, answer: Any, lines: list[str], as_json: bool) -> None:
     """Prints an answer as JSON or in lines, behind what the feed lacks for it."""
     print(json.dumps({**values(gaps), **values(answer)}, indent=2) if as_json else "\n".join(gaps.lines() + lines))

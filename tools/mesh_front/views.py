@@ -2,6 +2,7 @@
 
 from dataclasses import dataclass, field
 
+from mesh_front.kinds import GATEWAY_ROUTE, LINKERD_ROUTE, Kind
 from mesh_front.messages import Message, address
 
 PROTOCOLS = {"HTTP_1": "HTTP/1", "HTTP_2": "HTTP/2", "GRPC": "gRPC", "TLS": "TLS", "UNKNOWN": "unknown", "OPAQUE": "opaque"}
@@ -102,6 +103,11 @@ class Route:
     def title(self) -> str:
         """The kind and the name."""
         return f"HTTPRoute/{self.name}"
+
+
+def route_kind(one: Route) -> Kind:
+    """The kind of a route of a view."""
+    return GATEWAY_ROUTE if one.group == GATEWAY_ROUTE.group else LINKERD_ROUTE
 
 
 @dataclass

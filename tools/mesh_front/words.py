@@ -7,7 +7,7 @@ import re
 import sys
 import urllib.parse
 from dataclasses import dataclass
-from typing import Callable
+from typing import Any, Callable, NoReturn
 
 from mesh_front import ask, check, diff, endpoints, policy, record
 from mesh_front.faults import MEANINGS, Fault, Status, epilog, run_tool
@@ -33,14 +33,14 @@ STATUSES = epilog(MEANINGS)
 class Parser(argparse.ArgumentParser):
     """A parser that names a wrong word in one line."""
 
-    def error(self, message: str):
+    def error(self, message: str) -> NoReturn:
         raise Fault(Status.USAGE, f"{message}; {self.prog} --help tells more")
 
 
 def of_form(read: Callable, form: str) -> Callable:
     """A type of argparse that names the form of a word."""
 
-    def value(word: str):
+    def value(word: str) -> Any:
         try:
             return read(word)
         except ValueError as error:
@@ -87,7 +87,7 @@ def common(wants_feed: bool) -> argparse.ArgumentParser:
     """The options that the commands over a feed share."""
     options = argparse.ArgumentParser(add_help=False)
     if wants_feed:
-        path = {"type": pathlib.Path, "metavar": "FILE"}
+        path: dict[str, Any] = {"type": pathlib.Path, "metavar": "FILE"}
         options.add_argument("--feed", **path, default=STANDARD_INPUT, help="the feed (default: standard input)")
         options.add_argument("--program", **path, default=ROOT / "linkerd_cli", help="the program (default: ./linkerd_cli)")
         options.add_argument("-o", "--output", choices=["table", "json"], default="table", help="the form of the answer (default: table)")
@@ -97,7 +97,7 @@ def common(wants_feed: bool) -> argparse.ArgumentParser:
     return options
 
 
-def add_command(commands, name: str, about: str, run: Callable, wants_feed: bool = True) -> argparse.ArgumentParser:
+def add_command(commands: Any, name: str, about: str, run: Callable, wants_feed: bool = True) -> argparse.ArgumentParser:
     """Adds a command that `run` runs."""
     formatter = argparse.RawDescriptionHelpFormatter
     texts = {"help": about, "description": about, "epilog": STATUSES, "formatter_class": formatter}
@@ -106,22 +106,22 @@ def add_command(commands, name: str, about: str, run: Callable, wants_feed: bool
     return parser
 
 
-def add_record(commands) -> None:
+def add_record(commands: Any) -> None:
     """Adds the command `record`."""
     about = "Prints a feed of the cluster that kubectl reaches: a list of each kind."
     parser = add_command(commands, "record", about, run_record, False)
-    several = {"action": "append", "default": [], "metavar": "NS"}
+    several: dict[str, Any] = {"action": "append", "default": [], "metavar": "NS"}
     parser.add_argument("-n", "--namespace", **several, help="this namespace alone; may be repeated")
     parser.add_argument("--context", metavar="NAME", help="kubectl's context")
 
 
-def add_diff(commands) -> None:
+def add_diff(commands: Any) -> None:
     """Adds the command `diff`."""
     about = "Shows which views a change of objects changes, or which views differ in two recordings."
     parser = add_command(commands, "diff", about, run_diff)
     two = "two recordings, in place of a feed and changes of it"
     parser.add_argument("recordings", nargs="*", type=pathlib.Path, metavar="OLD NEW", help=two)
-    several = {"action": "append", "default": []}
+    several: dict[str, Any] = {"action": "append", "default": []}
     objects = "objects in YAML or JSON, as helm and kustomize print them, each of which replaces the object of its name; may be repeated"
     parser.add_argument("--apply", **several, type=pathlib.Path, metavar="FILE", help=objects)
     form = "KIND/[NS/]NAME"
@@ -130,7 +130,7 @@ def add_diff(commands) -> None:
     parser.add_argument("-n", "--namespace", default="default", metavar="NS", help=namespace)
 
 
-def add_ask(commands) -> None:
+def add_ask(commands: Any) -> None:
     """Adds the command `ask`."""
     parser = add_command(commands, "ask", "Tells whether a request to a port of a Pod is admitted, and why.", run_ask)
     parser.add_argument("target", type=of_form(pod_port, "NS/POD:PORT"), metavar="NS/POD:PORT")
@@ -142,7 +142,7 @@ def add_ask(commands) -> None:
     client.add_argument("--tls", action="store_true", help="the client uses TLS without an identity")
     request = parser.add_argument_group("the request")
     request.add_argument("--method", default="GET", help="the method (default: GET)")
-    path = {"type": of_form(request_path, "a path that begins with / or a URL"), "metavar": "PATH"}
+    path: dict[str, Any] = {"type": of_form(request_path, "a path that begins with / or a URL"), "metavar": "PATH"}
     request.add_argument("--path", **path, default=RequestPath("/"), help="the path, with a query or not, or a URL (default: /)")
     request.add_argument("--host", help="the host")
     request.add_argument("--query", help="the query without the question mark")
