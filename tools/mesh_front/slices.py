@@ -188,7 +188,8 @@ def follow(before: Objects, after: Objects, changed: set[Key], missing: list[str
     """The changes of slices that follow from these changes. `missing` are the kinds of which the feed says nothing."""
     result = Follow()
     pods = [key for key in changed if key.kind == POD]
-    given = {(key.namespace, labels(state.by_key[key]).get(SERVICE_LABEL)) for key in changed if key.kind == SLICE for state in (before, after) if key in state.by_key}
+    changed_slices = [(key, state.by_key.get(key, {})) for key in changed if key.kind == SLICE for state in (before, after)]
+    given = {(key.namespace, labels(value).get(SERVICE_LABEL)) for key, value in changed_slices}
     lacking = [kind.title for kind in (SERVICE, POD, SLICE) if kind.title in missing]
     for key in after.of(SERVICE):
         near_pods = [it for it in pods if it.namespace == key.namespace]

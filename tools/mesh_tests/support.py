@@ -165,7 +165,7 @@ class Case(unittest.TestCase):
             try:
                 status = main([str(word) for word in words])
             except SystemExit as end:
-                status = end.code
+                status = int(end.code or 0)
         return Run(status, output.getvalue(), error_output.getvalue())
 
     def mesh(self, command: str, feed, *words) -> Run:
@@ -175,7 +175,7 @@ class Case(unittest.TestCase):
 
     def run_tool(self, name: str, *words, text: str = "") -> Run:
         """Runs a tool over a standard input, for two minutes at most."""
-        command = [sys.executable, ROOT / "tools" / name, *map(str, words)]
+        command = [sys.executable, str(ROOT / "tools" / name), *map(str, words)]
         run = subprocess.run(command, input=text, capture_output=True, text=True, timeout=120)
         return Run(run.returncode, run.stdout, run.stderr)
 

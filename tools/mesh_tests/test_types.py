@@ -29,7 +29,7 @@ class Types(unittest.TestCase):
             for name, script in zip(SCRIPTS, scripts):
                 script.write_text((TOOLS / name).read_text())
             self.assertEqual("", self.found(*MYPY, f"--cache-dir={room}", "mesh_front"))
-            options = [*MYPY, f"--cache-dir={room}", "--allow-untyped-defs"]
+            options = [*MYPY, f"--cache-dir={room}", "--allow-untyped-defs", "--follow-imports=silent"]
             self.assertEqual("", self.found(*options, *map(str, scripts)))
 
     @unittest.skipUnless(shutil.which("ruff") or shutil.which("pyflakes3"), "neither ruff nor pyflakes is installed")
