@@ -9,8 +9,8 @@ from typing import Any
 from mesh_front.faults import Fault, Status
 from mesh_front.feed import Key, json_of, key_of, members
 from mesh_front.feeding import FeedLink, Line, Lines, NotWanted, counted, say, send_until_closed
-from mesh_front.filling import ORDER, Holding, ListLine, fill, in_order, title_of
-from mesh_front.kinds import POLICY, PROFILE, Kind
+from mesh_front.filling import Holding, ListLine, fill, in_order, title_of
+from mesh_front.kinds import FILL_ORDER, POLICY, PROFILE, Kind
 from mesh_front.links import ServerAddress
 from mesh_front.record import Cluster, Listing, Watch, left_out, listing_of
 
@@ -112,9 +112,9 @@ def first_listings(cluster: Cluster, namespaces: list[str]) -> dict[Kind, Listin
 
     What is sent last is listed first, so that each Pod that is sent has the policies that there were when it was listed.
     """
-    listings = {kind: listing_of(cluster, kind, namespaces) for kind in reversed(ORDER)}
-    found = {kind: listings[kind] for kind in ORDER}
-    if not any(found[kind] for kind in ORDER if kind.group in (PROFILE.group, POLICY)):
+    listings = {kind: listing_of(cluster, kind, namespaces) for kind in reversed(FILL_ORDER)}
+    found = {kind: listings[kind] for kind in FILL_ORDER}
+    if not any(found[kind] for kind in FILL_ORDER if kind.group in (PROFILE.group, POLICY)):
         groups = f"{PROFILE.group} and {POLICY}"
         raise Fault(Status.NO_LINKERD, f"the cluster has none of Linkerd's kinds (the groups {groups}): is Linkerd installed there?")
     for kind, listing in found.items():

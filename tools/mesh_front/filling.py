@@ -6,40 +6,13 @@ from typing import Iterable
 from mesh_front.faults import Fault, Status
 from mesh_front.feed import Key, key_of
 from mesh_front.feeding import Line, Lines, Outcome, counted
-from mesh_front.kinds import (
-    AUTHORIZATION_POLICY,
-    GATEWAY_ROUTE,
-    KINDS,
-    LINKERD_ROUTE,
-    MESH_AUTHENTICATION,
-    NETWORK_AUTHENTICATION,
-    POD,
-    PROFILE,
-    SERVER,
-    SERVER_AUTHORIZATION,
-    SERVICE,
-    SLICE,
-    Kind,
-)
+from mesh_front.kinds import FILL_ORDER, KINDS, PROTECTING_KINDS, Kind
 from mesh_front.record import line_of
 from mesh_front.refusals import listed_object, listed_objects
 
-# A port has its policy from the first moment if all that the policy consists of is there before the Pod.
-POLICIES = (
-    MESH_AUTHENTICATION,
-    NETWORK_AUTHENTICATION,
-    SERVER_AUTHORIZATION,
-    AUTHORIZATION_POLICY,
-    LINKERD_ROUTE,
-    GATEWAY_ROUTE,
-    SERVER,
-)
-ORDER = (*POLICIES, PROFILE, POD, SLICE, SERVICE)
-
-
 def in_order(kinds: Iterable[Kind]) -> list[Kind]:
     """Kinds in the order in which they are sent."""
-    return sorted(kinds, key=ORDER.index)
+    return sorted(kinds, key=FILL_ORDER.index)
 
 
 def skipped_keys(word: str) -> frozenset[Key]:
@@ -142,10 +115,10 @@ def fill(holdings: dict[Kind, Holding], listings: list[ListLine], skipped: froze
     by_kind = {it.kind: it for it in listings}
     unreadable: list[Unreadable] = []
     for kind in in_order(by_kind):
-        if unreadable and kind not in POLICIES:
+        if unreadable and kind not in PROTECTING_KINDS:
             break
         refused = holdings[kind].replace(by_kind[kind], skipped)
-        unreadable += [it for it in refused if kind in POLICIES and it.key not in skipped]
+        unreadable += [it for it in refused if kind in PROTECTING_KINDS and it.key not in skipped]
     if unreadable:
         raise refused_policies(unreadable)
 

@@ -56,6 +56,18 @@ ROUTE_KINDS = (LINKERD_ROUTE, GATEWAY_ROUTE)
 POLICY_KINDS = (POD, SERVER, SERVER_AUTHORIZATION, AUTHORIZATION_POLICY, MESH_AUTHENTICATION, NETWORK_AUTHENTICATION, *ROUTE_KINDS)
 ENDPOINT_KINDS = (SERVICE, SLICE, POD)
 
+# A server is filled in this order: a port has its policy from the first moment if all that the policy consists of is there before the Pod.
+PROTECTING_KINDS = (
+    MESH_AUTHENTICATION,
+    NETWORK_AUTHENTICATION,
+    SERVER_AUTHORIZATION,
+    AUTHORIZATION_POLICY,
+    LINKERD_ROUTE,
+    GATEWAY_ROUTE,
+    SERVER,
+)
+FILL_ORDER = (*PROTECTING_KINDS, PROFILE, POD, SLICE, SERVICE)
+
 
 def kind_of(name: object, api_version: object) -> Kind | None:
     """The kind with this name and the group of this `apiVersion`, or None."""

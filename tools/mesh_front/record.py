@@ -10,7 +10,7 @@ from typing import Iterator
 
 from mesh_front.faults import Fault, Status
 from mesh_front.feed import members
-from mesh_front.kinds import KINDS, Kind
+from mesh_front.kinds import FILL_ORDER, KINDS, Kind
 
 PAGE = 500
 PAGE_MEMBERS = ("continue", "remainingItemCount")
@@ -170,13 +170,13 @@ def empty_list(kind: Kind) -> dict:
 
 
 def run(cluster: Cluster, namespaces: list[str]) -> Status:
-    """Prints a list of each kind, one a line, once all are read. The list of a kind that the cluster lacks is empty."""
-    lists = []
+    """Prints a list of each kind, one a line, once all are read, policies first. The list of a kind that the cluster lacks is empty."""
+    lists = {}
     for kind in KINDS:
         listing = listing_of(cluster, kind, namespaces)
         if listing is None:
             print(f"mesh: the list of {kind.title} is empty: the cluster does not have it in the group {kind.group}", file=sys.stderr)
-        lists.append(listing.value if listing else empty_list(kind))
-    for value in lists:
-        print(line_of(value))
+        lists[kind] = listing.value if listing else empty_list(kind)
+    for kind in FILL_ORDER:
+        print(line_of(lists[kind]))
     return Status.DONE

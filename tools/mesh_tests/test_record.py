@@ -5,6 +5,15 @@ import json
 from mesh_tests.support import Case, list_page, replay
 
 
+POLICIES = ("MeshTLSAuthentication", "NetworkAuthentication", "ServerAuthorization", "AuthorizationPolicy", "HTTPRoute", "Server")
+ORDER = (*POLICIES, "ServiceProfile", "Pod", "EndpointSlice", "Service")
+
+
+def in_order(*lists: dict) -> list[dict]:
+    """Lists in the order in which they are recorded: policies before the Pods that they protect."""
+    return sorted(lists, key=lambda it: ORDER.index(it["kind"].removesuffix("List")))
+
+
 class Record(Case):
     """A recording of the cluster that kubectl reaches."""
 
@@ -44,7 +53,7 @@ class Record(Case):
             "/apis/discovery.k8s.io/v1beta1/endpointslices?limit=500": list_page("EndpointSlice", "c"),
         })
         empty_lists, said = self.absent(*self.policies())
-        expected = [list_page("Service", "a", "b"), list_page("Pod"), list_page("EndpointSlice", "c"), *empty_lists]
+        expected = in_order(list_page("Service", "a", "b"), list_page("Pod"), list_page("EndpointSlice", "c"), *empty_lists)
         self.assertEqual(expected, list(map(json.loads, run.output.splitlines())))
         self.assertEqual((0, said), (run.status, run.error_output))
         empty_lines = "".join(f"{json.dumps(it)}\n" for it in empty_lists)
@@ -59,7 +68,7 @@ class Record(Case):
             "--context c /api/v1/namespaces/y/pods?limit=500": list_page("Pod"),
         }, "-n", "x", "-n", "y", "-n", "x", "--context", "c")
         empty_lists, said = self.absent(("EndpointSlice", "discovery.k8s.io", "v1"), *self.policies())
-        expected = [list_page("Service", "a", "b"), list_page("Pod", "p"), *empty_lists]
+        expected = in_order(list_page("Service", "a", "b"), list_page("Pod", "p"), *empty_lists)
         self.assertEqual(expected, list(map(json.loads, run.output.splitlines())))
         self.assertEqual((0, said), (run.status, run.error_output))
 
