@@ -162,10 +162,25 @@ def primary_family(objects: Objects) -> int:
     return 4
 
 
+def service_parts(service: dict) -> tuple:
+    """What of a Service its slices follow from, with the defaults of the API server."""
+    spec = members(service, "spec")
+    rows = [(it.get("name") or "", it.get("protocol") or "TCP", it.get("targetPort") or it.get("port")) for it in items(spec, "ports")]
+    flags = spec.get("publishNotReadyAddresses") is True, spec.get("type") == "ExternalName"
+    return members(spec, "selector"), rows, flags, [spec.get(name) for name in ("clusterIP", "ipFamilies", "ipFamilyPolicy")]
+
+
+def pod_parts(pod: dict) -> tuple:
+    """What of a Pod the slices follow from."""
+    spec = members(pod, "spec")
+    named_ports = [items(it, "ports") for it in items(spec, "containers") + items(spec, "initContainers")]
+    return labels(pod), named_ports, members(pod, "status").get("phase") in ENDED, addresses(pod), is_ready({}, pod)
+
+
 def is_concerned(before: Objects, after: Objects, key: Key, pods: list[Key]) -> bool:
     """Whether a change of a Service or of one of these Pods concerns its slices."""
     old, new = before.by_key.get(key), after.by_key[key]
-    if members(old, "spec") != members(new, "spec") and members(new, "spec", "selector"):
+    if members(new, "spec", "selector") and (old is None or service_parts(old) != service_parts(new)):
         return True
     return any(is_selected(it, state.by_key.get(pod)) for it, state in ((old, before), (new, after)) for pod in pods)
 
@@ -184,10 +199,15 @@ def why_not(before: Objects, after: Objects, key: Key) -> str | None:
     return None
 
 
+def has_other_parts(old: dict | None, new: dict | None) -> bool:
+    """Whether a Pod that comes, goes or changes may change slices."""
+    return old is None or new is None or pod_parts(old) != pod_parts(new)
+
+
 def follow(before: Objects, after: Objects, changed: set[Key], missing: list[str]) -> Follow:
     """The changes of slices that follow from these changes. `missing` are the kinds of which the feed says nothing."""
     result = Follow()
-    pods = [key for key in changed if key.kind == POD]
+    pods = [key for key in changed if key.kind == POD and has_other_parts(before.by_key.get(key), after.by_key.get(key))]
     changed_slices = [(key, state.by_key.get(key, {})) for key in changed if key.kind == SLICE for state in (before, after)]
     given = {(key.namespace, labels(value).get(SERVICE_LABEL)) for key, value in changed_slices}
     lacking = [kind.title for kind in (SERVICE, POD, SLICE) if kind.title in missing]

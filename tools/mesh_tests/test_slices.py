@@ -223,10 +223,13 @@ class Followed(Case):
         self.assertEqual(12, self.diff(feed, manifests=({**value, "spec": {**value["spec"], "selector": {"app": "wbe"}}},)).status)
 
     def test_changes_that_concern_no_slice(self):
-        """An annotation of the Service, and a Pod that no Service selects."""
-        annotated = service({"name": "http", "port": 80, "targetPort": "http"})
+        """An annotation of the Service, a member that has its default, an annotation of its Pod, and a Pod that no Service selects."""
+        annotated = service({"name": "http", "port": 80, "targetPort": "http", "protocol": "TCP"}, sessionAffinity="None")
         annotated["metadata"]["annotations"] = {"config.linkerd.io/opaque-ports": "80"}
-        run = self.diff(self.feed(), manifests=(annotated, pod("other", "other", "10.0.0.9", 80)))
+        own = ready_pod("web-1", "web", "10.0.0.1")
+        own["spec"]["containers"][0]["ports"] = [named_port("http", 8080), named_port("admin", 9990)]
+        own["metadata"]["annotations"] = {"config.linkerd.io/opaque-ports": "9990"}
+        run = self.diff(self.feed(), manifests=(annotated, own, pod("other", "other", "10.0.0.9", 80)))
         self.assertEqual(1, run.status)
         self.assertNotIn("computed", run.output)
 
