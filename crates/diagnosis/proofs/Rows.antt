@@ -1,5 +1,5 @@
 -- Where a diagnosis stands after a row more, and what it has written at its end.
-use Rattle.std.proofs.Common.{◌≡◌, ℕ, suc, ◌+◌, Bool, ◌||◌, List, [], ◌∷◌, ◌++◌, length, Option, Some, None, refl, sym, ap, ◌∙◌, subst, append_assoc}
+use Rattle.std.proofs.Common.{◌≡◌, ℕ, ◌+◌, Bool, ◌||◌, List, [], ◌∷◌, ◌++◌, length, Option, Some, None, refl, sym, ap, ◌∙◌, subst, append_assoc}
 use Rattle.std.specs.Prelude.{Result, Ok, Err, is_some}
 use Rattle.mesh_base.specs.declared.limits.Limits.{Limits}
 use Rattle.mesh_base.specs.declared.sub_id.SubId.{SubId}
@@ -16,11 +16,12 @@ use Rattle.watch_events.specs.declared.line.Line.TheVariants as lines
 use Rattle.watch_events.specs.declared.line.LineFault.{LineFault}
 use Rattle.feed_history.specs.History.{State, after, after_line, refusal_after, refusal_of}
 use Rattle.feed_history.specs.Ids.{unless_refused}
-use Rattle.feed_history.specs.Marks.{unmarked}
+use Rattle.feed_history.specs.Marks.{MarkedRow, unmarked}
 use Rattle.feed_history.specs.Output.{line_text, piece_of, row_piece, written_after}
 use Rattle.feed_history.specs.Program.{Program}
 use Rattle.feed_history.specs.Text.{refused_line}
 use Rattle.feed_history.specs.declared.refusal.Refusal.{Refusal}
+use Rattle.feed_history.proofs.Marks.{as_long, rows_unmarked}
 use Rattle.output_fold.specs.Folded.{view_lines}
 use Rattle.diagnosis.specs.Diagnosed.{diagnosis_of, if_read, refused_in}
 use Rattle.diagnosis.specs.Stand.{Ended, Holds, IsOfRun, Stands, Takes}
@@ -33,10 +34,6 @@ refusal_line number (Some refusal) = refused_line number refusal
 refusal_alone : (number : ℕ) (refusal : Option Refusal) (text : List ℕ) → text ≡ [] → refusal_line number refusal ≡ row_piece number refusal text
 refusal_alone number None text none = sym none
 refusal_alone number (Some refusal) text none = refl
-
-as_many : (past : List Row) → length past ≡ length (unmarked past)
-as_many [] = refl
-as_many (row ∷ past) = ap suc (as_many past)
 
 module _ (config : Config) (limits : Limits) where
   abbrev program : Program
@@ -66,9 +63,10 @@ module _ (config : Config) (limits : Limits) where
 
     piece_is : refusal ≡ refusal_after program (unmarked past) (row, None) → refusal_line (length past + 1) refusal ≡ piece_of program (unmarked past) (row, None)
     piece_is is =
-        let number = length (unmarked past) + 1 in
+        let marked : List MarkedRow = unmarked past in
+        let number = length marked + 1 in
         let none : line_text program number now said ≡ [] = ap (line_text program number now) (sym (reads_over row)) ∙ writes_none number now (row_says (text_line config) row) in
-        ap (λ (n : ℕ). refusal_line (n + 1) refusal) (as_many past) ∙ ap (refusal_line number) is
+        ap (λ (n : ℕ). refusal_line (n + 1) refusal) (as_long marked past (rows_unmarked _ past)) ∙ ap (refusal_line number) is
         ∙ refusal_alone number (refusal_after program (unmarked past) (row, None)) (line_text program number now said) none
 
     pub stands_row : Takes config limits (row_says (text_line config) row) refusal old new → text_new ≡ text ++ refusal_line (length past + 1) refusal

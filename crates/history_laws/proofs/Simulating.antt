@@ -1,5 +1,5 @@
 -- A simulation changes nothing, whatever it meets, and what it writes is the written policy's verdict.
-use Rattle.std.proofs.Common.{◌≡◌, ◌+◌, ◌-◌, ◌^◌, ◌<◌, ◌≤◌, ℕ, min, List, [], ◌∷◌, length, Option, Some, None, refl, sym, ap, ◌∙◌, arith}
+use Rattle.std.proofs.Common.{◌≡◌, ◌+◌, [], ◌∷◌, length, Option, Some, None, refl, sym, ap, ◌∙◌}
 use Rattle.std.specs.Prelude.{Result, Ok, Err}
 use Rattle.request_sim.specs.declared.fault.SimFault.{SimFault}
 use Rattle.watch_events.specs.declared.line.Line.{Line}
@@ -7,11 +7,11 @@ use Rattle.watch_events.specs.declared.line.Line.TheVariants as lines
 use Rattle.watch_events.specs.declared.line.LineFault.{LineFault}
 use Rattle.feed_history.specs.History.{State, after, after_line, refusal_of, step}
 use Rattle.feed_history.specs.Ids.{unless_refused}
-use Rattle.feed_history.specs.Marks.{MarkedRow, mark, marks, rows_in, unmarked}
 use Rattle.feed_history.specs.Output.{line_text, row_piece}
 use Rattle.feed_history.specs.Program.{Program, reading}
 use Rattle.feed_history.specs.Simulating.{MarksChangeNothing, SimulationsChangeNothing, UnrisenMarksNone, VerdictsArePolicys}
 use Rattle.feed_history.specs.declared.refusal.Refusal.{Refusal}
+use Rattle.feed_history.proofs.Marks.{none_unless_risen}
 
 -- ---- what rows lead to
 
@@ -47,22 +47,8 @@ marks_change_nothing program (row ∷ past) =
 
 -- ---- marks
 
-unmarked_row : (met : Option SimFault) → mark met ≡ 0 → met ≡ None
-unmarked_row None none = refl
-unmarked_row (Some fault) none = absurd (cc none)
-
-none_marked : (marked : List MarkedRow) → marks marked ≡ 0 → marked ≡ unmarked (rows_in marked)
-none_marked [] none = refl
-none_marked (row ∷ past) none =
-    let here : mark row.1 ≡ 0 = omega (arith, none) in
-    let before : marks past ≡ 0 = omega (arith, none) in
-    ap (λ (met : Option SimFault). (row.0, met) ∷ past) (unmarked_row row.1 here) ∙ ap (λ (rest : List MarkedRow). (row.0, None) ∷ rest) (none_marked past before)
-
-none_of_few : (count before limit now : ℕ) → min (count + before) limit ≤ now → now ≡ before → before < limit → count ≡ 0
-none_of_few count before limit now few same below = omega (arith, few, same, below)
-
 pub unrisen_marks_none : UnrisenMarksNone
-unrisen_marks_none marked before now few unrisen = none_marked marked (none_of_few (marks marked) before (2 ^ 64 - 1) now few unrisen.0 unrisen.1)
+unrisen_marks_none marked before now few unrisen = none_unless_risen marked before now few unrisen
 
 -- ---- what is written
 

@@ -21,8 +21,9 @@ use Rattle.feed_history.specs.declared.refusal.HubFault.{HubFault}
 use Rattle.feed_history.specs.declared.refusal.Refusal.{Refusal}
 use Rattle.feed_history.specs.declared.refusal.Refusal.TheVariants as refusals
 use Rattle.output_fold.specs.Folded.{view_lines}
+use Rattle.feed_history.proofs.Marks.{rows_unmarked}
 use Rattle.output_laws.specs.Agreement.{FoldAgrees}
-use Rattle.output_laws.proofs.SameRows.{few_rows, rows_unmarked}
+use Rattle.output_laws.proofs.SameRows.{few_rows}
 use Rattle.output_laws.specs.SameObjects.{FoldAgreesWith, SameEventsSameObjects, TakeSameEvents, event_in, event_of}
 
 -- what is held after an event, if there is one
@@ -84,7 +85,7 @@ pub agrees_with : (program other : Program) → FoldAgrees program → FoldAgree
 agrees_with program other agrees same one usual limit facts input past short rows fair fits id asked drained within =
     let here = unmarked (past_of other.limits.line input) in
     let lines : past_of program.limits.line input ≡ past_of other.limits.line input = ap (λ (limits : Limits). past_of limits.line input) same.limits in
-    let objects = same_objects program other same past here (rows ∙ lines ∙ sym (rows_unmarked (past_of other.limits.line input))) in
+    let objects = same_objects program other same past here (rows ∙ lines ∙ sym (rows_unmarked _ (past_of other.limits.line input))) in
     let folded = agrees one usual limit facts past (few_rows program.limits.line input past rows short) fair fits id asked drained within in
     sym (
     ap (λ (text : List ℕ). written_after other here ++ text) (

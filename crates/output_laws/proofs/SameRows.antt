@@ -1,13 +1,9 @@
--- How many rows an input has, and rows without marks.
-use Rattle.std.proofs.Common.{◌≡◌, ℕ, suc, ◌+◌, ◌<◌, ◌≤◌, ◌^◌, Bool, true, false, cond, List, [], ◌∷◌, length, refl, ap, arith}
+-- How many rows an input has.
+use Rattle.std.proofs.Common.{◌≡◌, ℕ, suc, ◌+◌, ◌<◌, ◌≤◌, ◌^◌, Bool, true, false, cond, List, [], ◌∷◌, length, ap, arith}
 use Rattle.std.proofs.lemmas.List.{length-map}
 use Rattle.std.specs.Prelude.{◌==◌}
 use Rattle.line_run.specs.Rows.{Row, lines_of, onto_first, past_from, past_of, row_of, rows_of}
-use Rattle.feed_history.specs.Marks.{MarkedRow, rows_in, unmarked}
-
-pub rows_unmarked : (rows : List Row) → rows_in (unmarked rows) ≡ rows
-rows_unmarked [] = refl
-rows_unmarked (row ∷ rows) = ap (λ (more : List Row). row ∷ more) (rows_unmarked rows)
+use Rattle.feed_history.specs.Marks.{MarkedRow, rows_in}
 
 onto_few : (byte : ℕ) (lines : List (List ℕ)) → length (onto_first byte lines) ≤ suc (length lines)
 onto_few byte [] = omega arith

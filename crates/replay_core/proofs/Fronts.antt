@@ -129,7 +129,7 @@ nothing_written config limits known state left held later = IfSome-told state _ 
       let program = replay_of config limits pat in
       let rows = past_of limits.line bytes in record {
         marked = unmarked rows;
-        are_marked = record { rows_are = rows_unmarked rows; few = few_unmarked rows known.before known.now later; fair = fair_unmarked program (facts_in known) rows };
+        are_marked = record { rows_are = rows_unmarked _ rows; few = few_unmarked _ rows known.before known.now later; fair = fair_unmarked program (facts_in known) rows };
         unsent = output_after program (unmarked rows);
         front = refl;
       },
