@@ -1,3 +1,5 @@
+pub mod AscendingIds
+pub mod EntriesById
 pub mod Lists
 pub mod Marks
 pub mod Optional

@@ -1,5 +1,7 @@
--- Which ids and subscriptions are refused, and how a subscription is replaced.
+-- Which ids and subscriptions are refused, and how a subscription is replaced. The entries of a list
+-- are of any type that has an id.
 use Rattle.std.specs.Prelude.{◌≡◌, ◌<◌, ℕ, suc, List, [], ◌∷◌, ◌++◌, ◌==◌, nat_lt, if◌then◌else◌, Option, Some, None, find, length, take, drop, slice_index_or}
+use Rattle.std.specs.List.{AllByRecursion}
 use Rattle.feed_history.specs.declared.refusal.HubFault.{HubFault}
 use Rattle.feed_history.specs.declared.refusal.HubFault.TheVariants.{TooManySubs, IdOrder, NoSuchId}
 
@@ -33,6 +35,12 @@ in_place id_of id f (sub ∷ subs) = if id_of sub == id then f sub ++ subs else 
 -- an entry replaced by nothing
 abbrev pub ended : {S : Type 0} → S → List S
 ended sub = []
+
+-- each id is below those that follow it
+abbrev pub AscendBy : {S : Type 0} → (S → ℕ) → List S → Type 0
+AscendBy id_of [] = Unit {0}
+AscendBy id_of (sub ∷ subs) =
+    AllByRecursion (λ later. id_of sub < id_of later) subs × AscendBy id_of subs
 
 -- The entry under the id is at this index, and is replaced there.
 pub record StandsAt {S : Type 0} (id_of : S → ℕ) (id : ℕ) (subs : List S) (at : ℕ) : Type 0 where

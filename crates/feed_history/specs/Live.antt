@@ -1,7 +1,6 @@
 -- The last accepted row about an id decides which query is live under it. Live ids ascend, and the greatest accepted id is the greatest
 -- of the ids of all accepted subscriptions.
 use Rattle.std.specs.Prelude.{◌≡◌, ◌<◌, ℕ, ◌==◌, ◌&&◌, Bool, List, [], ◌∷◌, ◌++◌, Option, Some, None, Result, Ok, Err, if◌then◌else◌, is_some, max, option_and_then, option_map}
-use Rattle.std.specs.List.{AllByRecursion}
 use Rattle.view_types.specs.declared.query.Query.{Query}
 use Rattle.watch_events.specs.declared.line.Line.{Line}
 use Rattle.watch_events.specs.declared.line.Line.TheVariants as lines
@@ -9,7 +8,8 @@ use Rattle.watch_events.specs.declared.line.LineFault.{LineFault}
 use Rattle.feed_history.specs.Marks.{MarkedRow}
 use Rattle.feed_history.specs.Program.{Program, reading}
 use Rattle.feed_history.specs.declared.refusal.Refusal.{Refusal}
-use Rattle.feed_history.specs.History.{Asked, State, after, asked_at, refusal_after, too_long_for}
+use Rattle.feed_history.specs.History.{Asked, State, after, asked_at, id_of, refusal_after, too_long_for}
+use Rattle.feed_history.specs.Ids.{AscendBy}
 use Rattle.feed_history.specs.LookBack.{last_told}
 
 -- whether a drain of the id would meet a message that is too long
@@ -41,8 +41,7 @@ LastLineDecidesLive program = (past : List MarkedRow) (id : ℕ) → query_at id
 
 -- each id is below those that follow it
 abbrev pub Ascend : List Asked → Type 0
-Ascend [] = Unit {0}
-Ascend (sub ∷ subs) = AllByRecursion (λ (later : Asked). sub.id.0 < later.id.0) subs × Ascend subs
+Ascend subs = AscendBy id_of subs
 
 abbrev pub LiveIdsAscend : Program → Type 0
 LiveIdsAscend program = (past : List MarkedRow) → Ascend (after program past).subs

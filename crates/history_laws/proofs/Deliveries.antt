@@ -1,5 +1,5 @@
 -- What a live subscriber was sent folds to the view over what was held when it was last drained.
-use Rattle.std.proofs.Common.{◌≡◌, ◌≢◌, ◌⊎◌, ℕ, ◌+◌, ◌<◌, ◌≤◌, Bool, true, false, cond, eqb, List, [], ◌∷◌, ◌++◌, length, Option, Some, None, refl, sym, ap, subst, ◌∙◌, append-nil, arith, inl, inr}
+use Rattle.std.proofs.Common.{◌≡◌, ◌≢◌, ◌⊎◌, ℕ, ◌+◌, ◌≤◌, Bool, true, false, cond, eqb, List, [], ◌∷◌, ◌++◌, length, Option, Some, None, refl, sym, ap, subst, ◌∙◌, append-nil, inl, inr}
 use Rattle.std.specs.Prelude.{Result, Ok, Err, ◌==◌, if◌then◌else◌, option_map}
 use Rattle.std.specs.FinMap.{same_map}
 use Rattle.std.proofs.lemmas.Bool.Decides.{eqb_tells}
@@ -26,8 +26,10 @@ use Rattle.feed_history.specs.LastDrain.{last_drain}
 use Rattle.feed_history.specs.Lawful.{HeldAtKeys}
 use Rattle.feed_history.specs.LookBack.{last_told}
 use Rattle.history_laws.proofs.LastDrain.{told_at_last_drain}
-use Rattle.history_laws.proofs.Lives.{IsAbove, IsOrdered, above_last, below, ordered}
-use Rattle.history_laws.proofs.Places.{ended_keeps, found_in_place, found_with, gone, none_found, others_below, same_id, then_at, told_keeps, was_drained}
+use Rattle.feed_history.proofs.AscendingIds.{IsAbove, found_new, none_above, still_above}
+use Rattle.feed_history.proofs.EntriesById.{ended_keeps, found_in_place, gone, same_id, then_at}
+use Rattle.history_laws.proofs.Lives.{IsOrdered, above_last, ordered}
+use Rattle.history_laws.proofs.Told.{told_keeps, was_told}
 
 folded_more : (view : Option View) (xs ys : List Message) → folded_onto view (xs ++ ys) ≡ folded_onto (folded_onto view xs) ys
 folded_more view [] ys = refl
@@ -80,14 +82,10 @@ module _ (program : Program) (at_keys : HeldAtKeys program) (folds : MessagesFol
   module _ (now : State) (keys : StandsAtKeys now) (id : ℕ) (sent : List Message) (ordered : IsOrdered now) (so_far : IsShown now id sent) where
     subscribed_shown : (new : Asked) → new.told ≡ None → IsAbove now.last new.id.0 → IsShown (record { objects = now.objects; subs = now.subs ++ new ∷ []; last = Some new.id.0 }) id sent
     subscribed_shown new untold above = record {
-      shown = λ asked found. by_id asked (eqb_tells new.id.0 id) (sym (found_with id now.subs new (below now new.id.0 ordered above)) ∙ found);
-      unsent = λ lt. so_far.unsent (over now.last above lt);
+      shown = λ asked found. by_id asked (eqb_tells new.id.0 id) (sym (found_new id_of now.last now.subs ordered id new above) ∙ found);
+      unsent = λ lt. so_far.unsent (still_above now.last new.id.0 id above lt);
     }
       where
-        over : (last : Option ℕ) → IsAbove last new.id.0 → new.id.0 < id → IsAbove last id
-        over None above lt = tt
-        over (Some last) above lt = omega (arith, above, lt)
-
         new_shown : (asked : Asked) → new.id.0 ≡ id → new ≡ asked → fold sent ≡ view_before program.config asked.query asked.told
         new_shown asked is same =
             ap fold (so_far.unsent (subst (IsAbove now.last) is above)) ∙ ap (view_before program.config asked.query) (sym untold ∙ ap (λ (one : Asked). one.told) same)
@@ -99,7 +97,7 @@ module _ (program : Program) (at_keys : HeldAtKeys program) (folds : MessagesFol
 
     cancelled_shown : (cancelled : ℕ) → IsShown (record now { subs = in_place id_of cancelled ended now.subs }) id sent
     cancelled_shown cancelled = record {
-      shown = λ asked found. by_id asked (eqb cancelled id) (sym (found_in_place id cancelled ended ended_keeps now.subs ordered.ascend) ∙ found);
+      shown = λ asked found. by_id asked (eqb cancelled id) (sym (found_in_place id_of id cancelled ended (ended_keeps id_of) now.subs ordered.ascend) ∙ found);
       unsent = so_far.unsent;
     }
       where
@@ -109,22 +107,22 @@ module _ (program : Program) (at_keys : HeldAtKeys program) (folds : MessagesFol
 
     drained_shown : (drained : ℕ) → IsShown (record now { subs = in_place id_of drained (told_now program now.objects) now.subs }) id (sent ++ (if drained == id then sent_now program now id else []))
     drained_shown drained = record {
-      shown = λ asked found. by_id asked (eqb drained id) (sym (found_in_place id drained (told_now program now.objects) (told_keeps program now.objects) now.subs ordered.ascend) ∙ found);
+      shown = λ asked found. by_id asked (eqb drained id) (sym (found_in_place id_of id drained (told_now program now.objects) (told_keeps program now.objects) now.subs ordered.ascend) ∙ found);
       unsent = λ lt. ap (λ (before : List Message). before ++ (if drained == id then sent_now program now id else [])) (so_far.unsent lt) ∙ none_sent (eqb drained id) lt;
     }
       where
         -- nothing is live under an id above the greatest accepted one
         none_sent : (b : Bool) → IsAbove now.last id → cond b (sent_now program now id) [] ≡ []
-        none_sent true lt = ap (sent_if_live program now.objects) (none_found id now.subs (others_below id now.subs (below now id ordered lt)))
+        none_sent true lt = ap (sent_if_live program now.objects) (none_above id_of now.last now.subs ordered id lt)
         none_sent false lt = refl
 
         by_id : (asked : Asked) (b : Bool) → cond b (then_at (told_now program now.objects) (asked_at id now.subs)) (asked_at id now.subs) ≡ Some asked
             → fold (sent ++ cond b (sent_now program now id) []) ≡ view_before program.config asked.query asked.told
         by_id asked true is =
-            let drain = was_drained program now.objects (asked_at id now.subs) asked is in
-            ap (λ (more : List Message). fold (sent ++ more)) (sends program now id drain.asked drain.there drain.short)
-            ∙ sees_now now.objects drain.asked sent (keys.told id drain.asked drain.there) keys.held (so_far.shown drain.asked drain.there)
-            ∙ ap (λ (one : Asked). view_before program.config one.query one.told) (sym drain.becomes)
+            let drain = was_told program now.objects (asked_at id now.subs) asked is in
+            ap (λ (more : List Message). fold (sent ++ more)) (sends program now id drain.sub drain.there drain.short)
+            ∙ sees_now now.objects drain.sub sent (keys.told id drain.sub drain.there) keys.held (so_far.shown drain.sub drain.there)
+            ∙ ap (λ (one : Asked). view_before program.config one.query one.told) (sym drain.left_is)
         by_id asked false is = ap fold (append-nil sent) ∙ so_far.shown asked is
 
   shown_step : (now : State) → StandsAtKeys now → (met : Option SimFault) (line : Result Line LineFault) (refusal : Option Refusal) (id : ℕ) (sent : List Message) → refusal_of program now met line ≡ refusal → IsOrdered now → IsShown now id sent

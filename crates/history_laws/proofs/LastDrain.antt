@@ -13,8 +13,10 @@ use Rattle.feed_history.specs.LookBack.{last_told}
 use Rattle.feed_history.specs.Marks.{MarkedRow}
 use Rattle.feed_history.specs.Program.{Program, reading}
 use Rattle.feed_history.specs.LastDrain.{LastDrainDecidesShown, drain_in, last_drain}
-use Rattle.history_laws.proofs.Lives.{IsAbove, IsOrdered, above_last, below, ordered}
-use Rattle.history_laws.proofs.Places.{ended_keeps, found_in_place, found_with, gone, then_at, told_keeps, was_drained}
+use Rattle.feed_history.proofs.AscendingIds.{IsAbove, found_new}
+use Rattle.feed_history.proofs.EntriesById.{ended_keeps, found_in_place, gone, then_at}
+use Rattle.history_laws.proofs.Lives.{IsOrdered, above_last, ordered}
+use Rattle.history_laws.proofs.Told.{told_keeps, was_told}
 
 -- what was held at a drain
 abbrev held_at_drain : Program → Option (List MarkedRow) → Option ObjectMap
@@ -26,14 +28,14 @@ IsToldAt program subs id last = (asked : Asked) → asked_at id subs ≡ Some as
 
 module _ (program : Program) (now : State) (id : ℕ) (last : Option (List MarkedRow)) (ordered : IsOrdered now) (so_far : IsToldAt program now.subs id last) where
   subscribed_told : (new : Asked) → new.told ≡ None → IsAbove now.last new.id.0 → IsToldAt program (now.subs ++ new ∷ []) id (last_told None (if new.id.0 == id then Some None else None) last)
-  subscribed_told new untold above asked found = by_id (eqb new.id.0 id) (sym (found_with id now.subs new (below now new.id.0 ordered above)) ∙ found)
+  subscribed_told new untold above asked found = by_id (eqb new.id.0 id) (sym (found_new id_of now.last now.subs ordered id new above) ∙ found)
     where
       by_id : (b : Bool) → cond b (Some new) (asked_at id now.subs) ≡ Some asked → asked.told ≡ held_at_drain program (last_told None (cond b (Some None) None) last)
       by_id true is = let same : new ≡ asked = cc is in ap (λ (one : Asked). one.told) (sym same) ∙ untold
       by_id false is = so_far asked is
 
   cancelled_told : (cancelled : ℕ) → IsToldAt program (in_place id_of cancelled ended now.subs) id last
-  cancelled_told cancelled asked found = by_id (eqb cancelled id) (sym (found_in_place id cancelled ended ended_keeps now.subs ordered.ascend) ∙ found)
+  cancelled_told cancelled asked found = by_id (eqb cancelled id) (sym (found_in_place id_of id cancelled ended (ended_keeps id_of) now.subs ordered.ascend) ∙ found)
     where
       by_id : (b : Bool) → cond b (then_at ended (asked_at id now.subs)) (asked_at id now.subs) ≡ Some asked → asked.told ≡ held_at_drain program last
       by_id true is = absurd (gone (asked_at id now.subs) asked is)
@@ -41,11 +43,11 @@ module _ (program : Program) (now : State) (id : ℕ) (last : Option (List Marke
 
   drained_told : (rows : List MarkedRow) (drained : ℕ) → (after program rows).objects ≡ now.objects
       → IsToldAt program (in_place id_of drained (told_now program now.objects) now.subs) id (last_told None (if drained == id then Some (Some rows) else None) last)
-  drained_told rows drained here asked found = by_id (eqb drained id) (sym (found_in_place id drained (told_now program now.objects) (told_keeps program now.objects) now.subs ordered.ascend) ∙ found)
+  drained_told rows drained here asked found = by_id (eqb drained id) (sym (found_in_place id_of id drained (told_now program now.objects) (told_keeps program now.objects) now.subs ordered.ascend) ∙ found)
     where
       by_id : (b : Bool) → cond b (then_at (told_now program now.objects) (asked_at id now.subs)) (asked_at id now.subs) ≡ Some asked
           → asked.told ≡ held_at_drain program (last_told None (cond b (Some (Some rows)) None) last)
-      by_id true is = let drain = was_drained program now.objects (asked_at id now.subs) asked is in ap (λ (one : Asked). one.told) drain.becomes ∙ ap Some (sym here)
+      by_id true is = let drain = was_told program now.objects (asked_at id now.subs) asked is in ap (λ (one : Asked). one.told) drain.left_is ∙ ap Some (sym here)
       by_id false is = so_far asked is
 
 told_step : (program : Program) (now : State) (met : Option SimFault) (line : Result Line LineFault) (refusal : Option Refusal) (rows : List MarkedRow) (id : ℕ) (last : Option (List MarkedRow)) → refusal_of program now met line ≡ refusal

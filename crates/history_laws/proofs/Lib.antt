@@ -4,7 +4,6 @@ pub mod Held
 pub mod LastDrain
 pub mod Lives
 mod Ordered
-pub mod Places
 pub mod Sendable
 mod SendableAuthz
 mod SendableInbound
@@ -14,3 +13,4 @@ mod SendableRoutes
 mod SendableRows
 pub mod Simulating
 pub mod Telling
+pub mod Told

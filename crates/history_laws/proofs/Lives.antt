@@ -1,8 +1,6 @@
 -- Live ids ascend up to the greatest accepted one, and the last accepted row that speaks of an id tells its query.
-use Rattle.std.proofs.Common.{◌≡◌, ℕ, ◌<◌, ◌≤◌, Bool, true, false, cond, eqb, List, [], ◌∷◌, ◌++◌, Option, Some, None, refl, sym, ap, ◌∙◌, subst, arith}
-use Rattle.std.specs.Prelude.{Result, Ok, Err, is_some, length, nat_lt, ◌==◌, ◌&&◌, option_and_then, option_map, if◌then◌else◌}
-use Rattle.std.specs.List.{AllByRecursion}
-use Rattle.std.proofs.lemmas.Bool.{ltb-true}
+use Rattle.std.proofs.Common.{◌≡◌, ℕ, Bool, true, false, cond, eqb, List, [], ◌∷◌, ◌++◌, Option, Some, None, refl, sym, ap, ◌∙◌, subst, arith}
+use Rattle.std.specs.Prelude.{Result, Ok, Err, is_some, length, ◌==◌, ◌&&◌, option_and_then, option_map, if◌then◌else◌}
 use Rattle.view_types.specs.declared.query.Query.{Query}
 use Rattle.watch_events.specs.declared.line.Line.{Line}
 use Rattle.watch_events.specs.declared.line.Line.TheVariants as lines
@@ -10,41 +8,24 @@ use Rattle.watch_events.specs.declared.line.LineFault.{LineFault}
 use Rattle.mesh_base.specs.declared.sub_id.SubId.{SubId}
 use Rattle.request_sim.specs.declared.fault.SimFault.{SimFault}
 use Rattle.feed_history.specs.declared.refusal.HubFault.{HubFault}
-use Rattle.feed_history.specs.declared.refusal.HubFault.TheVariants.{IdOrder}
 use Rattle.feed_history.specs.declared.refusal.Refusal.{Refusal}
 use Rattle.feed_history.specs.declared.refusal.Refusal.TheVariants as refusals
 use Rattle.feed_history.specs.Drains.{unless_too_long}
 use Rattle.feed_history.specs.History.{Asked, State, after, after_line, asked_at, hub_refusal, id_of, refusal_after, refusal_of, told_now, too_long_for}
-use Rattle.feed_history.specs.Ids.{ended, in_place, room_refusal, subscribe_refusal, unless_refused}
-use Rattle.feed_history.specs.Live.{Ascend, LastIsGreatest, LastLineDecidesLive, LiveIdsAscend, accepted_ids, asked_by, greatest, id_accepted, max_with, meets_too_long, query_at}
+use Rattle.feed_history.specs.Ids.{ended, in_place, unless_refused}
+use Rattle.feed_history.specs.Live.{LastIsGreatest, LastLineDecidesLive, LiveIdsAscend, accepted_ids, asked_by, greatest, id_accepted, max_with, meets_too_long, query_at}
 use Rattle.feed_history.specs.LookBack.{last_told}
 use Rattle.feed_history.specs.Marks.{MarkedRow}
 use Rattle.feed_history.specs.Program.{Program, reading}
-use Rattle.feed_history.proofs.Lists.{all_joined, all_weaker}
-use Rattle.history_laws.proofs.Places.{KeepsIds, all_in_place, ascend_in_place, ended_keeps, first_of, found_in_place, found_with, then_at, told_keeps}
+use Rattle.feed_history.proofs.AscendingIds.{AreOrdered, IsAbove, accepted_is_above, found_new, none_ordered, ordered_in_place, ordered_more}
+use Rattle.feed_history.proofs.EntriesById.{ended_keeps, first_of, found_in_place, then_at}
+use Rattle.history_laws.proofs.Told.{told_keeps}
 
 -- ---- an accepted id is above those before it
 
-abbrev pub IsAbove : Option ℕ → ℕ → Type 0
-IsAbove None id = Unit {0}
-IsAbove (Some last) id = last < id
-
--- the ids are at most the greatest accepted one
-abbrev AreWithin : Option ℕ → List Asked → Type 0
-AreWithin None subs = subs ≡ []
-AreWithin (Some last) subs = AllByRecursion (λ (asked : Asked). asked.id.0 ≤ last) subs
-
-pub record IsOrdered (now : State) : Type 0 where
-  pub ascend : Ascend now.subs
-  pub within : AreWithin now.last now.subs
-
-above : (limit : ℕ) (last : Option ℕ) (live id : ℕ) → subscribe_refusal limit last live id ≡ None → IsAbove last id
-above limit None live id is = tt
-above limit (Some last) live id is = cases (nat_lt last id) refl is
-  where
-    cases : (b : Bool) → nat_lt last id ≡ b → (if b then room_refusal limit live else Some (IdOrder last)) ≡ None → last < id
-    cases true lt is = ltb-true last id lt
-    cases false lt is = absurd cc
+-- the ids of the live subscriptions ascend, up to the greatest accepted one
+abbrev pub IsOrdered : State → Type 0
+IsOrdered now = AreOrdered id_of now.last now.subs
 
 -- a line that is accepted is refused by none of its causes
 not_refused : (placed : Bool) (fault : Option HubFault) → (if placed then option_map refusals.Hub fault else Some refusals.NotHere) ≡ None → fault ≡ None
@@ -55,37 +36,9 @@ not_refused false fault is = absurd cc
 -- an accepted subscription's id is above the greatest accepted one
 pub above_last : (program : Program) (now : State) (met : Option SimFault) (id : SubId) (query : Query) → refusal_of program now met (Ok (lines.Subscribe id query)) ≡ None → IsAbove now.last id.0
 above_last program now met id query is =
-    above program.limits.subs now.last (length now.subs) id.0 (not_refused (program.has_place (lines.Subscribe id query)) (hub_refusal program now (lines.Subscribe id query)) is)
-
--- an id above the greatest accepted one is above all that live
-pub below : (now : State) (id : ℕ) → IsOrdered now → IsAbove now.last id → AllByRecursion (λ (asked : Asked). asked.id.0 < id) now.subs
-below now id ordered lt = by_last now.last ordered.within lt
-  where
-    by_last : (last : Option ℕ) → AreWithin last now.subs → IsAbove last id → AllByRecursion (λ (asked : Asked). asked.id.0 < id) now.subs
-    by_last None none lt = subst (AllByRecursion (λ (asked : Asked). asked.id.0 < id)) (sym none) tt
-    by_last (Some last) within lt = all_weaker (λ (asked : Asked). asked.id.0 ≤ last) (λ (asked : Asked). asked.id.0 < id) (λ asked le. omega (arith, le, lt)) now.subs within
+    accepted_is_above program.limits.subs now.last (length now.subs) id.0 (not_refused (program.has_place (lines.Subscribe id query)) (hub_refusal program now (lines.Subscribe id query)) is)
 
 -- ---- what rows keep
-
-ascend_more : (subs : List Asked) (asked : Asked) → Ascend subs → AllByRecursion (λ (earlier : Asked). earlier.id.0 < asked.id.0) subs → Ascend (subs ++ asked ∷ [])
-ascend_more [] asked ascend lower = (tt, tt)
-ascend_more (first ∷ subs) asked ascend lower =
-    (all_joined (λ (later : Asked). first.id.0 < later.id.0) subs (asked ∷ []) ascend.0 (lower.0, tt), ascend_more subs asked ascend.1 lower.1)
-
-ordered_more : (now : State) (asked : Asked) → IsOrdered now → IsAbove now.last asked.id.0 → IsOrdered (record { objects = now.objects; subs = now.subs ++ asked ∷ []; last = Some asked.id.0 })
-ordered_more now asked ordered lt =
-    let lower = below now asked.id.0 ordered lt in record {
-      ascend = ascend_more now.subs asked ordered.ascend lower;
-      within = all_joined (λ (other : Asked). other.id.0 ≤ asked.id.0) now.subs (asked ∷ [])
-          (all_weaker (λ (other : Asked). other.id.0 < asked.id.0) (λ (other : Asked). other.id.0 ≤ asked.id.0) (λ other h. omega (arith, h)) now.subs lower) (omega arith, tt);
-    }
-
-ordered_in_place : (now : State) (id : ℕ) (f : Asked → List Asked) → KeepsIds f → IsOrdered now → IsOrdered (record now { subs = in_place id_of id f now.subs })
-ordered_in_place now id f keeps ordered = record { ascend = ascend_in_place id f keeps now.subs ordered.ascend; within = by_last now.last ordered.within }
-  where
-    by_last : (last : Option ℕ) → AreWithin last now.subs → AreWithin last (in_place id_of id f now.subs)
-    by_last None none = ap (in_place id_of id f) none
-    by_last (Some last) within = all_in_place id f keeps (λ n. n ≤ last) now.subs within
 
 ordered_step : (program : Program) (now : State) (met : Option SimFault) (line : Result Line LineFault) (refusal : Option Refusal) → refusal_of program now met line ≡ refusal → IsOrdered now
     → IsOrdered (unless_refused refusal now (after_line program now line))
@@ -94,13 +47,13 @@ ordered_step program now met (Err fault) None is ordered = ordered
 ordered_step program now met (Ok lines.Blank) None is ordered = ordered
 ordered_step program now met (Ok (lines.Simulate request)) None is ordered = ordered
 ordered_step program now met (Ok lines.Stop) None is ordered = ordered
-ordered_step program now met (Ok (lines.Event event)) None is ordered = record { ascend = ordered.ascend; within = ordered.within }
-ordered_step program now met (Ok (lines.Subscribe id query)) None is ordered = ordered_more now (record { id = id; query = query; told = None }) ordered (above_last program now met id query is)
-ordered_step program now met (Ok (lines.Cancel id)) None is ordered = ordered_in_place now id.0 ended ended_keeps ordered
-ordered_step program now met (Ok (lines.Drain id)) None is ordered = ordered_in_place now id.0 (told_now program now.objects) (told_keeps program now.objects) ordered
+ordered_step program now met (Ok (lines.Event event)) None is ordered = ordered
+ordered_step program now met (Ok (lines.Subscribe id query)) None is ordered = ordered_more id_of now.last now.subs ordered (record { id = id; query = query; told = None }) (above_last program now met id query is)
+ordered_step program now met (Ok (lines.Cancel id)) None is ordered = ordered_in_place id_of now.last now.subs ordered id.0 ended (ended_keeps id_of)
+ordered_step program now met (Ok (lines.Drain id)) None is ordered = ordered_in_place id_of now.last now.subs ordered id.0 (told_now program now.objects) (told_keeps program now.objects)
 
 pub ordered : (program : Program) (past : List MarkedRow) → IsOrdered (after program past)
-ordered program [] = record { ascend = tt; within = refl }
+ordered program [] = none_ordered id_of
 ordered program (row ∷ past) = ordered_step program (after program past) row.1 (reading program row) (refusal_after program past row) refl (ordered program past)
 
 pub live_ids_ascend : (program : Program) → LiveIdsAscend program
@@ -113,14 +66,14 @@ query_of found = option_map (λ asked. asked.query) found
 
 subscribed_query : (now : State) (asked : Asked) (id : ℕ) → IsOrdered now → IsAbove now.last asked.id.0
     → query_at id (now.subs ++ asked ∷ []) ≡ last_told None (if asked.id.0 == id then Some (Some asked.query) else None) (query_at id now.subs)
-subscribed_query now asked id ordered lt = ap query_of (found_with id now.subs asked (below now asked.id.0 ordered lt)) ∙ by_id (eqb asked.id.0 id) (asked_at id now.subs)
+subscribed_query now asked id ordered lt = ap query_of (found_new id_of now.last now.subs ordered id asked lt) ∙ by_id (eqb asked.id.0 id) (asked_at id now.subs)
   where
     by_id : (b : Bool) (found : Option Asked) → query_of (cond b (Some asked) found) ≡ last_told None (cond b (Some (Some asked.query)) None) (query_of found)
     by_id true found = refl
     by_id false found = refl
 
 cancelled_query : (now : State) (cancelled id : ℕ) → IsOrdered now → query_at id (in_place id_of cancelled ended now.subs) ≡ last_told None (if cancelled == id then Some None else None) (query_at id now.subs)
-cancelled_query now cancelled id ordered = ap query_of (found_in_place id cancelled ended ended_keeps now.subs ordered.ascend) ∙ by_id (eqb cancelled id) (asked_at id now.subs)
+cancelled_query now cancelled id ordered = ap query_of (found_in_place id_of id cancelled ended (ended_keeps id_of) now.subs ordered.ascend) ∙ by_id (eqb cancelled id) (asked_at id now.subs)
   where
     by_id : (b : Bool) (found : Option Asked) → query_of (cond b (then_at ended found) found) ≡ last_told None (cond b (Some None) None) (query_of found)
     by_id true None = refl
@@ -130,7 +83,7 @@ cancelled_query now cancelled id ordered = ap query_of (found_in_place id cancel
 drained_query : (program : Program) (now : State) (drained id : ℕ) → IsOrdered now
     → query_at id (in_place id_of drained (told_now program now.objects) now.subs) ≡ last_told None (if (drained == id) && meets_too_long program now id then Some None else None) (query_at id now.subs)
 drained_query program now drained id ordered =
-    ap query_of (found_in_place id drained (told_now program now.objects) (told_keeps program now.objects) now.subs ordered.ascend) ∙ by_id (eqb drained id) (asked_at id now.subs)
+    ap query_of (found_in_place id_of id drained (told_now program now.objects) (told_keeps program now.objects) now.subs ordered.ascend) ∙ by_id (eqb drained id) (asked_at id now.subs)
   where
     by_length : (asked : Asked) (bytes : Option ℕ) → query_of (first_of (unless_too_long bytes (record asked { told = Some now.objects }))) ≡ last_told None (cond (is_some bytes) (Some None) None) (Some asked.query)
     by_length asked None = refl

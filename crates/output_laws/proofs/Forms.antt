@@ -6,7 +6,7 @@ use Rattle.mesh_base.specs.Pieces.{pieces}
 use Rattle.mesh_base.proofs.Cuts.{pieces_some}
 use Rattle.line_run.specs.Rows.{NoBreak}
 use Rattle.hex.specs.Hex.{encode_lower}
-use Rattle.history_laws.proofs.Places.{same_id}
+use Rattle.feed_history.proofs.EntriesById.{same_id}
 use Rattle.view_types.specs.declared.query.Method.{Method}
 use Rattle.output_fold.specs.Lines.{Hex, frame_words, hex_in, hex_of, row_says, told_by, ◌>>=◌}
 use Rattle.output_laws.proofs.Decimals.{decimal_begins, decimal_is_number, decimal_is_number_of, decimal_without}

@@ -29,13 +29,14 @@ use Rattle.watch_events.specs.declared.event_type.EventType.TheVariants.{Added, 
 use Rattle.watch_events.specs.declared.line.Line.{Line}
 use Rattle.watch_events.specs.declared.line.Line.TheVariants as lines
 use Rattle.watch_events.specs.declared.line.LineFault.{LineFault}
-use Rattle.feed_history.specs.History.{Asked, State, after, after_line, refusal_after, told_now}
+use Rattle.feed_history.specs.History.{Asked, State, after, after_line, id_of, refusal_after, told_now}
 use Rattle.feed_history.specs.Ids.{ended, unless_refused}
 use Rattle.feed_history.specs.Marks.{MarkedRow}
 use Rattle.feed_history.specs.Program.{Program, reading, replay_of}
 use Rattle.feed_history.specs.declared.refusal.Refusal.{Refusal}
 use Rattle.feed_history.proofs.Lists.{all_joined}
-use Rattle.history_laws.proofs.Places.{all_in_place, ended_keeps, told_keeps}
+use Rattle.feed_history.proofs.EntriesById.{all_in_place, ended_keeps}
+use Rattle.history_laws.proofs.Told.{told_keeps}
 use Rattle.output_laws.proofs.Written.{HasSmallIds}
 
 -- ---- lines
@@ -167,8 +168,8 @@ module _ (program : Program) (small : (row : MarkedRow) → Small (reading progr
   ids_step now (Ok (lines.Event event)) None here so_far = so_far
   ids_step now (Ok (lines.Subscribe id query)) None here so_far =
       all_joined (λ (asked : Asked). asked.id.0 < 2 ^ 64) now.subs (record { id = id; query = query; told = None } ∷ []) so_far (here (lines.Subscribe id query) refl, tt)
-  ids_step now (Ok (lines.Cancel id)) None here so_far = all_in_place id.0 ended ended_keeps (λ n. n < 2 ^ 64) now.subs so_far
-  ids_step now (Ok (lines.Drain id)) None here so_far = all_in_place id.0 (told_now program now.objects) (told_keeps program now.objects) (λ n. n < 2 ^ 64) now.subs so_far
+  ids_step now (Ok (lines.Cancel id)) None here so_far = all_in_place id_of id.0 ended (ended_keeps id_of) (λ n. n < 2 ^ 64) now.subs so_far
+  ids_step now (Ok (lines.Drain id)) None here so_far = all_in_place id_of id.0 (told_now program now.objects) (told_keeps program now.objects) (λ n. n < 2 ^ 64) now.subs so_far
 
   ids_small : (past : List MarkedRow) → HasSmallIds (after program past).subs
   ids_small [] = tt

@@ -1,5 +1,5 @@
 -- What holds of all that the subscriber of an id was sent.
-use Rattle.std.proofs.Common.{◌≡◌, ℕ, ◌<◌, ◌≤◌, ◌⊎◌, ◌≢◌, Bool, true, false, cond, eqb, List, [], ◌∷◌, ◌++◌, length, map, Option, Some, None, Ok, Err, refl, sym, ap, ◌∙◌, subst, arith, append-nil, inl, inr}
+use Rattle.std.proofs.Common.{◌≡◌, ℕ, ◌≤◌, ◌⊎◌, ◌≢◌, Bool, true, false, cond, eqb, List, [], ◌∷◌, ◌++◌, length, map, Option, Some, None, Ok, Err, refl, sym, ap, ◌∙◌, subst, append-nil, inl, inr}
 use Rattle.std.specs.Prelude.{◌==◌, nat_lt, Result, if◌then◌else◌}
 use Rattle.std.specs.List.{AllByRecursion}
 use Rattle.std.proofs.lemmas.Bool.{ltb-false}
@@ -41,8 +41,10 @@ use Rattle.feed_history.specs.Program.{Program, reading}
 use Rattle.feed_history.specs.Deliveries.{sent_by, sent_if_live, sent_in_all, sent_now, sent_to, sent_unless}
 use Rattle.feed_history.specs.declared.refusal.Refusal.{Refusal}
 use Rattle.feed_history.proofs.Lists.{all_if, all_joined, all_made}
-use Rattle.history_laws.proofs.Lives.{IsAbove, IsOrdered, above_last, below, ordered}
-use Rattle.history_laws.proofs.Places.{ended_keeps, found_in_place, found_with, gone, none_found, others_below, then_at, told_keeps, was_drained}
+use Rattle.feed_history.proofs.AscendingIds.{IsAbove, found_new, none_above, still_above}
+use Rattle.feed_history.proofs.EntriesById.{ended_keeps, found_in_place, gone, then_at}
+use Rattle.history_laws.proofs.Lives.{IsOrdered, above_last, ordered}
+use Rattle.history_laws.proofs.Told.{told_keeps, was_told}
 use Rattle.output_laws.specs.Agreement.{method_for}
 
 pub all_parts : {X : Type 0} (P : X → Type 0) (xs ys : List X) → AllByRecursion P (xs ++ ys) → AllByRecursion P xs × AllByRecursion P ys
@@ -158,14 +160,10 @@ module _ (program : Program) where
   module _ (now : State) (id : ℕ) (sent : List Message) (in_order : IsOrdered now) (so_far : IsAnswered now id sent) where
     subscribed : (new : Asked) → IsAbove now.last new.id.0 → IsAnswered (record { objects = now.objects; subs = now.subs ++ new ∷ []; last = Some new.id.0 }) id sent
     subscribed new above = record {
-      answers = λ asked found. by_id asked (eqb_tells new.id.0 id) (sym (found_with id now.subs new (below now new.id.0 in_order above)) ∙ found);
-      unsent = λ lt. so_far.unsent (over now.last above lt);
+      answers = λ asked found. by_id asked (eqb_tells new.id.0 id) (sym (found_new id_of now.last now.subs in_order id new above) ∙ found);
+      unsent = λ lt. so_far.unsent (still_above now.last new.id.0 id above lt);
     }
       where
-        over : (last : Option ℕ) → IsAbove last new.id.0 → new.id.0 < id → IsAbove last id
-        over None above lt = tt
-        over (Some last) above lt = omega (arith, above, lt)
-
         by_id : (asked : Asked) → ((eqb new.id.0 id ≡ true) × (new.id.0 ≡ id)) ⊎ ((eqb new.id.0 id ≡ false) × (new.id.0 ≢ id)) → cond (eqb new.id.0 id) (Some new) (asked_at id now.subs) ≡ Some asked
             → AllByRecursion (Answers asked.query) sent
         by_id asked (inl same) is = subst (AllByRecursion (Answers asked.query)) (sym (so_far.unsent (subst (IsAbove now.last) same.1 above))) tt
@@ -173,7 +171,7 @@ module _ (program : Program) where
 
     cancelled : (gone_id : ℕ) → IsAnswered (record now { subs = in_place id_of gone_id ended now.subs }) id sent
     cancelled gone_id = record {
-      answers = λ asked found. by_id asked (eqb gone_id id) (sym (found_in_place id gone_id ended ended_keeps now.subs in_order.ascend) ∙ found);
+      answers = λ asked found. by_id asked (eqb gone_id id) (sym (found_in_place id_of id gone_id ended (ended_keeps id_of) now.subs in_order.ascend) ∙ found);
       unsent = so_far.unsent;
     }
       where
@@ -183,20 +181,20 @@ module _ (program : Program) where
 
     drained : (from : ℕ) → IsAnswered (record now { subs = in_place id_of from (told_now program now.objects) now.subs }) id (sent ++ (if from == id then sent_now program now id else []))
     drained from = record {
-      answers = λ asked found. by_id asked (eqb from id) (sym (found_in_place id from (told_now program now.objects) (told_keeps program now.objects) now.subs in_order.ascend) ∙ found);
+      answers = λ asked found. by_id asked (eqb from id) (sym (found_in_place id_of id from (told_now program now.objects) (told_keeps program now.objects) now.subs in_order.ascend) ∙ found);
       unsent = λ lt. ap (λ (before : List Message). before ++ (if from == id then sent_now program now id else [])) (so_far.unsent lt) ∙ none_sent (eqb from id) lt;
     }
       where
         none_sent : (b : Bool) → IsAbove now.last id → cond b (sent_now program now id) [] ≡ []
-        none_sent true lt = ap (sent_if_live program now.objects) (none_found id now.subs (others_below id now.subs (below now id in_order lt)))
+        none_sent true lt = ap (sent_if_live program now.objects) (none_above id_of now.last now.subs in_order id lt)
         none_sent false lt = refl
 
         by_id : (asked : Asked) (b : Bool) → cond b (then_at (told_now program now.objects) (asked_at id now.subs)) (asked_at id now.subs) ≡ Some asked
             → AllByRecursion (Answers asked.query) (sent ++ cond b (sent_now program now id) [])
         by_id asked true is =
-            let drain = was_drained program now.objects (asked_at id now.subs) asked is in
-            subst (λ (one : Asked). AllByRecursion (Answers one.query) (sent ++ sent_now program now id)) (sym drain.becomes)
-            (all_joined (Answers drain.asked.query) sent (sent_now program now id) (so_far.answers drain.asked drain.there) (sent_answers now id drain.asked drain.there))
+            let drain = was_told program now.objects (asked_at id now.subs) asked is in
+            subst (λ (one : Asked). AllByRecursion (Answers one.query) (sent ++ sent_now program now id)) (sym drain.left_is)
+            (all_joined (Answers drain.sub.query) sent (sent_now program now id) (so_far.answers drain.sub drain.there) (sent_answers now id drain.sub drain.there))
         by_id asked false is = subst (AllByRecursion (Answers asked.query)) (sym (append-nil sent)) (so_far.answers asked is)
 
   step : (now : State) (met : Option SimFault) (line : Result Line LineFault) (refusal : Option Refusal) (id : ℕ) (sent : List Message) → refusal_of program now met line ≡ refusal → IsOrdered now → IsAnswered now id sent

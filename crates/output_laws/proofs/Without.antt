@@ -8,7 +8,7 @@ use Rattle.hex.specs.Hex.{encode_with, encode_lower, lower_digits}
 use Rattle.line_run.specs.Rows.{NoBreak}
 use Rattle.mesh_base.specs.Pieces.{pieces}
 use Rattle.feed_history.proofs.Lists.{all_joined}
-use Rattle.history_laws.proofs.Places.{same_id}
+use Rattle.feed_history.proofs.EntriesById.{same_id}
 
 -- no byte is the mark
 abbrev pub Without : ℕ → List ℕ → Type 0

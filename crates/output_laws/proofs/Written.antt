@@ -1,7 +1,6 @@
 -- The pieces of an output tell who reads the frames of an id the messages that it was sent.
 use Rattle.std.proofs.lemmas.Bool.{eqb-true}
-use Rattle.std.proofs.lemmas.Bool.Decides.{eqb_tells}
-use Rattle.std.proofs.Common.{◌≡◌, ◌≢◌, inl, inr, ℕ, ◌+◌, ◌<◌, ◌^◌, Bool, true, false, cond, eqb, List, [], ◌∷◌, ◌++◌, length, Option, Some, None, Ok, Err, refl, sym, ap, ◌∙◌, subst, arith, append-nil}
+use Rattle.std.proofs.Common.{◌≡◌, ℕ, ◌+◌, ◌<◌, ◌^◌, Bool, true, false, cond, eqb, List, [], ◌∷◌, ◌++◌, length, Option, Some, None, Ok, Err, refl, sym, ap, ◌∙◌, subst, arith, append-nil}
 use Rattle.std.specs.Prelude.{◌==◌, IfSome, codes, flat_map, Result, if◌then◌else◌}
 use Rattle.std.specs.Fmt.{decimal}
 use Rattle.std.specs.List.{AllByRecursion}
@@ -17,7 +16,7 @@ use Rattle.watch_events.specs.declared.line.Line.{Line}
 use Rattle.watch_events.specs.declared.line.Line.TheVariants as lines
 use Rattle.watch_events.specs.declared.line.LineFault.{LineFault}
 use Rattle.feed_history.specs.MarkCauses.{AreFair}
-use Rattle.feed_history.specs.History.{Asked, State, after, asked_at, messages_due, refusal_after, too_long_for}
+use Rattle.feed_history.specs.History.{Asked, State, after, asked_at, id_of, messages_due, refusal_after, too_long_for}
 use Rattle.feed_history.specs.Output.{drain_lines, end_lines, line_text, lines_if_live, lines_unless, output_after, piece_of, row_piece, sub_lines, written_after}
 use Rattle.feed_history.specs.Lawful.{HeldAreLawful, HeldAtKeys}
 use Rattle.feed_history.specs.Live.{Ascend}
@@ -28,9 +27,10 @@ use Rattle.feed_history.specs.Deliveries.{frame_lines, sent_by, sent_if_live, se
 use Rattle.feed_history.specs.Text.{fault_line, frame_line, oversize_line}
 use Rattle.feed_history.specs.VerdictText.{verdict_text}
 use Rattle.feed_history.specs.declared.refusal.Refusal.{Refusal}
-use Rattle.feed_history.proofs.Lists.{all_weaker, found_is}
+use Rattle.feed_history.proofs.Lists.{found_is}
+use Rattle.feed_history.proofs.EntriesById.{none_found, others_above}
+use Rattle.feed_history.proofs.Placed.{found_has_id}
 use Rattle.history_laws.proofs.Lives.{live_ids_ascend}
-use Rattle.history_laws.proofs.Places.{none_found}
 use Rattle.feed_history.specs.Lengths.{HasLength, LengthsFit, RowHasLength, RowsHaveLengths}
 use Rattle.output_laws.proofs.Decimals.{decimal_without}
 use Rattle.output_laws.proofs.Forms.{line_ended, line_in, line_unbroken, other_frame, oversize_passed, own_frame, passed, read, refused_passed, verdict_passed}
@@ -46,17 +46,6 @@ use Rattle.route_match.specs.Asking.{PatternFacts}
 -- the ids of subscriptions are numbers that can be written
 abbrev pub HasSmallIds : List Asked → Type 0
 HasSmallIds subs = AllByRecursion (λ (asked : Asked). asked.id.0 < 2 ^ 64) subs
-
-other_id : (a b : ℕ) → a ≢ b → eqb a b ≡ false
-other_id a b differ = elim (eqb_tells a b) [ inl same ↦ absurd (differ same.1) | inr apart ↦ apart.0 ]
-
--- what is found by an id has it
-has_id : (n : ℕ) (subs : List Asked) (asked : Asked) → asked_at n subs ≡ Some asked → eqb asked.id.0 n ≡ true
-has_id n [] asked is = absurd (cc is)
-has_id n (one ∷ subs) asked is = elim (eqb one.id.0 n) as (λ b. eqb one.id.0 n ≡ b → cond b (Some one) (asked_at n subs) ≡ Some asked → eqb asked.id.0 n ≡ true) [
-  | true ↦ λ test is. let same : one ≡ asked = cc is in subst (λ (a : Asked). eqb a.id.0 n ≡ true) same test
-  | false ↦ λ test is. has_id n subs asked is
-] refl is
 
 module _ (method : Method) (id : ℕ) where
   -- ---- frames
@@ -130,7 +119,7 @@ module _ (method : Method) (id : ℕ) where
   module _ (program : Program) where
     -- its messages are those of what is live under it
     sent_is : (now : State) (n : ℕ) (asked : Asked) → asked_at n now.subs ≡ Some asked → sent_if program now.objects (asked.id.0 == id) asked ≡ (if n == id then sent_now program now id else [])
-    sent_is now n asked found = ap (λ (k : ℕ). sent_if program now.objects (k == id) asked) (eqb-true asked.id.0 n (has_id n now.subs asked found)) ∙ by_id (n == id) refl
+    sent_is now n asked found = ap (λ (k : ℕ). sent_if program now.objects (k == id) asked) (found_has_id id_of n now.subs asked found) ∙ by_id (n == id) refl
       where
         by_id : (b : Bool) → (n == id) ≡ b → sent_if program now.objects b asked ≡ cond b (sent_now program now id) []
         by_id true is = sym (ap (sent_if_live program now.objects) (subst (λ (k : ℕ). asked_at k now.subs ≡ Some asked) (eqb-true n id is) found))
@@ -164,13 +153,11 @@ module _ (method : Method) (id : ℕ) where
           as (λ b. eqb asked.id.0 id ≡ b → sent_if program held b asked ++ sent_if_live program held (asked_at id subs) ≡ sent_if_live program held (cond b (Some asked) (asked_at id subs))) [
             | true ↦ λ same.
                 let own = sent_unless (too_long_for program held asked) (messages_due program held asked) in
-                ap (λ (found : Option Asked). own ++ sent_if_live program held found) (none_found id subs (all_weaker (λ (later : Asked). asked.id.0 < later.id.0) (λ (later : Asked). eqb later.id.0 id ≡ false) (λ later lt. above later lt (eqb-true asked.id.0 id same)) subs ascend.0))
+                ap (λ (found : Option Asked). own ++ sent_if_live program held found) (none_found id_of id subs (others_above id_of id subs
+                (subst (λ (n : ℕ). AllByRecursion (λ (later : Asked). n < later.id.0) subs) (eqb-true asked.id.0 id same) ascend.0)))
                 ∙ append-nil own
             | false ↦ λ other. refl
           ] refl
-        where
-          above : (later : Asked) → asked.id.0 < later.id.0 → asked.id.0 ≡ id → eqb later.id.0 id ≡ false
-          above later lt same = other_id later.id.0 id (λ is. omega (arith, lt, is, same))
 
       end_tells : (subs : List Asked) → Ascend subs → HasSmallIds subs → AllByRecursion (HasLength program held) subs → AllByRecursion (IsReadable method) (sent_if_live program held (asked_at id subs))
           → Tells method id (flat_map (sub_lines program held) subs) (sent_if_live program held (asked_at id subs))
