@@ -28,7 +28,8 @@ pub record Applies (event : Event) (old new : Held) (fault : Option HubFault) : 
 
 -- ---- a line
 
--- The store holds the objects of this state, with the limit on objects.
+-- The store holds the objects of this state, with the limit on objects. The state may be that of any
+-- program.
 pub record Holds (limits : Limits) (now : State) (held : Held) : Type 0 where
   pub objects : held.objects ≡ now.objects
   pub limit : held.limit ≡ limits.objects

@@ -45,8 +45,10 @@ fn relist(store: &mut Store, kind: Kind, items: List<Object>) -> Result<Option<H
     }
 }
 
-/// Applies a watch event. Returns why it is refused, or None.
-pub(crate) fn apply(store: &mut Store, event: Event) -> Result<Option<HubFault>, Memory>
+/// Applies a watch event to a store without a hub. Returns why it is refused, or None. Also for a
+/// command that answers each line from the objects held before it; `Holds` of `specs/Stand` then
+/// ties the store to the state after the lines.
+pub fn apply(store: &mut Store, event: Event) -> Result<Option<HubFault>, Memory>
     requires { IsLawfulEvent event }
     ensures { IfOk result (Applies event store.old store.new) }
 {

@@ -1,4 +1,7 @@
 -- What is sent of lawful objects is sendable: the rows of their endpoints, and their other views.
+--
+-- The laws on batches of any rows and on lengths are also for a command that has its views from
+-- elsewhere than from objects, and sends the batches between them.
 use Rattle.std.proofs.Common.{◌≡◌, ℕ, zero, suc, ◌<◌, ◌≤◌, ◌^◌, Bool, true, false, cond, List, [], ◌∷◌, length, map, take, drop, Option, Some, None, refl, sym, ap, subst, arith, lit<}
 use Rattle.std.specs.Prelude.{Ok, codes, nat_lt, not, option_map}
 use Rattle.std.specs.List.{AllByRecursion}
@@ -51,7 +54,7 @@ use Rattle.history_laws.proofs.SendableRows.{AreLawfulHeld, shown_are_sendable}
 -- ---- messages
 
 -- a message that isn't too long can be sent
-abbrev IsSendableIf : Message → Type 0
+abbrev pub IsSendableIf : Message → Type 0
 IsSendableIf message = length (canonical message) < 2 ^ 64 → IsSendable message
 
 -- so can each message of some pieces of items that can
@@ -70,7 +73,7 @@ module _ {X : Type 0} (message : List X → Message) (Is : X → Type 0) (parts 
 pairs_are_sendable : (rows : List EndpointRow) → AllByRecursion IsSendableRow rows → AllByRecursion IsSendablePair (map pair_of rows)
 pairs_are_sendable rows good = all_mapped IsSendableRow IsSendablePair pair_of (λ row good. record { ip = good.ip; port = good.port }) rows good
 
-batch_is_sendable : (size : ℕ) (old : Option EndpointView) (exists : Bool) (rows : List EndpointRow) → AllByRecursion IsSendableRow (rows_before old) → AllByRecursion IsSendableRow rows
+pub batch_is_sendable : (size : ℕ) (old : Option EndpointView) (exists : Bool) (rows : List EndpointRow) → AllByRecursion IsSendableRow (rows_before old) → AllByRecursion IsSendableRow rows
     → AllByRecursion IsSendableIf (messages_to size old exists rows)
 batch_is_sendable size old exists [] old_good good = all_if IsSendableIf (is_news old exists) (NoEndpoints exists ∷ []) (λ short. record { parts = tt; short = short }, tt)
 batch_is_sendable size old exists (r ∷ rs) old_good good =
@@ -80,7 +83,7 @@ batch_is_sendable size old exists (r ∷ rs) old_good good =
     (pieces_are_sendable Add IsSendableRow (λ rows good. good) size changed (all_kept IsSendableRow (λ row. not (has_row (rows_before old) row)) (r ∷ rs) good))
     (pieces_are_sendable Remove IsSendablePair (λ pairs good. good) size gone (all_kept IsSendablePair (λ pair. not (has_pair (r ∷ rs) pair)) (map pair_of (rows_before old)) (pairs_are_sendable (rows_before old) old_good)))
 
-whole_is_sendable : {X : Type 0} (same : X → X → Bool) (message : X → Message) (old : Option X) (new : X) → AreSendableParts (message new) → AllByRecursion IsSendableIf (whole_batch same message old new)
+pub whole_is_sendable : {X : Type 0} (same : X → X → Bool) (message : X → Message) (old : Option X) (new : X) → AreSendableParts (message new) → AllByRecursion IsSendableIf (whole_batch same message old new)
 whole_is_sendable same message old new good = if_new (same_option same old (Some new))
   where
     if_new : (shown : Bool) → AllByRecursion IsSendableIf (cond shown [] (message new ∷ []))
@@ -96,7 +99,7 @@ authz_are_sendable (Present row) good = good.authz
 keys_are_sendable : (rows : List AuthzRow) → AllByRecursion IsSendableAuthz rows → AllByRecursion IsSendableAuthzKey (map authz_key rows)
 keys_are_sendable rows good = all_mapped IsSendableAuthz IsSendableAuthzKey authz_key (λ row good. good.name) rows good
 
-port_is_sendable : (size : ℕ) (old : Option ServerView) (new : ServerView) → AllByRecursion IsSendableAuthz (authz_before old) → IsSendableServer new → AllByRecursion IsSendableIf (port_batch size old new)
+pub port_is_sendable : (size : ℕ) (old : Option ServerView) (new : ServerView) → AllByRecursion IsSendableAuthz (authz_before old) → IsSendableServer new → AllByRecursion IsSendableIf (port_batch size old new)
 port_is_sendable size old new old_good good = if_alone (differ_in_authz old new)
   where
     if_alone : (alone : Bool) → AllByRecursion IsSendableIf (cond alone (messages_to_authz size (authz_before old) (authz_of new)) (whole_batch same_server Whole old new))
@@ -112,10 +115,10 @@ port_is_sendable size old new old_good good = if_alone (differ_in_authz old new)
 -- ---- lengths
 
 -- none is too long
-abbrev AreShort : List Message → Type 0
+abbrev pub AreShort : List Message → Type 0
 AreShort messages = AllByRecursion (λ (message : Message). length (canonical message) < 2 ^ 64) messages
 
-are_short : (limit : ℕ) → limit < 2 ^ 32 → (messages : List Message) → too_long limit messages ≡ None → AreShort messages
+pub are_short : (limit : ℕ) → limit < 2 ^ 32 → (messages : List Message) → too_long limit messages ≡ None → AreShort messages
 are_short limit small [] none = tt
 are_short limit small (m ∷ ms) none = elim (nat_lt limit (length (canonical m))) as (λ b. nat_lt limit (length (canonical m)) ≡ b → cond b (Some (length (canonical m))) (too_long limit ms) ≡ None → AreShort (m ∷ ms)) [
   | true ↦ λ is none. absurd (cc none)
@@ -125,7 +128,7 @@ are_short limit small (m ∷ ms) none = elim (nat_lt limit (length (canonical m)
     within : (n : ℕ) → n ≤ limit → n < 2 ^ 64
     within n le = let bound : 2 ^ 32 < 2 ^ 64 = lit< tt in omega (arith, le, small, bound)
 
-sendable_if_short : (messages : List Message) → AreShort messages → AllByRecursion IsSendableIf messages → AllByRecursion IsSendable messages
+pub sendable_if_short : (messages : List Message) → AreShort messages → AllByRecursion IsSendableIf messages → AllByRecursion IsSendable messages
 sendable_if_short [] short good = tt
 sendable_if_short (m ∷ ms) short good = (good.0 short.0, sendable_if_short ms short.1 good.1)
 

@@ -60,9 +60,9 @@ impl fmt::Display for WireText {
     }
 }
 
-// Formats the fault of a message.
+/// Formats the fault of a message. Also for a command that refuses messages in lines of its own.
 #[derive(Clone, Copy, Drop)]
-struct ProtoText(ProtoFault);
+pub struct ProtoText(pub ProtoFault);
 
 impl fmt::Display for ProtoText {
     ghost output = { λ text. Some (proto_fault_text text.0) };

@@ -9,8 +9,9 @@ use std::alloc::Global;
 use view_types::message::Message;
 use view_types::query::Method;
 
-// Returns the bytes of the hex.
-fn bytes_of(alloc: Global, hex: &[u8]) -> Result<Vec<u8>, FoldFault>
+/// Returns the bytes that the hex writes. Also for a command that must know them before it knows
+/// what they are bytes of.
+pub fn bytes_of(alloc: Global, hex: &[u8]) -> Result<Vec<u8>, FoldFault>
     ensures { GivesAs (λ bytes. bytes.items) result (bytes_of hex.now) }
 {
     match hex::decode(alloc, hex) {
@@ -20,9 +21,10 @@ fn bytes_of(alloc: Global, hex: &[u8]) -> Result<Vec<u8>, FoldFault>
     }
 }
 
+/// Returns the message in bytes that are one frame, and not compressed. Also for a command that
+/// knows the method of a message only once it has the message.
 #[tactic(auto, using(crate::proofs::Frames::is_one, crate::proofs::Frames::not_one))]
-// Returns the message in bytes that are one frame.
-fn message_in(bytes: &[u8]) -> Result<&[u8], FoldFault>
+pub fn message_in(bytes: &[u8]) -> Result<&[u8], FoldFault>
     ensures { IsAs (λ message. message.now) result (message_in bytes.now) }
 {
     if bytes.is_empty() {

@@ -1,6 +1,6 @@
 ghost use Rattle.std.specs.Prelude.{◌≡◌, ◌==◌, Some};
 ghost use Rattle.std.specs.List.{list_all};
-ghost use Rattle.output_fold.specs.Numbers.{begins_with_number, is_digit, is_number, is_number_of};
+ghost use Rattle.output_fold.specs.Numbers.{begins_with_number, id_of, is_digit, is_number, is_number_of};
 
 use mesh_base::numeral::read_plain;
 
@@ -17,9 +17,10 @@ fn are_digits(text: &[u8]) -> bool
     text.iter().all(|byte| is_digit(*byte))
 }
 
-/// Whether the text is one or more decimal digits without a leading zero.
+/// Whether the text is one or more decimal digits without a leading zero. Also for a command that
+/// passes over numbers of any length in its lines.
 #[tactic(auto, unfolding(crate::specs::Numbers::is_digit, crate::specs::Numbers::is_number, mesh_base::specs::Numeral::is_numeral, mesh_base::specs::Numeral::leads_with_zero))]
-pub(crate) fn is_number(text: &[u8]) -> bool
+pub fn is_number(text: &[u8]) -> bool
     ensures { result ≡ is_number text.now }
 {
     if text.is_empty() {
@@ -32,13 +33,25 @@ pub(crate) fn is_number(text: &[u8]) -> bool
     }
 }
 
-/// Whether the text is this number in decimal digits.
-#[tactic(auto, using(crate::proofs::Numbers::other_number, crate::proofs::Numbers::same_number))]
-pub(crate) fn is_number_of(text: &[u8], n: u32) -> bool
-    ensures { result ≡ is_number_of n text.now }
+/// Returns the number of 32 bits that decimal digits without a leading zero write. For a command
+/// whose lines name a subscription, a stream or a client by its id.
+pub fn id_of(text: &[u8]) -> Option<u32>
+    ensures { result ≡ id_of text.now }
 {
     match read_plain(text, u64::from(u32::MAX)) {
-        Some(found) => found == u64::from(n),
+        Some(id) => Some(id as u32),
+        None => None,
+    }
+}
+
+/// Whether the text is this number in decimal digits. Also for a command that looks for the lines
+/// of one id and passes over those of others, whatever their number.
+#[tactic(auto, using(crate::proofs::Numbers::other_number, crate::proofs::Numbers::same_number))]
+pub fn is_number_of(text: &[u8], n: u32) -> bool
+    ensures { result ≡ is_number_of n text.now }
+{
+    match id_of(text) {
+        Some(found) => found == n,
         None => false,
     }
 }

@@ -1,4 +1,6 @@
 -- The frame of a message that reads back is read as the message.
+--
+-- Also for a command that hands on the messages of a replay's frames.
 use Rattle.std.proofs.Common.{◌≡◌, ℕ, zero, suc, ◌<◌, ◌^◌, List, [], ◌∷◌, length, Some, Ok, sym, ap, ◌∙◌, arith, append-nil}
 use Rattle.std.specs.Prelude.{Result}
 use Rattle.std.specs.Int.{w32, to_be_bytes}
@@ -29,7 +31,7 @@ are_bytes (b ∷ bytes) all (suc i) = are_bytes bytes all.1 i
 frame_bytes : (bytes : List ℕ) → AreBytes bytes → IsBytes (frame_of bytes)
 frame_bytes bytes all = are_bytes (frame_of bytes) (omega arith, bytes_both (to_be_bytes w32 (length bytes)) bytes (high_bytes 4 (length bytes)) all)
 
-framed : (bytes : List ℕ) → length bytes < 2 ^ 32 → message_in (frame_of bytes) ≡ Ok bytes
+pub framed : (bytes : List ℕ) → length bytes < 2 ^ 32 → message_in (frame_of bytes) ≡ Ok bytes
 framed bytes short = ap alone (ap first_frame (sym (append-nil (frame_of bytes))) ∙ frames_come_apart bytes [] short)
 
 pub frame_reads : (method : Method) (message : Message) → IsReadable method message → frame_message method (encode_lower (frame_of (canonical message))) ≡ Ok message

@@ -1,16 +1,16 @@
 mod Agree
-mod Bytes
+pub mod Bytes
 mod BytesOfEndpoints
-mod BytesOfMessages
+pub mod BytesOfMessages
 mod BytesOfProfiles
 mod BytesOfRoutes
 mod Configurations
 mod Decimals
 mod Diagnoses
 mod Forms
-mod Frames
+pub mod Frames
 mod Ids
-mod Messages
+pub mod Messages
 mod PlainCore
 mod PlainControls
 mod PlainFaults

@@ -1,4 +1,6 @@
 -- What holds of all that the subscriber of an id was sent.
+--
+-- Also for a command that hands on the messages of a replay's frames.
 use Rattle.std.proofs.Common.{◌≡◌, ℕ, ◌≤◌, ◌⊎◌, ◌≢◌, Bool, true, false, cond, eqb, List, [], ◌∷◌, ◌++◌, length, map, Option, Some, None, Ok, Err, refl, sym, ap, ◌∙◌, subst, append-nil, inl, inr}
 use Rattle.std.specs.Prelude.{◌==◌, nat_lt, Result, if◌then◌else◌}
 use Rattle.std.specs.List.{AllByRecursion}
