@@ -1,5 +1,5 @@
 -- The decision on a request from the inbound view of its port, with the rows of the view in place of the objects.
-use Rattle.std.specs.Prelude.{◌&&◌, Bool, true, false, if◌then◌else◌, List, [], ◌∷◌, Option, Some, None, find, map}
+use Rattle.std.specs.Prelude.{◌&&◌, ℕ, Bool, true, false, if◌then◌else◌, List, [], ◌∷◌, Option, Some, None, find, map}
 use Rattle.std.specs.List.{slice_get}
 use Rattle.std.specs.Ordering.{is_gt}
 use Rattle.view_types.specs.declared.config.Config.{Config}
@@ -47,6 +47,14 @@ abbrev pub by_route : Config → Request → ServerRow → Option RouteRow → V
 by_route config request server None = NotFound
 by_route config request server (Some route) =
     by_row (by_policy config request server.policy) (lesser (first_admitting request server.authz) (first_admitting request route.authz))
+
+-- the indexes of a candidate's route, of its rule in the route, and of the match in the rule
+abbrev pub places_of : Candidate → ℕ × ℕ × ℕ
+places_of found = (found.route, found.rule, found.item)
+
+abbrev pub route_at : List RouteRow → Option (ℕ × ℕ × ℕ) → Option RouteRow
+route_at routes None = None
+route_at routes (Some places) = slice_get routes places.0
 
 abbrev pub route_found : List RouteRow → Option Candidate → Option RouteRow
 route_found routes None = None

@@ -5,7 +5,8 @@
 //! over any objects that have the view; `specs/Decision` is the same decision over the rows of the
 //! view. The authorizations of routes are not read from the view: those of the matched route are
 //! looked up, in a source that the caller passes, and `specs/FullViews` is the view with all of
-//! them.
+//! them. `best_of` returns the indexes of the best match among rows of routes, or the match whose
+//! regular expression is refused.
 #![tactic(auto)]
 
 mod admits;
@@ -13,7 +14,7 @@ pub mod decide;
 mod either;
 pub mod fault;
 pub mod laws;
-mod matched;
+pub mod matched;
 mod policy;
 mod probe;
 pub mod route_authz;

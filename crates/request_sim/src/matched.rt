@@ -1,11 +1,11 @@
-// The route that matches a request.
-ghost use Rattle.std.specs.Prelude.{◌≡◌, ◌≤◌, ◌+◌, ◌++◌, Some, IfErr, IfOk, codes, length, map};
+// The best match for a request, and its route.
+ghost use Rattle.std.specs.Prelude.{◌≡◌, ◌≤◌, ◌+◌, ◌++◌, Some, IfErr, IfOk, codes, length, map, option_map};
 ghost use Rattle.std.specs.Option.{option_copied};
 ghost use Rattle.std.specs.String.{string_bytes, string_capacity, string_len};
 ghost use Rattle.view_types.specs.declared.server_view.RouteRow.{RouteRow as TheRouteRow};
 ghost use Rattle.route_match.specs.Asking.{AsksPatterns, facts_of};
 ghost use Rattle.route_match.specs.Matching.{Pat, best, row_shape};
-ghost use Rattle.request_sim.specs.Decision.{route_found};
+ghost use Rattle.request_sim.specs.Decision.{places_of, route_at, route_found};
 ghost use Rattle.request_sim.specs.Faults.{HasRoomFor, IsOfRows, MetPattern};
 ghost use Rattle.request_sim.specs.FullViews.{IsOneOf};
 ghost use Rattle.request_sim.specs.declared.fault.SimFault.TheVariants.{Pattern};
@@ -19,6 +19,42 @@ use route_match::fault::MatchFault;
 use std::alloc::Global;
 use view_types::request::HttpRequest;
 use view_types::server_view::RouteRow;
+
+/// Returns the places of the best match, if there is one: the index of its route, that of its rule
+/// in the route, and that of the match in the rule. The routes must be of the namespace.
+pub fn best_of<P: Patterns>(
+    alloc: Global,
+    ns: &Text,
+    routes: &[RouteRow],
+    http: &HttpRequest,
+    patterns: &mut P,
+) -> Result<Option<(u64, u64, u64)>, SimFault>
+    ensures places { (pat : Pat) → P.tells patterns.old ≡ Some pat → IfOk result (λ found.
+        found ≡ option_map places_of (best pat http.now (map row_shape routes.now))) }
+    ensures named { IfErr result (IsOfRows (facts_of P.Patterns patterns.old) ns.now routes.now
+        http.now) }
+    ensures asks { AsksPatterns P.Patterns patterns.old patterns.new (MetPattern result) }
+{
+    let Ok(room) = room_for_text(alloc, ns, routes) else {
+        return Err(SimFault::Memory);
+    };
+    match best_match(alloc, patterns, http, routes) {
+        Ok(found) => Ok(places_of(found)),
+        Err(MatchFault::Refused { route, rule, item }) => {
+            Err(pattern_fault(room, &routes[route], rule, item))
+        }
+        Err(MatchFault::Memory) => Err(SimFault::Memory),
+    }
+}
+
+fn places_of(found: Option<Candidate>) -> Option<(u64, u64, u64)>
+    ensures { result ≡ option_map places_of found }
+{
+    match found {
+        Some(found) => Some((found.route as u64, found.rule as u64, found.item as u64)),
+        None => None,
+    }
+}
 
 /// Returns the route with the best match, if there is one. The routes must be those of a Server in
 /// the namespace.
@@ -39,23 +75,17 @@ pub(crate) fn matched_route<'a, P: Patterns>(
         http.now) }
     ensures asks { AsksPatterns P.Patterns patterns.old patterns.new (MetPattern result) }
 {
-    let Ok(room) = room_for_text(alloc, ns, routes) else {
-        return Err(SimFault::Memory);
-    };
-    match best_match(alloc, patterns, http, routes) {
-        Ok(found) => Ok(route_found(routes, found)),
-        Err(MatchFault::Refused { route, rule, item }) => {
-            Err(pattern_fault(room, &routes[route], rule, item))
-        }
-        Err(MatchFault::Memory) => Err(SimFault::Memory),
+    match best_of(alloc, ns, routes, http, patterns) {
+        Ok(found) => Ok(route_at(routes, found)),
+        Err(fault) => Err(fault),
     }
 }
 
-fn route_found(routes: &[RouteRow], found: Option<Candidate>) -> Option<&RouteRow>
-    ensures { option_copied result ≡ route_found routes.now found }
+fn route_at(routes: &[RouteRow], found: Option<(u64, u64, u64)>) -> Option<&RouteRow>
+    ensures { option_copied result ≡ route_at routes.now found }
 {
     match found {
-        Some(found) => routes.get(found.route),
+        Some((route, _, _)) => routes.get(route as usize),
         None => None,
     }
 }

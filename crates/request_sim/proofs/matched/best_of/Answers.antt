@@ -1,4 +1,4 @@
-use Rattle.std.proofs.Common.{Err, Option, map, refl, sym, subst}
+use Rattle.std.proofs.Common.{ℕ, Err, Option, map, refl, sym, subst}
 use Rattle.std.specs.String.{string_bytes}
 use Rattle.std.proofs.lemmas.Option.{slice_get_read}
 use Rattle.view_types.specs.declared.server_view.RouteRow.{RouteRow}
@@ -11,7 +11,7 @@ use Rattle.route_match.proofs.Asks.{as_met}
 use Rattle.request_sim.specs.Faults.{MetPattern}
 use Rattle.request_sim.specs.declared.fault.SimFault.{SimFault}
 use Rattle.request_sim.proofs.Meets.{fault_of_row, named_by, place_within}
-use Rattle.request_sim.proofs.matched.matched_route.Goals as goal
+use Rattle.request_sim.proofs.matched.best_of.Goals as goal
 
 pub bounds-routes-route : goal.bounds-routes-route
 bounds-routes-route g c =
@@ -34,7 +34,7 @@ returns-in-Err-Refused-clause-named g c =
 pub returns-in-Err-Refused-clause-asks : goal.returns-in-Err-Refused-clause-asks
 returns-in-Err-Refused-clause-asks g c =
     as_met (λ now. subst (λ (fault : MatchFault). MetRefused {T = Option Candidate} (Err fault)) (sym c.in-Err-Refused.field-0-is) tt)
-    (λ met. subst (λ (fault : SimFault). MetPattern {T = Option RouteRow} (Err fault)) (sym c.pattern_fault.ensures) tt)
+    (λ met. subst (λ (fault : SimFault). MetPattern {T = Option (ℕ × ℕ × ℕ)} (Err fault)) (sym c.pattern_fault.ensures) tt)
     c.in-Err-Refused.ensures.asks
 
 pub returns-in-Err-Memory-clause-asks : goal.returns-in-Err-Memory-clause-asks
