@@ -16,15 +16,15 @@
 //! lines of expected output
 //! ```
 //!
-//! An empty line or the end of the file ends the row. An expected output with empty lines is between
-//! two lines `----` directly after the first such line, and ends with two lines `----`. The line
-//! after the notes is the words of the row, with one space between two: which call it is, and its
-//! options. Each program says which words it reads.
+//! An empty line or the end of the file ends the row. An expected output with empty lines is
+//! between two lines `----` directly after the first such line, and ends with two lines `----`. The
+//! line after the notes is the words of the row, with one space between two: which call it is, and
+//! its options. Each program says which words it reads.
 //!
-//! A definition `let NAME = TEXT` is a line outside of rows. A line `$NAME` below it, in an input or
-//! an expected output, stands for `TEXT`. Definitions hold in their file alone, but those of a file
-//! without rows hold in each file after it. A block of lines that begin with `#` is a comment if an
-//! empty line or a definition follows it.
+//! A definition `let NAME = TEXT` is a line outside of rows. A line `$NAME` below it, in an input
+//! or an expected output, stands for `TEXT`. Definitions hold in their file alone, but those of a
+//! file without rows hold in each file after it. A block of lines that begin with `#` is a comment
+//! if an empty line or a definition follows it.
 #![tactic(auto)]
 
 mod faults;
