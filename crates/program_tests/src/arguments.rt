@@ -1,18 +1,9 @@
+// The arguments of the program.
 use command_run::words::{status_without_words, words_of};
-use line_run::Status;
+use row_file::TrialFault;
 use std::alloc::Global;
 use std::env::{Env, FillError};
 use std::io::ErrorKind;
-use std::test::Fail;
-
-#[test]
-fn words_that_cannot_be_had(rt: HostRuntime) {
-    assert_eq!(rt;
-        status_without_words(ErrorKind::OutOfMemory),
-        Status::Memory
-    );
-    assert_eq!(rt; status_without_words(ErrorKind::InvalidData), Status::Usage);
-}
 
 // The arguments of a program that is called with one word.
 #[derive(Clone, Copy, Drop)]
@@ -44,37 +35,31 @@ impl<'a> Env for OneWord<'a> {
     }
 }
 
-// Returns the argument, or why it cannot be read.
-fn word_of(alloc: Global, word: &[u8]) -> Result<Result<String, Status>, Fail> {
-    let words = match words_of(&(OneWord { word }, alloc)) {
-        Ok(words) => words,
-        Err(status) => return Ok(Err(status)),
-    };
-    let mut text = String::new(alloc);
-    for word in &words {
-        text.push_str(word.as_str())?;
-        text.push_str(";")?;
+/// Appends the words of a command line of one argument, each ended by `;`, or why they cannot be
+/// read.
+pub fn push_argument(alloc: Global, digits: &str, out: &mut String) -> Result<(), TrialFault> {
+    let argument = hex::decode(alloc, digits)?;
+    let word = argument.as_slice();
+    match words_of(&(OneWord { word }, alloc)) {
+        Ok(words) => {
+            for word in words.iter() {
+                out.push_str(word.as_str())?;
+                out.push(';')?;
+            }
+            out.push('\n')?;
+        }
+        Err(status) => write!(out, "status {status:?}\n")?,
     }
-    Ok(Ok(text))
+    Ok(())
 }
 
-// The words are all arguments except the program's name. A word that is not UTF-8 makes the command
-// line invalid.
-#[test]
-fn words_of_arguments(rt: HostRuntime) -> Result<(), Fail> {
-    let alloc = rt.alloc();
-    let words = word_of(alloc, b"replay")?;
-    assert!(rt; words.is_ok_and(|words| words.as_str() == "replay;"));
-    let words = word_of(alloc, b"")?;
-    assert!(rt; words.is_ok_and(|words| words.as_str() == ";"));
-    for bytes in [
-        b"\xff" as &[u8],
-        b"replay\xff",
-        b"\xc3\x28",
-        b"\xed\xa0\x80",
-    ] {
-        let words = word_of(alloc, bytes)?;
-        assert!(rt; words.is_err_and(|status| status == Status::Usage));
-    }
+/// Appends the status for arguments that cannot be read.
+pub fn push_unread(kind: &str, out: &mut String) -> Result<(), TrialFault> {
+    let status = match kind {
+        "OutOfMemory" => status_without_words(ErrorKind::OutOfMemory),
+        "InvalidData" => status_without_words(ErrorKind::InvalidData),
+        _ => return Err(TrialFault::new("no kind of error has this name")),
+    };
+    write!(out, "status {status:?}\n")?;
     Ok(())
 }
