@@ -1,7 +1,8 @@
-ghost use Rattle.std.specs.Prelude.{◌+◌, ◌<◌, IfOk, Some};
+ghost use Rattle.std.specs.Prelude.{IfOk, Some};
 ghost use Rattle.std.specs.Option.{option_copied};
 ghost use Rattle.view_rules.specs.Fold.{IsOrderly, IsOrderlyIfShown};
 
+use crate::told::put_line;
 use mesh_base::copied::Copied;
 use mesh_base::labels::Labels;
 use mesh_base::limits::Limits;
@@ -9,6 +10,7 @@ use mesh_base::list::List;
 use mesh_base::memory::Memory;
 use mesh_base::same::Same;
 use net_cidr::ip::Ip;
+use row_file::TrialFault;
 use std::alloc::Global;
 use view_diff::views::batch;
 use view_fold::folding::Fold;
@@ -16,13 +18,10 @@ use view_types::endpoint::{EndpointRow, EndpointView};
 use view_types::message::Message;
 use view_types::view::View;
 
-/// The view of so many addresses from the first on.
-fn view(alloc: Global, first: u32, count: u32, weight: u32) -> Result<View, Memory>
-    requires { first + count < 1000000 }
-    ensures { IfOk result (λ view. IsOrderlyIfShown (Some view)) }
-{
+/// The message that adds so many addresses from the first on.
+fn addresses(alloc: Global, first: u32, count: u32, weight: u32) -> Result<Message, Memory> {
     let mut rows = List::new(alloc);
-    for number in first..first + count {
+    for number in first..first.saturating_add(count) {
         rows.add(EndpointRow {
             ip: Ip::V4(number),
             port: 8080,
@@ -33,13 +32,22 @@ fn view(alloc: Global, first: u32, count: u32, weight: u32) -> Result<View, Memo
             h2: false,
         })?;
     }
-    seen_of(alloc, Message::Add(rows))
+    Ok(Message::Add(rows))
 }
 
-fn seen_of(alloc: Global, message: Message) -> Result<View, Memory>
-    ensures { IfOk result (λ view. IsOrderlyIfShown (Some view)) }
-{
-    Ok(View::Endpoints(shown(alloc, message)?))
+/// The message of a line `no Service` or `FIRST COUNT WEIGHT`.
+fn message_of(alloc: Global, words: &str) -> Result<Message, TrialFault> {
+    if words == "no Service" {
+        return Ok(Message::NoEndpoints(false));
+    }
+    let (first, rest) = words.split_once(' ').unwrap_or((words, ""));
+    let (count, weight) = rest.split_once(' ').unwrap_or((rest, ""));
+    Ok(addresses(
+        alloc,
+        first.parse::<u32>()?,
+        count.parse::<u32>()?,
+        weight.parse::<u32>()?,
+    )?)
 }
 
 /// What a subscriber sees who is sent the message alone.
@@ -54,101 +62,64 @@ fn shown(alloc: Global, message: Message) -> Result<EndpointView, Memory>
     }
 }
 
-/// How many rows each Add has, how many addresses each Remove in an error's place, and 0 for
-/// another message.
-fn sizes(alloc: Global, messages: &List<Message>) -> Result<Vec<Result<usize, usize>>, Memory> {
-    let mut sizes = Vec::new(alloc);
-    for message in messages.as_slice() {
-        sizes.push(match message {
-            Message::Add(rows) => Ok(rows.len()),
-            Message::Remove(pairs) => Err(pairs.len()),
-            _ => Err(0),
-        })?;
-    }
-    Ok(sizes)
+fn view_of(alloc: Global, words: &str) -> Result<View, TrialFault>
+    ensures { IfOk result (λ view. IsOrderlyIfShown (Some view)) }
+{
+    let message = message_of(alloc, words)?;
+    Ok(View::Endpoints(shown(alloc, message)?))
 }
 
-fn take_all(alloc: Global, fold: &mut Fold, messages: List<Message>) -> Result<(), Memory> {
-    for message in messages.into_vec() {
+fn put_message(alloc: Global, message: &Message, out: &mut String) -> Result<(), TrialFault> {
+    let text = match message {
+        Message::Add(rows) => {
+            let count = rows.len();
+            format!(in alloc; "adds {count}")?
+        }
+        Message::Remove(pairs) => {
+            let count = pairs.len();
+            format!(in alloc; "removes {count}")?
+        }
+        _ => String::from_str(alloc, "no endpoints")?,
+    };
+    put_line(out, text.as_str())
+}
+
+/// Puts each message from a view to another, and folds it.
+fn send(
+    alloc: Global,
+    fold: &mut Fold,
+    old: Option<&View>,
+    new: &View,
+    out: &mut String,
+) -> Result<(), TrialFault>
+    requires old { IsOrderlyIfShown (option_copied old) }
+    requires new { IsOrderlyIfShown (Some new.now) }
+{
+    for message in batch(alloc, old, new, &Limits::USUAL)?.into_vec() {
+        put_message(alloc, &message, out)?;
         fold.take(alloc, message)?;
     }
     Ok(())
 }
 
-fn shows(fold: &Fold, view: &View) -> bool {
-    match fold.view() {
-        Some(seen) => seen.is_same(view),
-        None => false,
-    }
-}
-
-/// What who sees the view, if there is one, has folded.
-fn folded(alloc: Global, view: Option<&View>) -> Result<Fold, Memory>
-    requires { IsOrderlyIfShown (option_copied view) }
-{
+/// Writes the messages from the view of the first line of the input to that of the second, and
+/// whether who sees the one sees the other after them. The first line may be `nothing`.
+pub fn batch_between(alloc: Global, input: &str, out: &mut String) -> Result<(), TrialFault> {
+    let Some((old, new)) = input.trim_end().split_once('\n') else {
+        return Err(TrialFault::new("two views are missing"));
+    };
+    let new = view_of(alloc, new)?;
     let mut fold = Fold::new();
-    if let Some(view) = view {
-        let messages = batch(alloc, None, view, &Limits::USUAL)?;
-        take_all(alloc, &mut fold, messages)?;
+    if old == "nothing" {
+        send(alloc, &mut fold, None, &new, out)?;
+    } else {
+        let old = view_of(alloc, old)?;
+        send(alloc, &mut fold, None, &old, &mut String::new(alloc))?;
+        send(alloc, &mut fold, Some(&old), &new, out)?;
     }
-    Ok(fold)
-}
-
-/// How large the messages from one view to another are, and whether who saw the one sees the other
-/// after them.
-fn change(
-    alloc: Global,
-    old: Option<&View>,
-    new: &View,
-) -> Result<(Vec<Result<usize, usize>>, bool), Memory>
-    requires old { IsOrderlyIfShown (option_copied old) }
-    requires new { IsOrderlyIfShown (Some new.now) }
-{
-    let mut fold = folded(alloc, old)?;
-    let messages = batch(alloc, old, new, &Limits::USUAL)?;
-    let sizes = sizes(alloc, &messages)?;
-    take_all(alloc, &mut fold, messages)?;
-    Ok((sizes, shows(&fold, new)))
-}
-
-#[test]
-fn a_first_batch_has_all(rt: HostRuntime) -> Result<(), Memory> {
-    let many = view(rt.alloc(), 0, 2_500, 10_000)?;
-    let (sizes, shown) = change(rt.alloc(), None, &many)?;
-    assert_eq!(rt;
-        sizes.as_slice(),
-        [Ok(1_000), Ok(1_000), Ok(500)].as_slice()
-    );
-    assert!(rt; shown);
-    Ok(())
-}
-
-#[test]
-fn a_batch_has_what_changed(rt: HostRuntime) -> Result<(), Memory> {
-    let many = view(rt.alloc(), 0, 2_500, 10_000)?;
-    let others = view(rt.alloc(), 2_000, 1_200, 5_000)?;
-    let (sizes, shown) = change(rt.alloc(), Some(&many), &others)?;
-    let expected = [Ok(1_000), Ok(200), Err(1_000), Err(1_000)];
-    assert_eq!(rt; sizes.as_slice(), expected.as_slice());
-    assert!(rt; shown);
-    Ok(())
-}
-
-#[test]
-fn a_batch_from_a_view_to_itself_is_empty(rt: HostRuntime) -> Result<(), Memory> {
-    let some = view(rt.alloc(), 0, 20, 10_000)?;
-    let (sizes, shown) = change(rt.alloc(), Some(&some), &some)?;
-    assert_eq!(rt; sizes.len(), 0);
-    assert!(rt; shown);
-    Ok(())
-}
-
-#[test]
-fn an_emptied_view_is_told_at_once(rt: HostRuntime) -> Result<(), Memory> {
-    let some = view(rt.alloc(), 0, 20, 10_000)?;
-    let empty = seen_of(rt.alloc(), Message::NoEndpoints(false))?;
-    let (sizes, shown) = change(rt.alloc(), Some(&some), &empty)?;
-    assert_eq!(rt; sizes.as_slice(), [Err(0)].as_slice());
-    assert!(rt; shown);
-    Ok(())
+    let text = match fold.view() {
+        Some(seen) if seen.is_same(&new) => "shows the view",
+        _ => "shows another view",
+    };
+    put_line(out, text)
 }

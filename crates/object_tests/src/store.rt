@@ -2,19 +2,19 @@ ghost use Rattle.std.specs.Prelude.{◌≡◌, IfOk};
 ghost use Rattle.mesh_base.specs.declared.key.Kind.TheVariants.{NetworkAuthentication};
 ghost use Rattle.view_types.specs.Objects.{kind_of, IsListOf};
 
-use crate::told::is_shown;
+use crate::told::{put_line, put_lines, text_of, told};
 use k8s_meta::meta::Meta;
 use mesh_base::boxed::Boxed;
-use mesh_base::key::{Kind, ObjKey};
+use mesh_base::key::Kind;
 use mesh_base::labels::Labels;
 use mesh_base::list::List;
 use mesh_base::memory::Memory;
 use mesh_base::steps::Steps;
 use mesh_base::text::Text;
-use object_store::change::StoreFault;
+use object_store::change::{Change, StoreFault};
 use object_store::store::Store;
+use row_file::TrialFault;
 use std::alloc::Global;
-use std::test::Fail;
 use view_types::authn::NetAuthn;
 use view_types::object::Object;
 
@@ -43,102 +43,54 @@ fn one_network(alloc: Global, name: &str) -> Result<List<Object>, Memory>
     Ok(items)
 }
 
-// What the calls of the test change, in order.
-const FIRST: &str = r#"{old:[],
-        new:[{kind:NetworkAuthentication,ns:"default",name:"a"}]}"#;
-
-const SAME_KEY: &str =
-    r#"{old:[{meta:{ns:"default",name:"a",labels:{},notes:{},created:-},blocks:[]}],
-        new:[{kind:NetworkAuthentication,ns:"default",name:"a"}]}"#;
-
-const LISTED: &str = r#"{old:[{meta:{ns:"default",name:"a",labels:{},notes:{},created:-},blocks:[]},
-        {meta:{ns:"default",name:"b",labels:{},notes:{},created:-},blocks:[]}],
-        new:[{kind:NetworkAuthentication,ns:"default",name:"c"}]}"#;
-
-const GONE: &str = r#"{old:[{meta:{ns:"default",name:"b",labels:{},notes:{},created:-},blocks:[]}],
-        new:[]}"#;
-
-const NOTHING: &str = "{old:[],new:[]}";
-
-const KEY: &str = r#"{kind:NetworkAuthentication,ns:"default",name:"b"}"#;
-
-/// Whether setting an object of the name changes this.
-fn sets(alloc: Global, store: &mut Store, name: &str, expected: &str) -> Result<bool, Fail> {
-    let change = store.set(network(alloc, name)?)?;
-    Ok(is_shown(alloc, &change, expected))
+/// Puts what a call changed, or its fault.
+fn put_change(
+    alloc: Global,
+    change: Result<Change, StoreFault>,
+    out: &mut String,
+) -> Result<(), TrialFault> {
+    match change {
+        Ok(change) => put_lines(out, text_of(alloc, &change)?.as_str()),
+        Err(fault) => put_line(out, format!(in alloc; "{fault:?}")?.as_str()),
+    }
 }
 
-/// Whether a list of one object changes this.
-fn relists(alloc: Global, store: &mut Store, name: &str, expected: &str) -> Result<bool, Fail> {
-    let change = store.relist(Kind::NetworkAuthentication, one_network(alloc, name)?)?;
-    Ok(is_shown(alloc, &change, expected))
-}
-
-/// Whether taking the object at a key out changes this.
-fn removes(alloc: Global, store: &mut Store, key: &ObjKey, expected: &str) -> Result<bool, Fail> {
-    let change = store.remove(key)?;
-    Ok(is_shown(alloc, &change, expected))
-}
-
-/// Whether there is no room for an object of the name.
-fn is_full(alloc: Global, store: &mut Store, name: &str) -> Result<bool, Fail> {
-    let full = store.set(network(alloc, name)?).err();
-    Ok(full == Some(StoreFault::Full { held: 2 }))
-}
-
-/// How many objects of the kind are listed, and how many objects are counted.
-fn sizes(store: &Store) -> (usize, usize) {
-    (
-        store.of_kind(Kind::NetworkAuthentication).len(),
-        store.len(),
+/// Puts how many objects of the kind are listed, and how many objects are counted.
+fn put_sizes(alloc: Global, store: &Store, out: &mut String) -> Result<(), TrialFault> {
+    let listed = store.of_kind(Kind::NetworkAuthentication).len();
+    let held = store.len();
+    put_line(
+        out,
+        format!(in alloc; "{listed} listed, {held} held")?.as_str(),
     )
 }
 
-fn has(store: &Store, key: &ObjKey) -> bool {
-    let mut steps = Steps::<Store>::new();
-    store.get(key, &mut steps).is_some()
+/// Makes the call of a line, which is a word and the name of an object.
+fn step(alloc: Global, store: &mut Store, line: &str, out: &mut String) -> Result<(), TrialFault> {
+    let (call, name) = line.split_once(' ').unwrap_or((line, ""));
+    let key = network(alloc, name)?.key(alloc)?;
+    match call {
+        "set" => put_change(alloc, store.set(network(alloc, name)?), out),
+        "relist" => {
+            let items = one_network(alloc, name)?;
+            put_change(alloc, store.relist(Kind::NetworkAuthentication, items), out)
+        }
+        "remove" => put_change(alloc, Ok(store.remove(&key)?), out),
+        "key" => put_line(out, told(alloc, &key)?.as_str()),
+        "has" => {
+            let found = store.get(&key, &mut Steps::<Store>::new()).is_some();
+            put_line(out, if found { "held" } else { "not held" })
+        }
+        "sizes" => put_sizes(alloc, store, out),
+        _ => Err(TrialFault::new("no call has this name")),
+    }
 }
 
-fn empty_store(alloc: Global) -> Store {
-    Store::new(alloc, 2)
-}
-
-fn full_store(alloc: Global) -> Result<Store, Fail> {
-    let mut store = empty_store(alloc);
-    store.set(network(alloc, "a")?)?;
-    store.set(network(alloc, "b")?)?;
-    Ok(store)
-}
-
-#[test]
-fn objects_are_set(rt: HostRuntime) -> Result<(), Fail> {
-    let alloc = rt.alloc();
-    let mut store = empty_store(alloc);
-    assert!(rt; sets(alloc, &mut store, "a", FIRST)?);
-    assert!(rt; sets(alloc, &mut store, "a", SAME_KEY)?);
-    assert_eq!(rt; sizes(&store), (1, 1));
-    Ok(())
-}
-
-#[test]
-fn a_full_store_is_relisted(rt: HostRuntime) -> Result<(), Fail> {
-    let alloc = rt.alloc();
-    let mut store = full_store(alloc)?;
-    assert!(rt; is_full(alloc, &mut store, "c")?);
-    assert!(rt; relists(alloc, &mut store, "c", LISTED)?);
-    assert_eq!(rt; sizes(&store), (1, 1));
-    Ok(())
-}
-
-#[test]
-fn objects_are_removed(rt: HostRuntime) -> Result<(), Fail> {
-    let alloc = rt.alloc();
-    let mut store = full_store(alloc)?;
-    let key = network(alloc, "b")?.key(alloc)?;
-    assert!(rt; is_shown(alloc, &key, KEY));
-    assert!(rt; has(&store, &key));
-    assert!(rt; removes(alloc, &mut store, &key, GONE)?);
-    assert!(rt; removes(alloc, &mut store, &key, NOTHING)?);
-    assert!(rt; !has(&store, &key));
+/// Makes the call of each line of the input on a store that has room for two objects.
+pub fn store(alloc: Global, input: &str, out: &mut String) -> Result<(), TrialFault> {
+    let mut store = Store::new(alloc, 2);
+    for line in input.lines() {
+        step(alloc, &mut store, line, out)?;
+    }
     Ok(())
 }

@@ -1,62 +1,54 @@
 use crate::show::{Page, Show};
 use mesh_base::copied::Copied;
-use mesh_base::memory::Memory;
+use row_file::TrialFault;
 use std::alloc::Global;
 
-/// The text of what a call gave, and of a copy of it.
-#[derive(Drop)]
-pub struct Told {
-    found: Page,
-    copied: Page,
-}
-
-impl Told {
-    pub fn is(&self, expected: &str) -> bool {
-        self.found.is(expected) && self.copied.is(expected)
-    }
-}
-
-/// Whether this is the value's text.
-pub fn is_shown<T: Show>(alloc: Global, value: &T, expected: &str) -> bool {
+/// The text of a value.
+pub fn text_of<T: Show>(alloc: Global, value: &T) -> Result<String, TrialFault> {
     let mut page = Page::new(alloc);
     value.show(&mut page);
-    page.is(expected)
+    Ok(page.into_text()?)
 }
 
-/// What was given, or the fault.
-pub fn tell<T: Copied + Show, E: Drop + Show>(alloc: Global, given: Result<T, E>) -> Told {
-    match given {
-        Ok(value) => with_copy(alloc, &value),
-        Err(fault) => {
-            let mut told = blank(alloc);
-            fault.show(&mut told.found);
-            fault.show(&mut told.copied);
-            told
+/// The text of a value, and that of its copy if it is another.
+pub fn told<T: Copied + Show>(alloc: Global, value: &T) -> Result<String, TrialFault> {
+    let mut text = text_of(alloc, value)?;
+    let copied = text_of(alloc, &value.copy(alloc)?)?;
+    if copied.as_str() != text.as_str() {
+        text.push_str(" copied: ")?;
+        text.push_str(copied.as_str())?;
+    }
+    Ok(text)
+}
+
+pub fn put_line(out: &mut String, text: &str) -> Result<(), TrialFault> {
+    out.push_str(text)?;
+    out.push('\n')?;
+    Ok(())
+}
+
+/// Puts the text of a struct, with a line for each field and for each item of a list in it.
+pub fn put_lines(out: &mut String, text: &str) -> Result<(), TrialFault> {
+    let mut open = 0u32;
+    let mut is_list = false;
+    let mut is_quoted = false;
+    for c in text.chars() {
+        out.push(c)?;
+        match c {
+            '"' => is_quoted = !is_quoted,
+            _ if is_quoted => {}
+            '{' | '[' | '(' => {
+                open = open.saturating_add(1);
+                if open == 2 {
+                    is_list = c == '[';
+                }
+            }
+            '}' | ']' | ')' => open = open.saturating_sub(1),
+            ',' if open == 1 => out.push_str("\n ")?,
+            ',' if open == 2 && is_list => out.push_str("\n  ")?,
+            _ => {}
         }
     }
-}
-
-/// What was given, or the fault, of which there is a copy too.
-pub fn tell_either<T: Copied + Show, E: Copied + Show>(alloc: Global, given: Result<T, E>) -> Told {
-    match given {
-        Ok(value) => with_copy(alloc, &value),
-        Err(fault) => with_copy(alloc, &fault),
-    }
-}
-
-fn blank(alloc: Global) -> Told {
-    Told {
-        found: Page::new(alloc),
-        copied: Page::new(alloc),
-    }
-}
-
-fn with_copy<T: Copied + Show>(alloc: Global, value: &T) -> Told {
-    let mut told = blank(alloc);
-    value.show(&mut told.found);
-    match value.copy(alloc) {
-        Ok(copy) => copy.show(&mut told.copied),
-        Err(Memory) => Memory.show(&mut told.copied),
-    }
-    told
+    out.push('\n')?;
+    Ok(())
 }

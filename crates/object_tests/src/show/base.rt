@@ -4,40 +4,38 @@ use k8s_meta::meta::Meta;
 use label_select::selector::{SelOp, SelRule, Selector};
 use mesh_base::key::{Kind, ObjKey};
 use mesh_base::labels::Labels;
-use mesh_base::memory::Memory;
 use mesh_base::text::Text;
-use mesh_text::target_text::TargetFault;
 use net_cidr::block::Block;
 use net_cidr::ip::Ip;
 use net_cidr::net::Net;
 
 impl Show for bool {
     fn show(&self, page: &mut Page) {
-        page.put(if *self { "true" } else { "false" });
+        page.put_display(self);
     }
 }
 
 impl Show for u8 {
     fn show(&self, page: &mut Page) {
-        page.put_number(u64::from(*self));
+        page.put_display(self);
     }
 }
 
 impl Show for u16 {
     fn show(&self, page: &mut Page) {
-        page.put_number(u64::from(*self));
+        page.put_display(self);
     }
 }
 
 impl Show for u32 {
     fn show(&self, page: &mut Page) {
-        page.put_number(u64::from(*self));
+        page.put_display(self);
     }
 }
 
 impl Show for u64 {
     fn show(&self, page: &mut Page) {
-        page.put_number(*self);
+        page.put_display(self);
     }
 }
 
@@ -70,18 +68,9 @@ impl Show for Ip {
         match self {
             Ip::V4(number) => {
                 let [a, b, c, d] = number.to_be_bytes();
-                a.show(page);
-                page.put(".");
-                b.show(page);
-                page.put(".");
-                c.show(page);
-                page.put(".");
-                d.show(page);
+                page.put_display(&format_args!("{a}.{b}.{c}.{d}"));
             }
-            Ip::V6(number) => {
-                page.put_hex((*number >> 64) as u64);
-                page.put_hex((*number % (1 << 64)) as u64);
-            }
+            Ip::V6(number) => page.put_display(&format_args!("{number:032x}")),
         }
     }
 }
@@ -103,12 +92,7 @@ impl Show for Block {
 
 impl Show for SelOp {
     fn show(&self, page: &mut Page) {
-        page.put(match self {
-            SelOp::OneOf => "OneOf",
-            SelOp::NoneOf => "NoneOf",
-            SelOp::Present => "Present",
-            SelOp::Lacking => "Lacking",
-        });
+        page.put_debug(self);
     }
 }
 
@@ -129,19 +113,7 @@ impl Show for Selector {
 
 impl Show for Kind {
     fn show(&self, page: &mut Page) {
-        page.put(match self {
-            Kind::Pod => "Pod",
-            Kind::Service => "Service",
-            Kind::EndpointSlice => "EndpointSlice",
-            Kind::ServiceProfile => "ServiceProfile",
-            Kind::Server => "Server",
-            Kind::ServerAuthorization => "ServerAuthorization",
-            Kind::AuthorizationPolicy => "AuthorizationPolicy",
-            Kind::MeshTLSAuthentication => "MeshTLSAuthentication",
-            Kind::NetworkAuthentication => "NetworkAuthentication",
-            Kind::LinkerdRoute => "LinkerdRoute",
-            Kind::GatewayRoute => "GatewayRoute",
-        });
+        page.put_debug(self);
     }
 }
 
@@ -163,24 +135,8 @@ impl Show for Meta {
     }
 }
 
-impl Show for Memory {
-    fn show(&self, page: &mut Page) {
-        page.put("out of memory");
-    }
-}
-
-/// As it is printed.
 impl Show for ReadFault {
     fn show(&self, page: &mut Page) {
-        page.put_fault(self);
-    }
-}
-
-impl Show for TargetFault {
-    fn show(&self, page: &mut Page) {
-        match self {
-            TargetFault::Memory => Memory.show(page),
-            TargetFault::Bad => page.put("Bad"),
-        }
+        page.put_display(self);
     }
 }

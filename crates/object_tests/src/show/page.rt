@@ -1,7 +1,8 @@
-use k8s_meta::fault::ReadFault;
 use mesh_base::boxed::Boxed;
 use mesh_base::list::List;
+use mesh_base::memory::Memory;
 use std::alloc::{AllocError, Global};
+use std::fmt::{Debug, Display};
 
 /// What has a text.
 pub trait Show {
@@ -24,11 +25,11 @@ impl Page {
         }
     }
 
-    pub fn text(&self) -> &str {
+    pub fn into_text(self) -> Result<String, Memory> {
         if self.whole {
-            self.text.as_str()
+            Ok(self.text)
         } else {
-            "out of memory"
+            Err(Memory)
         }
     }
 
@@ -37,19 +38,14 @@ impl Page {
         self.note(done);
     }
 
-    /// As it is printed. One for lack of memory has no text.
-    pub fn put_fault(&mut self, fault: &ReadFault) {
-        let done = write!(self.text, "{fault}");
+    /// As it is printed.
+    pub fn put_display<T: Display>(&mut self, value: &T) {
+        let done = write!(self.text, "{value}");
         self.note(done);
     }
 
-    pub fn put_number(&mut self, number: u64) {
-        let done = write!(self.text, "{number}");
-        self.note(done);
-    }
-
-    pub fn put_hex(&mut self, number: u64) {
-        let done = write!(self.text, "{number:016x}");
+    pub fn put_debug<T: Debug>(&mut self, value: &T) {
+        let done = write!(self.text, "{value:?}");
         self.note(done);
     }
 
@@ -99,18 +95,6 @@ impl Page {
             item.show(self);
         }
         self.put("]");
-    }
-
-    /// Whether the text is this one, whose lines are joined without their blanks at either end.
-    pub fn is(&self, expected: &str) -> bool {
-        let mut rest = self.text();
-        for line in expected.split('\n') {
-            match rest.strip_prefix(line.trim()) {
-                Some(after) => rest = after,
-                None => return false,
-            }
-        }
-        rest.is_empty()
     }
 }
 
