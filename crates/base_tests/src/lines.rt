@@ -4,8 +4,8 @@ use line_run::{LineMachine, Status, run_lines};
 use mesh_base::limits::Limits;
 use mesh_base::list::List;
 use mesh_outside::{MemSink, MemSource, Sink, SinkFault};
+use row_file::{Row, TrialFault};
 use std::alloc::{AllocError, Global};
-use std::test::Fail;
 
 // Writes each line behind its number, refuses those that begin with `!`, and ends in two pieces.
 #[derive(Drop)]
@@ -104,90 +104,47 @@ fn run<K: Sink>(
     Ok(run_lines(alloc, limits, &mut echo, &mut source, sink))
 }
 
-// The line limit is 4 and the input limit 24. A fault comes at the numbered call of the source or
-// the sink.
-#[test]
-fn lines_and_statuses(rt: HostRuntime) -> Result<(), Fail> {
-    let alloc = rt.alloc();
-    for (input, read, write, status, output) in [
-        ("", 0, 0, Status::Done, "end|end|"),
-        (
-            "a\nbb\n\nccc",
-            0,
-            0,
-            Status::Done,
-            "1:a|2:bb|3:|4:ccc|end|end|",
-        ),
-        ("a\r\n\n", 0, 0, Status::Done, "1:a\r|2:|end|end|"),
-        (
-            "12345\n!x\n1234",
-            0,
-            0,
-            Status::SomeRefused,
-            "1:long|2:!x|3:1234|end|end|",
-        ),
-        ("12345", 0, 0, Status::SomeRefused, "1:long|end|end|"),
-        (
-            "0123456789abcdefghijklm",
-            0,
-            0,
-            Status::SomeRefused,
-            "1:long|end|end|",
-        ),
-        ("0123456789abcdefghijklmn", 0, 0, Status::InputTooLong, ""),
-        ("a\nb", 1, 0, Status::ReadFault, ""),
-        ("a\nb", 2, 0, Status::ReadFault, "1:a|"),
-        ("a\nb", 0, 1, Status::WriteFault, ""),
-        ("a\nb", 0, 2, Status::WriteFault, "1:a|"),
-    ] {
-        let mut sink = MemSink::new(alloc);
-        sink.fails = List::from_vec(vec![in alloc; write]?);
-        assert_eq!(rt;
-            run(alloc, SMALL, input.as_bytes(), read, &mut sink)?,
-            status,
-            "at {input}"
-        );
-        assert_eq!(rt; sink.bytes.as_slice(), output.as_bytes(), "at {input}");
-        if write == 0 {
-            let mut sink = OneByte {
-                bytes: Vec::new(alloc),
-            };
-            assert_eq!(rt;
-                run(alloc, SMALL, input.as_bytes(), read, &mut sink)?,
-                status,
-                "at {input}"
-            );
-            assert_eq!(rt; sink.bytes.as_slice(), output.as_bytes(), "at {input}");
+fn number_of(row: &Row, option: &str) -> Result<u64, TrialFault> {
+    Ok(row.option(option).unwrap_or("0").parse::<u64>()?)
+}
+
+/// Writes the status of a run and what it wrote, which is the same where the sink takes one byte of
+/// each piece.
+pub fn lines(alloc: Global, row: &Row, out: &mut String) -> Result<(), TrialFault> {
+    let input = row.input.as_str();
+    let input = input.strip_suffix('\n').unwrap_or(input).as_bytes();
+    let (read, write) = (number_of(row, "read")?, number_of(row, "write")?);
+    let mut sink = MemSink::new(alloc);
+    sink.fails = List::from_vec(vec![in alloc; write]?);
+    let status = run(alloc, SMALL, input, read, &mut sink)?;
+    let output = str::from_utf8(sink.bytes.as_slice())?;
+    let blank = if output.is_empty() { "" } else { " " };
+    write!(out, "{status:?}{blank}{output}\n")?;
+    if write == 0 {
+        let mut slow = OneByte {
+            bytes: Vec::new(alloc),
+        };
+        let again = run(alloc, SMALL, input, read, &mut slow)?;
+        if again != status || slow.bytes.as_slice() != output.as_bytes() {
+            out.push_str("another, one byte at a time\n")?;
         }
     }
     Ok(())
 }
 
-// A line is read in several blocks.
-#[test]
-fn a_long_line(rt: HostRuntime) -> Result<(), Fail> {
-    let alloc = rt.alloc();
+/// Writes the status of a run over a line that is read in several blocks, and what it wrote.
+pub fn long_line(alloc: Global, limit: &str, out: &mut String) -> Result<(), TrialFault> {
     let mut input = vec![in alloc; b'x'; 150_000]?;
     input.extend_from_slice(b"\ny")?;
-    for (line, status, output) in [
-        (149_999, Status::SomeRefused, 7 + 4 + 8),
-        (150_000, Status::Done, 150_003 + 4 + 8),
-    ] {
-        let limits = Limits {
-            line,
-            ..Limits::USUAL
-        };
-        let mut sink = MemSink::new(alloc);
-        assert_eq!(rt;
-            run(alloc, limits, &input, 0, &mut sink)?,
-            status,
-            "at {line}"
-        );
-        assert_eq!(rt; sink.bytes.len(), output, "at {line}");
-        assert!(rt;
-            sink.bytes.as_slice().ends_with(b"|2:y|end|end|"),
-            "at {line}"
-        );
-    }
+    let limits = Limits {
+        line: limit.trim().parse()?,
+        ..Limits::USUAL
+    };
+    let mut sink = MemSink::new(alloc);
+    let status = run(alloc, limits, &input, 0, &mut sink)?;
+    let count = sink.bytes.len();
+    let ends = sink.bytes.as_slice().ends_with(b"|2:y|end|end|");
+    let end = if ends { "ends well" } else { "ends otherwise" };
+    write!(out, "{status:?}, {count} bytes written, {end}\n")?;
     Ok(())
 }

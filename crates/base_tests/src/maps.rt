@@ -1,52 +1,64 @@
 use chunked_map::map::ChunkedMap;
-use std::test::Fail;
+use row_file::TrialFault;
+use std::alloc::Global;
 
 // More than two full chunks. Keys below it come in an order of their own, by steps of 7.
 const COUNT: u64 = 1_500;
 
-// The first pair is that of the least key.
-#[test]
-fn maps_begin_with_the_least_key(rt: HostRuntime) -> Result<(), Fail> {
-    let mut map = ChunkedMap::new(rt.alloc());
-    assert!(rt; map.first_key_value().is_none());
-    assert_eq!(rt; map.insert(5, 10)?, None);
-    assert_eq!(rt; map.insert(3, 6)?, None);
-    assert_eq!(rt; map.insert(8, 16)?, None);
-    let Some((key, value)) = map.first_key_value() else {
-        return Err(Fail::new("the map has no first pair"));
-    };
-    assert_eq!(rt; *key, 3);
-    assert_eq!(rt; *value, 6);
+/// Inserts a value for each key below COUNT, and returns how many keys had none.
+fn fill(map: &mut ChunkedMap<u64, u64>) -> Result<usize, TrialFault> {
+    let mut count = 0usize;
+    for step in 0..COUNT {
+        let key = step * 7 % COUNT;
+        if map.insert(key, step)?.is_none() {
+            count = count.saturating_add(1);
+        }
+    }
+    Ok(count)
+}
+
+/// Removes each key below COUNT, and returns how many were there before and not after.
+fn remove_all(map: &mut ChunkedMap<u64, u64>) -> usize {
+    let mut count = 0usize;
+    for key in 0..COUNT {
+        let was = map.contains_key(&key);
+        if was && map.remove(&key).is_some() && !map.contains_key(&key) {
+            count = count.saturating_add(1);
+        }
+    }
+    count
+}
+
+/// Makes the call of a line, which is a word and up to two numbers.
+fn step(map: &mut ChunkedMap<u64, u64>, line: &str, out: &mut String) -> Result<(), TrialFault> {
+    let mut words = line.split(' ');
+    let call = words.next().unwrap_or("");
+    let key = words.next().unwrap_or("0").parse::<u64>()?;
+    let value = words.next().unwrap_or("0").parse::<u64>()?;
+    match call {
+        "fill" => write!(out, "{} inserted\n", fill(map)?)?,
+        "remove_all" => write!(out, "{} removed\n", remove_all(map))?,
+        "first" => write!(out, "{:?}\n", map.first_key_value())?,
+        "insert" => write!(out, "{:?}\n", map.insert(key, value)?)?,
+        "get" => write!(out, "{:?}\n", map.get(&key).copied())?,
+        "set" => {
+            if let Some(held) = map.get_mut(&key) {
+                *held = value;
+            }
+        }
+        "remove" => write!(out, "{:?}\n", map.remove(&key))?,
+        "len" => write!(out, "{}\n", map.len())?,
+        "is_empty" => write!(out, "{}\n", map.is_empty())?,
+        _ => return Err(TrialFault::new("no call has this name")),
+    }
     Ok(())
 }
 
-// A map keeps a value for each key, replaces it, and loses it with the key.
-#[test]
-fn maps_keep_values(rt: HostRuntime) -> Result<(), Fail> {
-    let mut map = ChunkedMap::new(rt.alloc());
-    assert!(rt; map.is_empty());
-    for step in 0..COUNT {
-        let key = step * 7 % COUNT;
-        assert_eq!(rt; map.insert(key, step)?, None);
+/// Makes the call of each line on a map.
+pub fn map(alloc: Global, input: &str, out: &mut String) -> Result<(), TrialFault> {
+    let mut map = ChunkedMap::new(alloc);
+    for line in input.lines() {
+        step(&mut map, line, out)?;
     }
-    assert_eq!(rt; map.len(), 1_500);
-    assert_eq!(rt; map.get(&0).copied(), Some(0));
-    assert_eq!(rt; map.get(&7).copied(), Some(1));
-    assert_eq!(rt; map.get(&1_493).copied(), Some(1_499));
-    assert_eq!(rt; map.get(&COUNT).copied(), None);
-    assert_eq!(rt; map.insert(7, 99)?, Some(1));
-    if let Some(value) = map.get_mut(&14) {
-        *value = 77;
-    }
-    assert_eq!(rt; map.get(&7).copied(), Some(99));
-    assert_eq!(rt; map.get(&14).copied(), Some(77));
-    assert_eq!(rt; map.len(), 1_500);
-    for key in 0..COUNT {
-        assert!(rt; map.contains_key(&key));
-        assert!(rt; map.remove(&key).is_some());
-        assert!(rt; !map.contains_key(&key));
-    }
-    assert_eq!(rt; map.remove(&7), None);
-    assert!(rt; map.is_empty());
     Ok(())
 }

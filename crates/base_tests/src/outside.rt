@@ -3,69 +3,103 @@ use mesh_outside::{
     MemPatterns, MemSink, Patterns, ReadSource, Sink, Source, SurePatterns, SureSink, SureSource,
     WriteSink,
 };
-use std::test::Fail;
+use row_file::TrialFault;
+use std::alloc::Global;
 
-// With ample memory each is answered, and the bytes of std's reader and writer are passed on.
-#[test]
-fn each_moves_what_there_is(rt: HostRuntime) -> Result<(), Fail> {
-    let alloc = rt.alloc();
-    let mut sink = MemSink::new(alloc);
-    assert_eq!(rt; sink.write(b"hello"), Ok(5));
-    assert_eq!(rt; sink.bytes.as_slice(), b"hello".as_slice());
-
-    let mut buffer = [0; 3];
-    let mut source = ReadSource::new(b"hello".as_slice());
-    assert_eq!(rt; source.read(&mut buffer), Ok(3));
-    assert_eq!(rt; buffer.as_slice(), b"hel".as_slice());
-    assert_eq!(rt; source.read(&mut buffer), Ok(2));
-    assert_eq!(rt; source.read(&mut buffer), Ok(0));
-
-    let mut held = Vec::new(alloc);
-    let mut writer = WriteSink::new(&mut held);
-    assert_eq!(rt; writer.write(b"hello"), Ok(5));
-    assert_eq!(rt; held.as_slice(), b"hello".as_slice());
-
-    let mut patterns = MemPatterns::new(alloc);
-    assert_eq!(rt; patterns.whole(alloc, "a.c", "a.c"), Ok(true));
-    assert_eq!(rt; patterns.whole(alloc, "a.c", "abc"), Ok(false));
-    Ok(())
-}
-
-// The forms that never fail.
-#[test]
-fn each_of_the_sure_moves_what_there_is(rt: HostRuntime) -> Result<(), Fail> {
-    let alloc = rt.alloc();
-    let mut buffer = [0; 3];
-    let mut source = SureSource { bytes: b"hello" };
-    assert_eq!(rt; source.read(&mut buffer), Ok(3));
-    assert_eq!(rt; buffer.as_slice(), b"hel".as_slice());
-    assert_eq!(rt; source.read(&mut buffer), Ok(2));
-    assert_eq!(rt; source.read(&mut buffer), Ok(0));
-
-    let mut sink = SureSink {
-        bytes: Vec::new(alloc),
+/// Writes the input to a sink, and the result and what the sink holds.
+pub fn sink(alloc: Global, kind: &str, input: &str, out: &mut String) -> Result<(), TrialFault> {
+    let piece = input.trim().as_bytes();
+    let (result, held) = match kind {
+        "mem" => {
+            let mut sink = MemSink::new(alloc);
+            let result = sink.write(piece);
+            (result, sink.bytes)
+        }
+        "writer" => {
+            let mut held = Vec::new(alloc);
+            let result = WriteSink::new(&mut held).write(piece);
+            (result, held)
+        }
+        _ => {
+            let mut sink = SureSink {
+                bytes: Vec::new(alloc),
+            };
+            let result = sink.write(piece);
+            (result, sink.bytes)
+        }
     };
-    assert_eq!(rt; sink.write(b"hello"), Ok(5));
-    assert_eq!(rt; sink.bytes.as_slice(), b"hello".as_slice());
-
-    assert_eq!(rt; SurePatterns.whole(alloc, "a.c", "a.c"), Ok(true));
-    assert_eq!(rt; SurePatterns.whole(alloc, "a.c", "abc"), Ok(false));
+    let held = str::from_utf8(&held)?;
+    write!(out, "{result:?} {held}\n")?;
     Ok(())
 }
 
-// A cutter alone, as a session uses it.
-#[test]
-fn a_cutter_cuts_lines(rt: HostRuntime) -> Result<(), Fail> {
-    let alloc = rt.alloc();
+/// Reads three times, and writes the results and the bytes of each.
+fn read<S: Source>(source: &mut S, out: &mut String) -> Result<(), TrialFault> {
+    for _ in 0..3 {
+        let mut buffer = [0; 3];
+        let result = source.read(&mut buffer);
+        let count = match &result {
+            Ok(count) => *count,
+            Err(_) => 0,
+        };
+        let text = str::from_utf8(buffer.get(..count).unwrap_or(b""))?;
+        write!(out, "{result:?} {text}\n")?;
+    }
+    Ok(())
+}
+
+/// Reads the input from a source, in pieces of at most three bytes.
+pub fn source(kind: &str, input: &str, out: &mut String) -> Result<(), TrialFault> {
+    let bytes = input.trim().as_bytes();
+    if kind == "reader" {
+        return read(&mut ReadSource::new(bytes), out);
+    }
+    read(&mut SureSource { bytes }, out)
+}
+
+/// Asks for each line whether its first word as a pattern matches its second.
+fn ask<P: Patterns>(
+    alloc: Global,
+    patterns: &mut P,
+    input: &str,
+    out: &mut String,
+) -> Result<(), TrialFault> {
+    for line in input.lines() {
+        let (pattern, text) = line.split_once(' ').unwrap_or((line, ""));
+        let result = patterns.whole(alloc, pattern, text);
+        write!(out, "{result:?}\n")?;
+    }
+    Ok(())
+}
+
+pub fn patterns(
+    alloc: Global,
+    kind: &str,
+    input: &str,
+    out: &mut String,
+) -> Result<(), TrialFault> {
+    if kind == "mem" {
+        return ask(alloc, &mut MemPatterns::new(alloc), input, out);
+    }
+    ask(alloc, &mut SurePatterns, input, out)
+}
+
+// A cutter alone, as a session uses it. The first line comes in two pieces, and the second is
+// longer than the limit.
+pub fn cutter(alloc: Global, out: &mut String) -> Result<(), TrialFault> {
     let mut cutter = Cutter::new(alloc);
-    assert_eq!(rt; cutter.take(4, b"ab")?, None);
-    assert!(rt; cutter.has_last());
-    assert_eq!(rt; cutter.take(4, b"cd\ne")?, Some(b"e".as_slice()));
-    assert_eq!(rt; cutter.row(4), Some(b"abcd".as_slice()));
+    let rest = cutter.take(4, b"ab")?;
+    let has_last = cutter.has_last();
+    write!(out, "ab: rest {rest:?}, has a last line: {has_last}\n")?;
+    let rest = cutter.take(4, b"cd\ne")?;
+    let row = cutter.row(4) == Some(b"abcd".as_slice());
+    write!(out, "cd, line feed, e: rest {rest:?}, line abcd: {row}\n")?;
     cutter.clear();
-    assert_eq!(rt; cutter.take(4, b"12345\n")?, Some(b"".as_slice()));
-    assert_eq!(rt; cutter.row(4), None);
+    let rest = cutter.take(4, b"12345\n")?;
+    let row = cutter.row(4).is_some();
+    write!(out, "12345, line feed: rest {rest:?}, line: {row}\n")?;
     cutter.clear();
-    assert!(rt; !cutter.has_last());
+    let has_last = cutter.has_last();
+    write!(out, "nothing: has a last line: {has_last}\n")?;
     Ok(())
 }

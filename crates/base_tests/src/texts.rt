@@ -1,7 +1,7 @@
-// Texts and their copies.
 use mesh_base::copied::Copied;
 use mesh_base::memory::Memory;
 use mesh_base::text::{OwnedText, Text};
+use row_file::TrialFault;
 use std::alloc::Global;
 
 // As what has texts in it copies them.
@@ -9,27 +9,34 @@ fn copied<T: Copied>(alloc: Global, value: &T) -> Result<T, Memory> {
     value.copy(alloc)
 }
 
-// A copy takes no memory, which no clause says: the source takes two allocations and the copies
-// none, so this also passes with `rt try --test --fail-alloc 3`.
-#[test]
-fn copies_are_made_where_no_memory_is_left(rt: HostRuntime) -> Result<(), Memory> {
-    let text = Text::from_str(rt.alloc(), "web")?;
-    let copies = [text.copy()?, copied(rt.alloc(), &text)?];
-    for copy in &copies {
-        assert!(rt; *copy == text);
+/// The copies of a text, where the source is gone.
+pub fn copies(alloc: Global, text: &str) -> Result<String, TrialFault> {
+    let text = Text::from_str(alloc, text)?;
+    let first = text.copy()?;
+    let second = copied(alloc, &text)?;
+    if first != text || second != text {
+        return Err(TrialFault::new("a copy is another"));
     }
     drop(text);
-    for copy in &copies {
-        assert_eq!(rt; copy.as_str(), "web");
-    }
-    Ok(())
+    let (first, second) = (first.as_str(), second.as_str());
+    Ok(format!(in alloc; "{first} {second}")?)
 }
 
-#[test]
-fn texts_are_the_strings_that_they_are_made_of(rt: HostRuntime) -> Result<(), Memory> {
-    let string = String::from_str(rt.alloc(), "app/web")?;
-    assert_eq!(rt; Text::from_string(string)?.as_str(), "app/web");
-    let string = String::from_str(rt.alloc(), "app/web")?;
-    assert_eq!(rt; OwnedText::from_string(string).as_str(), "app/web");
-    Ok(())
+/// Makes so many copies of a text of a mebibyte. No clause says that they share its bytes.
+pub fn many_copies(alloc: Global, count: &str) -> Result<String, TrialFault> {
+    let text = Text::from_string("x".repeat(alloc, 1 << 20)?)?;
+    let mut copies = Vec::new(alloc);
+    for _ in 0..count.parse::<u32>()? {
+        copies.push(text.copy()?)?;
+    }
+    let (count, length) = (copies.len(), text.as_str().len());
+    Ok(format!(in alloc; "{count} copies of {length} bytes")?)
+}
+
+/// The texts that are made of a string.
+pub fn strings(alloc: Global, text: &str) -> Result<String, TrialFault> {
+    let shared = Text::from_string(String::from_str(alloc, text)?)?;
+    let owned = OwnedText::from_string(String::from_str(alloc, text)?);
+    let (shared, owned) = (shared.as_str(), owned.as_str());
+    Ok(format!(in alloc; "{shared} {owned}")?)
 }
