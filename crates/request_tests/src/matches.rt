@@ -4,8 +4,8 @@ use mesh_base::memory::Memory;
 use mesh_base::text::Text;
 use mesh_outside::SurePatterns;
 use route_match::best::best_match;
+use row_file::TrialFault;
 use std::alloc::Global;
-use std::test::Fail;
 use view_types::request::HttpRequest;
 use view_types::route::{HttpMatch, PathMatch};
 use view_types::server_view::{RouteRow, RuleRow};
@@ -61,20 +61,8 @@ fn request(alloc: Global, path: &str) -> Result<HttpRequest, Memory> {
     })
 }
 
-// Routes with `,` between them, a path, and the places of the best match: of its route, of its
-// rule, and its own.
-const BEST: &str = "/,/ /x => 0 0 0
-/a,/ /x => 1 0 0
-/|/ /x => 0 0 0
-/a|/ /x => 0 1 0
-/ / /x => 0 0 0
-/a / /x => 0 0 1
-/ /x|/x/ /x => 0 0 1
-/|/ /x/,/x /x => 0 1 1
-/a|/b /b/,/c /x => none";
-
-// The places as words.
-fn places(alloc: Global, routes: &str, path: &str) -> Result<String, Fail> {
+/// The places of the best match of a path.
+fn places(alloc: Global, routes: &str, path: &str, out: &mut String) -> Result<(), TrialFault> {
     let mut rows = List::new(alloc);
     for rules in routes.split(',') {
         rows.add(route(alloc, rules)?)?;
@@ -83,25 +71,21 @@ fn places(alloc: Global, routes: &str, path: &str) -> Result<String, Fail> {
     match best_match(alloc, &mut SurePatterns, &asked, rows.as_slice()) {
         Ok(Some(best)) => {
             let (route, rule, item) = (best.route, best.rule, best.item);
-            Ok(format!(in alloc; "{route} {rule} {item}")?)
+            write!(out, "{route} {rule} {item}\n")?;
         }
-        Ok(None) => Ok(String::from_str(alloc, "none")?),
-        Err(_) => Err(Fail::new("no answer")),
+        Ok(None) => out.push_str("none\n")?,
+        Err(_) => return Err(TrialFault::new("no answer")),
     }
+    Ok(())
 }
 
-// Of equal matches the first is chosen: by its route, then by its rule, then by its place.
-#[test]
-fn best_matches(rt: HostRuntime) -> Result<(), Fail> {
-    let alloc = rt.alloc();
-    for row in BEST.lines() {
-        let Some((given, expected)) = row.split_once(" => ") else {
-            return Err(Fail::new("a row has no answer"));
+/// Writes for each line the places of the best match.
+pub fn best(alloc: Global, input: &str, out: &mut String) -> Result<(), TrialFault> {
+    for line in input.lines() {
+        let Some((routes, path)) = line.rsplit_once(' ') else {
+            return Err(TrialFault::new("a line has no path"));
         };
-        let Some((routes, path)) = given.rsplit_once(' ') else {
-            return Err(Fail::new("a row has no path"));
-        };
-        assert_eq!(rt; places(alloc, routes, path)?.as_str(), expected, "at {row}");
+        places(alloc, routes, path, out)?;
     }
     Ok(())
 }
