@@ -3,12 +3,12 @@ ghost use Rattle.std.specs.Prelude.{◌≡◌, ◌∷◌, [], IfOk};
 use bytes::Bytes;
 use mesh_base::limits::Limits;
 use mesh_base::list::List;
+use row_file::TrialFault;
 use session_core::link::Session;
 use std::alloc::Global;
-use std::test::Fail;
 use view_types::config::Config;
 
-fn two_items(alloc: Global) -> Result<List<Bytes>, Fail>
+fn two_items(alloc: Global) -> Result<List<Bytes>, TrialFault>
     ensures { IfOk result (λ items. items ≡ (97 ∷ 98 ∷ []) ∷ (99 ∷ []) ∷ []) }
 {
     let mut items = List::new(alloc);
@@ -17,18 +17,27 @@ fn two_items(alloc: Global) -> Result<List<Bytes>, Fail>
     Ok(items)
 }
 
-#[test]
-fn items_are_written_one_after_another(rt: HostRuntime) -> Result<(), Fail> {
-    let alloc = rt.alloc();
+fn put_head(session: &Session, out: &mut String) -> Result<(), TrialFault> {
+    let head = session.head();
+    let text = if head.is_empty() {
+        "nothing"
+    } else {
+        str::from_utf8(head)?
+    };
+    write!(out, "{text}\n")?;
+    Ok(())
+}
+
+/// Writes what is left of two items, `ab` and `c`, before each byte that is written.
+pub fn outbox(alloc: Global, out: &mut String) -> Result<(), TrialFault> {
     let config = Config::usual(alloc)?;
     let mut session = Session::new(alloc, &config, &Limits::USUAL)?;
     session.put(two_items(alloc)?)?;
-    assert_eq!(rt; session.head(), b"ab".as_slice());
+    put_head(&session, out)?;
     session.wrote(1);
-    assert_eq!(rt; session.head(), b"b".as_slice());
+    put_head(&session, out)?;
     session.wrote(1);
-    assert_eq!(rt; session.head(), b"c".as_slice());
+    put_head(&session, out)?;
     session.wrote(1);
-    assert!(rt; session.head().is_empty());
-    Ok(())
+    put_head(&session, out)
 }
