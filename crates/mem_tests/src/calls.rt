@@ -2,13 +2,13 @@
 use crate::scripts::{link_and_rest, number};
 use mesh_links::call::{LinkCall, LinkEvent, ReadGot, WriteGot};
 use mesh_links::links::{LinkFault, Links, PollFault};
+use row_file::TrialFault;
 use std::alloc::Global;
-use std::test::Fail;
 
 // The bytes of a buffer, if a row does not say how many.
 const ROOM: usize = 16;
 
-fn push_events(text: &mut String, events: &[LinkEvent]) -> Result<(), Fail> {
+fn push_events(text: &mut String, events: &[LinkEvent]) -> Result<(), TrialFault> {
     if events.is_empty() {
         text.push_str("none")?;
     }
@@ -24,7 +24,7 @@ fn push_events(text: &mut String, events: &[LinkEvent]) -> Result<(), Fail> {
     Ok(())
 }
 
-fn push_bytes(text: &mut String, bytes: &[u8]) -> Result<(), Fail> {
+fn push_bytes(text: &mut String, bytes: &[u8]) -> Result<(), TrialFault> {
     match str::from_utf8(bytes) {
         Ok("") => text.push_str("0")?,
         Ok(bytes) => text.push_str(bytes)?,
@@ -33,7 +33,7 @@ fn push_bytes(text: &mut String, bytes: &[u8]) -> Result<(), Fail> {
     Ok(())
 }
 
-fn push_fault(text: &mut String, fault: LinkFault) -> Result<(), Fail> {
+fn push_fault(text: &mut String, fault: LinkFault) -> Result<(), TrialFault> {
     match fault {
         LinkFault::Failed => text.push_str("failed")?,
         LinkFault::Pending => text.push_str("pending")?,
@@ -42,7 +42,7 @@ fn push_fault(text: &mut String, fault: LinkFault) -> Result<(), Fail> {
     Ok(())
 }
 
-fn push_poll<N: Links>(text: &mut String, links: &mut N) -> Result<(), Fail> {
+fn push_poll<N: Links>(text: &mut String, links: &mut N) -> Result<(), TrialFault> {
     match links.poll(false) {
         Ok(events) => push_events(text, events.as_slice()),
         Err(PollFault::Failed) => Ok(text.push_str("failed")?),
@@ -50,7 +50,7 @@ fn push_poll<N: Links>(text: &mut String, links: &mut N) -> Result<(), Fail> {
     }
 }
 
-fn push_read<N: Links>(text: &mut String, links: &mut N, of: &str) -> Result<(), Fail> {
+fn push_read<N: Links>(text: &mut String, links: &mut N, of: &str) -> Result<(), TrialFault> {
     let (link, room) = link_and_rest(of)?;
     let room = if room.is_empty() {
         ROOM
@@ -65,7 +65,7 @@ fn push_read<N: Links>(text: &mut String, links: &mut N, of: &str) -> Result<(),
     }
 }
 
-fn push_write<N: Links>(text: &mut String, links: &mut N, of: &str) -> Result<(), Fail> {
+fn push_write<N: Links>(text: &mut String, links: &mut N, of: &str) -> Result<(), TrialFault> {
     let (link, piece) = link_and_rest(of)?;
     match links.write(link, piece.as_bytes()) {
         Ok(n) => Ok(write!(text, "{n}")?),
@@ -73,8 +73,8 @@ fn push_write<N: Links>(text: &mut String, links: &mut N, of: &str) -> Result<()
     }
 }
 
-/// Makes the call of a word, and writes what it returns. A close writes nothing.
-pub fn push_call<N: Links>(text: &mut String, links: &mut N, word: &str) -> Result<(), Fail> {
+// Makes the call of a word, and writes what it returns. A close writes nothing.
+fn push_call<N: Links>(text: &mut String, links: &mut N, word: &str) -> Result<(), TrialFault> {
     match word.split_once(':') {
         None => push_poll(text, links),
         Some(("read", of)) => push_read(text, links, of),
@@ -86,7 +86,21 @@ pub fn push_call<N: Links>(text: &mut String, links: &mut N, word: &str) -> Resu
     }
 }
 
-fn push_told(text: &mut String, call: &LinkCall) -> Result<(), Fail> {
+/// Makes calls, and returns what they answer with spaces between.
+pub fn answers<N: Links>(alloc: Global, links: &mut N, calls: &str) -> Result<String, TrialFault> {
+    let mut all = String::new(alloc);
+    for word in calls.split(' ') {
+        let mut answer = String::new(alloc);
+        push_call(&mut answer, links, word)?;
+        if !all.is_empty() && !answer.is_empty() {
+            all.push_str(" ")?;
+        }
+        all.push_str(answer.as_str())?;
+    }
+    Ok(all)
+}
+
+fn push_told(text: &mut String, call: &LinkCall) -> Result<(), TrialFault> {
     match call {
         LinkCall::Poll { got, .. } => match got {
             Some(events) => push_events(text, events.as_slice()),
@@ -107,7 +121,7 @@ fn push_told(text: &mut String, call: &LinkCall) -> Result<(), Fail> {
 }
 
 /// What a trace tells of its calls, with spaces between them.
-pub fn told(alloc: Global, trace: &[LinkCall]) -> Result<String, Fail> {
+pub fn told(alloc: Global, trace: &[LinkCall]) -> Result<String, TrialFault> {
     let mut text = String::new(alloc);
     for call in trace {
         if !text.is_empty() {
