@@ -1,28 +1,13 @@
-use crate::names::{slice, split};
+use crate::names::slice;
 use endpoint_rows::rows::EndpointRows;
 use mesh_base::labels::Labels;
 use mesh_base::list::List;
 use mesh_base::memory::Memory;
 use mesh_base::text::Text;
 use net_cidr::ip::Ip;
+use row_file::TrialFault;
 use std::alloc::Global;
-use std::test::Fail;
 use view_types::endpoint::EndpointRow;
-
-// What happens to the slices, and the rows that are shown then, with what stood where they differ
-// from those shown before. A row is its address, its weight, and its label if it has one, each a
-// single character.
-const ROWS: &str = "put b 31 11 32 => 11 31, 1 was none 3 was none
-put a 17 27 31 => 17 27 31, 1 was 11 2 was none
-put c 19 99 => 17 27 31 99, 9 was none
-take a => 11 31 99, 1 was 17 2 was 27
-take b => 19 99, 1 was 11 3 was 31
-take c; put b 19 99 => 19 99,
-put b 19 99w => 19 99w, 9 was 99
-put b 19 99 => 19 99, 9 was 99w
-restart; put b 99 => 99, 1 was 19
-take none => 99,
-restart => , 9 was 99";
 
 fn labels(alloc: Global, label: &str) -> Result<Labels, Memory> {
     let mut labels = Labels::new(alloc);
@@ -32,10 +17,10 @@ fn labels(alloc: Global, label: &str) -> Result<Labels, Memory> {
     Ok(labels)
 }
 
-fn digit(word: &str, at: usize) -> Result<u32, Fail> {
+fn digit(word: &str, at: usize) -> Result<u32, TrialFault> {
     match word.as_bytes().get(at) {
         Some(byte) if byte.is_ascii_digit() => Ok(u32::from(*byte - b'0')),
-        _ => Err(Fail::new("a row lacks a digit")),
+        _ => Err(TrialFault::new("a row lacks a digit")),
     }
 }
 
@@ -46,7 +31,7 @@ fn label_of(word: &str) -> &str {
     }
 }
 
-fn row(alloc: Global, word: &str) -> Result<EndpointRow, Fail> {
+fn row(alloc: Global, word: &str) -> Result<EndpointRow, TrialFault> {
     Ok(EndpointRow {
         ip: Ip::V4(digit(word, 0)?),
         port: 80,
@@ -58,7 +43,7 @@ fn row(alloc: Global, word: &str) -> Result<EndpointRow, Fail> {
     })
 }
 
-fn rows(alloc: Global, words: &str) -> Result<List<EndpointRow>, Fail> {
+fn rows(alloc: Global, words: &str) -> Result<List<EndpointRow>, TrialFault> {
     let mut all = List::new(alloc);
     for word in words.split(' ') {
         all.add(row(alloc, word)?)?;
@@ -66,13 +51,15 @@ fn rows(alloc: Global, words: &str) -> Result<List<EndpointRow>, Fail> {
     Ok(all)
 }
 
-fn step(alloc: Global, kept: &mut EndpointRows, step: &str) -> Result<(), Fail> {
+fn step(alloc: Global, kept: &mut EndpointRows, step: &str) -> Result<(), TrialFault> {
     if step == "restart" {
         kept.restart(true)?;
     } else if let Some(name) = step.strip_prefix("take ") {
         kept.take_slice(&slice(alloc, name)?)?;
     } else if let Some((name, words)) = put_of(step) {
         kept.put_slice(slice(alloc, name)?, rows(alloc, words)?)?;
+    } else {
+        return Err(TrialFault::new("no step is written so"));
     }
     Ok(())
 }
@@ -81,58 +68,50 @@ fn put_of(step: &str) -> Option<(&str, &str)> {
     step.strip_prefix("put ")?.split_once(' ')
 }
 
-fn push_row(alloc: Global, all: &mut String, row: &EndpointRow) -> Result<(), Fail> {
+fn push_row(all: &mut String, row: &EndpointRow) -> Result<(), TrialFault> {
     let label = match row.labels.get(b"app") {
         Some(value) => value.as_str(),
         None => "",
     };
     if let Ip::V4(ip) = row.ip {
         let weight = row.weight;
-        all.push_str(format!(in alloc; "{ip}{weight}{label}")?.as_str())?;
+        write!(all, "{ip}{weight}{label}")?;
     }
     Ok(())
 }
 
-fn push_note(
-    alloc: Global,
-    all: &mut String,
-    note: &(Ip, u16, Option<EndpointRow>),
-) -> Result<(), Fail> {
+fn push_note(all: &mut String, note: &(Ip, u16, Option<EndpointRow>)) -> Result<(), TrialFault> {
     if let Ip::V4(ip) = note.0 {
-        all.push_str(format!(in alloc; " {ip} was ")?.as_str())?;
+        write!(all, " {ip} was ")?;
     }
     match &note.2 {
-        Some(row) => push_row(alloc, all, row),
+        Some(row) => push_row(all, row),
         None => Ok(all.push_str("none")?),
     }
 }
 
-fn shown(alloc: Global, kept: &EndpointRows) -> Result<String, Fail> {
-    let mut all = String::new(alloc);
+/// Makes steps, as `take a; put b 19`, and writes the rows that are shown, with what stood where
+/// they differ from those shown before. A row is its address, its weight, and its label if it has
+/// one, each a single character.
+pub(crate) fn push_slices(
+    alloc: Global,
+    kept: &mut EndpointRows,
+    steps: &str,
+    out: &mut String,
+) -> Result<(), TrialFault> {
+    for words in steps.split("; ") {
+        step(alloc, kept, words)?;
+    }
+    kept.settle()?;
+    let mut before = "";
     for row in kept.view().rows.as_slice() {
-        if !all.is_empty() {
-            all.push_str(" ")?;
-        }
-        push_row(alloc, &mut all, row)?;
+        out.push_str(before)?;
+        push_row(out, row)?;
+        before = " ";
     }
-    all.push_str(",")?;
+    out.push_str(",")?;
     for note in kept.before() {
-        push_note(alloc, &mut all, note)?;
+        push_note(out, note)?;
     }
-    Ok(all)
-}
-
-#[test]
-fn slices_come_and_go(rt: HostRuntime) -> Result<(), Fail> {
-    let alloc = rt.alloc();
-    let mut kept = EndpointRows::new(alloc, true);
-    for row in ROWS.lines() {
-        let (steps, expected) = split(row)?;
-        for word in steps.split("; ") {
-            step(alloc, &mut kept, word)?;
-        }
-        kept.settle()?;
-        assert_eq!(rt; shown(alloc, &kept)?.as_str(), expected, "at {row}");
-    }
-    Ok(())
+    Ok(out.push_str("\n")?)
 }
