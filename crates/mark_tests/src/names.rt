@@ -1,9 +1,10 @@
-// Marks as strings.
-use mesh_base::key::{Kind, ObjKey};
+// Marks in words.
+use mesh_base::key::Kind;
+use mesh_base::text::Text;
 use net_cidr::ip::Ip;
 use net_cidr::packed_ip::PackedIp;
+use row_file::TrialFault;
 use std::alloc::Global;
-use std::test::Fail;
 use view_types::authn::RefKind;
 use view_types::mark::Mark;
 use view_types::route::ParentKind;
@@ -37,60 +38,49 @@ fn parent_name(kind: ParentKind) -> &'static str {
     }
 }
 
-fn ip_text(alloc: Global, ip: PackedIp) -> Result<String, Fail> {
+fn push_ip(ip: PackedIp, out: &mut String) -> Result<(), TrialFault> {
     match ip.get() {
         Ip::V4(n) => {
             let (a, b, c, d) = (n >> 24, n >> 16 & 255, n >> 8 & 255, n & 255);
-            Ok(format!(in alloc; "{a}.{b}.{c}.{d}")?)
+            Ok(writeln!(out, "{a}.{b}.{c}.{d}")?)
         }
-        Ip::V6(_) => Err(Fail::new("no row has an IPv6 address")),
+        Ip::V6(_) => Err(TrialFault::new("no row has an IPv6 address")),
     }
 }
 
-fn key_text(alloc: Global, key: &ObjKey) -> Result<String, Fail> {
-    let (ns, name) = (key.ns.as_str(), key.name.as_str());
-    Ok(format!(in alloc; "{} {ns}/{name}", kind_name(key.kind))?)
+// Writes a namespace and a name.
+fn push_name(ns: &Text, name: &Text, out: &mut String) -> Result<(), TrialFault> {
+    Ok(writeln!(out, " {}/{}", ns.as_str(), name.as_str())?)
 }
 
-fn mark_text(alloc: Global, mark: &Mark) -> Result<String, Fail> {
-    Ok(match mark {
-        Mark::Obj(key) => key_text(alloc, key)?,
-        Mark::SlicesOf(ns, name) => format!(in alloc;
-            "SlicesOf {}/{}",
-            ns.as_str(),
-            name.as_str()
-        )?,
-        Mark::ServersIn(ns) => format!(in alloc; "ServersIn {}", ns.as_str())?,
-        Mark::ServerAuthzIn(ns) => format!(in alloc; "ServerAuthzIn {}", ns.as_str())?,
+/// Writes a mark and a line feed.
+pub(crate) fn push_mark(mark: &Mark, out: &mut String) -> Result<(), TrialFault> {
+    match mark {
+        Mark::Obj(key) => {
+            out.push_str(kind_name(key.kind))?;
+            push_name(&key.ns, &key.name, out)
+        }
+        Mark::SlicesOf(ns, name) => {
+            out.push_str("SlicesOf")?;
+            push_name(ns, name, out)
+        }
+        Mark::ServersIn(ns) => Ok(writeln!(out, "ServersIn {}", ns.as_str())?),
+        Mark::ServerAuthzIn(ns) => Ok(writeln!(out, "ServerAuthzIn {}", ns.as_str())?),
         Mark::PolicyOn(ns, kind, name) => {
-            format!(in alloc;
-                "PolicyOn {} {}/{}",
-                target_name(*kind),
-                ns.as_str(),
-                name.as_str()
-            )?
+            write!(out, "PolicyOn {}", target_name(*kind))?;
+            push_name(ns, name, out)
         }
         Mark::RouteOn(ns, kind, name) => {
-            format!(in alloc;
-                "RouteOn {} {}/{}",
-                parent_name(*kind),
-                ns.as_str(),
-                name.as_str()
-            )?
+            write!(out, "RouteOn {}", parent_name(*kind))?;
+            push_name(ns, name, out)
         }
-        Mark::IpService(ip) => format!(in alloc; "IpService {}", ip_text(alloc, *ip)?.as_str())?,
-        Mark::IpPod(ip) => format!(in alloc; "IpPod {}", ip_text(alloc, *ip)?.as_str())?,
-    })
-}
-
-/// Marks with commas between them.
-pub(crate) fn marks_text(alloc: Global, marks: &[Mark]) -> Result<String, Fail> {
-    let mut text = String::new(alloc);
-    let mut before = "";
-    for mark in marks {
-        text.push_str(before)?;
-        text.push_str(mark_text(alloc, mark)?.as_str())?;
-        before = ", ";
+        Mark::IpService(ip) => {
+            out.push_str("IpService ")?;
+            push_ip(*ip, out)
+        }
+        Mark::IpPod(ip) => {
+            out.push_str("IpPod ")?;
+            push_ip(*ip, out)
+        }
     }
-    Ok(text)
 }
