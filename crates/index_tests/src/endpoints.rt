@@ -1,65 +1,53 @@
+// The index of endpoints.
 use crate::objects::{key, object};
 use endpoint_index::index::EndpointIndex;
 use mark_rules::keys::EndpointKey;
 use mesh_base::key::Kind;
+use mesh_base::memory::Memory;
 use mesh_base::steps::Steps;
 use mesh_base::text::Text;
 use net_cidr::ip::Ip;
 use object_store::change::Change;
 use object_store::store::Store;
+use row_file::TrialFault;
 use row_table::row_index::RowIndex;
 use std::alloc::Global;
-use std::test::Fail;
 use view_types::config::Config;
 use view_types::endpoint::EndpointRow;
 use view_types::mark::Mark;
 
-// What happens, and then the endpoints of port 80 of the Service web: whether it exists, its rows,
-// what stood where the last change made a difference, and the Pods that it reads. A row is its
-// address, its Pod if that is held, and + if the Pod is meshed.
-const ROWS: &str = "\
-service http => none
-enter => yes , reads
-delete service web => no , reads
-external http => no , reads
-service http => yes , reads
-slice a http 1>p 2 => yes 1 2, 1 was none 2 was none reads p
-meshed p => yes 1p+ 2, 1 was 1 reads p
-bare p => yes 1p 2, 1 was 1p+ reads p
-wide p => yes 1p+ 2, 1 was 1p reads p
-meshed p => yes 1p+ 2, reads p
-delete pod p => yes 1 2, 1 was 1p+ reads p
-meshed q => yes 1 2, reads p
-slice a http 2 => yes 2, 1 was 1 reads
-slice a http 1>p 2 => yes 1 2, 1 was none reads p
-slice a http 1>q 2 => yes 1q+ 2, 1 was 1 reads q
-slice b http 1 3 => yes 1q+ 2 3, 3 was none reads q
-slice a http 2 => yes 1 2 3, 1 was 1q+ reads
-slice a http 1>q 2 => yes 1q+ 2 3, 1 was 1 reads q
-slice b http 3 => yes 1q+ 2 3, reads q
-names c http 7>q => yes 1q+ 2 3, reads q
-enter => yes 1q+ 2 3, reads q
-leave => yes 1q+ 2 3, reads q
-delete slice a => yes 3, 1 was 1q+ 2 was 2 reads
-service admin => yes , 3 was 3 reads
-slice b admin 3>q => yes 3q+, 3 was none reads q
-service http => yes , 3 was 3q+ reads q
-slice b http 3>q => yes 3q+, 3 was none reads q
-external http => no , 3 was 3q+ reads q
-service http => yes 3q+, 3 was none reads q
-leave => none
-delete slice b => none
-enter => yes , reads
-slice a http 1>q => yes 1q+, 1 was none reads q
-slice b http 2>q => yes 1q+ 2q+, 2 was none reads q
-slice a http 1 => yes 1 2q+, 1 was 1q+ reads q
-bare q => yes 1 2q, 2 was 2q+ reads q
-slice b http 2 => yes 1 2, 2 was 2q reads
-meshed q => yes 1 2, reads
-slice a http 1>q => yes 1q+ 2, 1 was 1 reads q
-bare q => yes 1q 2, 1 was 1q+ reads q";
+/// A store and an index that follows it.
+#[derive(Drop)]
+pub(crate) struct Endpoints {
+    alloc: Global,
+    store: Store,
+    index: EndpointIndex,
+}
 
-fn web(alloc: Global) -> Result<EndpointKey, Fail> {
+/// Returns an index without users, and an empty store.
+pub(crate) fn new_endpoints(alloc: Global) -> Result<Endpoints, Memory> {
+    Ok(Endpoints {
+        alloc,
+        store: Store::new(alloc, 100),
+        index: EndpointIndex::new(alloc, &Config::usual(alloc)?)?,
+    })
+}
+
+impl Endpoints {
+    /// Makes the step of each line, and writes the endpoints of port 80 of the Service `web`:
+    /// whether it exists, its rows, what stood where the last change made a difference, and the
+    /// Pods that it reads. A row is its address, its Pod if that is held, and `+` if the Pod is
+    /// meshed.
+    pub(crate) fn run(&mut self, lines: &str, out: &mut String) -> Result<(), TrialFault> {
+        for line in lines.lines() {
+            step(self.alloc, &mut self.store, &mut self.index, line)?;
+            push_shown(self.alloc, &self.index, out)?;
+        }
+        Ok(())
+    }
+}
+
+fn web(alloc: Global) -> Result<EndpointKey, Memory> {
     Ok(EndpointKey {
         ns: Text::from_str(alloc, "app")?,
         name: Text::from_str(alloc, "web")?,
@@ -67,7 +55,7 @@ fn web(alloc: Global) -> Result<EndpointKey, Fail> {
     })
 }
 
-fn changed(alloc: Global, store: &mut Store, words: &str) -> Result<Change, Fail> {
+fn changed(alloc: Global, store: &mut Store, words: &str) -> Result<Change, TrialFault> {
     if let Some(rest) = words.strip_prefix("delete ") {
         return Ok(store.remove(&key(alloc, rest)?)?);
     }
@@ -79,7 +67,7 @@ fn step(
     store: &mut Store,
     index: &mut EndpointIndex,
     words: &str,
-) -> Result<(), Fail> {
+) -> Result<(), TrialFault> {
     let mut steps = Steps::<Store>::new();
     match words {
         "enter" => index.enter(store, web(alloc)?, &mut steps)?,
@@ -92,13 +80,13 @@ fn step(
     Ok(())
 }
 
-fn push_row(alloc: Global, all: &mut String, row: &EndpointRow) -> Result<(), Fail> {
+fn push_row(all: &mut String, row: &EndpointRow) -> Result<(), TrialFault> {
     let pod = match row.labels.get(b"pod") {
         Some(name) => name.as_str(),
         None => "",
     };
     if let Ip::V4(ip) = row.ip {
-        all.push_str(format!(in alloc; "{ip}{pod}")?.as_str())?;
+        write!(all, "{ip}{pod}")?;
     }
     if is_meshed(row) {
         all.push_str("+")?;
@@ -113,71 +101,49 @@ fn is_meshed(row: &EndpointRow) -> bool {
     }
 }
 
-fn push_rows(alloc: Global, all: &mut String, rows: &[EndpointRow]) -> Result<(), Fail> {
+fn push_rows(all: &mut String, rows: &[EndpointRow]) -> Result<(), TrialFault> {
     let mut between = "";
     for row in rows {
         all.push_str(between)?;
-        push_row(alloc, all, row)?;
+        push_row(all, row)?;
         between = " ";
     }
     Ok(())
 }
 
-fn push_note(
-    alloc: Global,
-    all: &mut String,
-    note: &(Ip, u16, Option<EndpointRow>),
-) -> Result<(), Fail> {
+fn push_note(all: &mut String, note: &(Ip, u16, Option<EndpointRow>)) -> Result<(), TrialFault> {
     if let Ip::V4(ip) = note.0 {
-        all.push_str(format!(in alloc; " {ip} was ")?.as_str())?;
+        write!(all, " {ip} was ")?;
     }
     match &note.2 {
-        Some(row) => push_row(alloc, all, row),
+        Some(row) => push_row(all, row),
         None => Ok(all.push_str("none")?),
     }
 }
 
-fn push_pods(all: &mut String, marks: &[Mark]) -> Result<(), Fail> {
+fn push_pods(all: &mut String, marks: &[Mark]) -> Result<(), TrialFault> {
     all.push_str(" reads")?;
     for mark in marks {
         if let Mark::Obj(key) = mark
             && key.kind == Kind::Pod
         {
-            all.push_str(" ")?;
-            all.push_str(key.name.as_str())?;
+            write!(all, " {}", key.name.as_str())?;
         }
     }
     Ok(())
 }
 
-fn shown(alloc: Global, index: &EndpointIndex) -> Result<String, Fail> {
+fn push_shown(alloc: Global, index: &EndpointIndex, all: &mut String) -> Result<(), TrialFault> {
     let key = web(alloc)?;
-    let mut all = String::new(alloc);
     let Some(view) = index.row(&key) else {
-        all.push_str("none")?;
-        return Ok(all);
+        return Ok(all.push_str("none\n")?);
     };
     all.push_str(if view.exists { "yes " } else { "no " })?;
-    push_rows(alloc, &mut all, view.rows.as_slice())?;
+    push_rows(all, view.rows.as_slice())?;
     all.push_str(",")?;
     for note in index.before(&key) {
-        push_note(alloc, &mut all, note)?;
+        push_note(all, note)?;
     }
-    push_pods(&mut all, index.marks(&key)?.as_slice())?;
-    Ok(all)
-}
-
-#[test]
-fn endpoints_follow_their_objects(rt: HostRuntime) -> Result<(), Fail> {
-    let alloc = rt.alloc();
-    let config = Config::usual(alloc)?;
-    let mut store = Store::new(alloc, 100);
-    let mut index = EndpointIndex::new(alloc, &config)?;
-    for row in ROWS.lines() {
-        let (words, expected) = row.split_once(" => ").ok_or("a row has no endpoints")?;
-        step(alloc, &mut store, &mut index, words)?;
-        let text = shown(alloc, &index)?;
-        assert_eq!(rt; text.as_str(), expected);
-    }
-    Ok(())
+    push_pods(all, index.marks(&key)?.as_slice())?;
+    Ok(all.push_str("\n")?)
 }

@@ -6,20 +6,28 @@ use mesh_base::labels::Labels;
 use mesh_base::list::List;
 use mesh_base::text::Text;
 use net_cidr::ip::Ip;
+use row_file::TrialFault;
 use std::alloc::Global;
-use std::test::Fail;
 use view_types::object::Object;
 use view_types::pod::Pod;
 use view_types::service::{NamedPort, Service};
 use view_types::slice::{Family, Point, Slice};
+
+// The first word, and those after it.
+fn cut(words: &str) -> Result<(&str, &str), TrialFault> {
+    match words.split_once(' ') {
+        Some(parts) => Ok(parts),
+        None => Err(TrialFault::new("an object or a key lacks a word")),
+    }
+}
 
 /// The object of these words, in the namespace app:
 /// - `service PORT` and `external PORT` are the Service web with port 80 of this name;
 /// - `slice NAME PORT POINT..` is a slice of it, with port 8080 of this name; `names` is one of
 ///   host names. A point is an address of one digit, with `>` and a Pod if it targets one;
 /// - `bare NAME`, `meshed NAME` and `wide NAME` are Pods, the last meshed and with six addresses.
-pub(crate) fn object(alloc: Global, words: &str) -> Result<Object, Fail> {
-    let (kind, rest) = words.split_once(' ').ok_or("an object has one word")?;
+pub(crate) fn object(alloc: Global, words: &str) -> Result<Object, TrialFault> {
+    let (kind, rest) = cut(words)?;
     match kind {
         "service" => service(alloc, rest, false),
         "external" => service(alloc, rest, true),
@@ -28,13 +36,13 @@ pub(crate) fn object(alloc: Global, words: &str) -> Result<Object, Fail> {
         "bare" => pod(alloc, rest, "", 1),
         "meshed" => pod(alloc, rest, "linkerd", 1),
         "wide" => pod(alloc, rest, "linkerd", 6),
-        _ => Err(Fail::new("no object is written so")),
+        _ => Err(TrialFault::new("no object is written so")),
     }
 }
 
 /// The key of `pod NAME`, `slice NAME` or `service NAME`.
-pub(crate) fn key(alloc: Global, words: &str) -> Result<ObjKey, Fail> {
-    let (kind, name) = words.split_once(' ').ok_or("a key has one word")?;
+pub(crate) fn key(alloc: Global, words: &str) -> Result<ObjKey, TrialFault> {
+    let (kind, name) = cut(words)?;
     Ok(ObjKey {
         kind: kind_of(kind)?,
         ns: Text::from_str(alloc, "app")?,
@@ -42,16 +50,16 @@ pub(crate) fn key(alloc: Global, words: &str) -> Result<ObjKey, Fail> {
     })
 }
 
-fn kind_of(word: &str) -> Result<Kind, Fail> {
+fn kind_of(word: &str) -> Result<Kind, TrialFault> {
     match word {
         "pod" => Ok(Kind::Pod),
         "slice" => Ok(Kind::EndpointSlice),
         "service" => Ok(Kind::Service),
-        _ => Err(Fail::new("no kind is written so")),
+        _ => Err(TrialFault::new("no kind is written so")),
     }
 }
 
-fn meta(alloc: Global, name: &str, label: &str, value: &str) -> Result<Meta, Fail> {
+fn meta(alloc: Global, name: &str, label: &str, value: &str) -> Result<Meta, TrialFault> {
     let mut labels = Labels::new(alloc);
     if !value.is_empty() {
         labels.put(Text::from_str(alloc, label)?, Text::from_str(alloc, value)?)?;
@@ -65,7 +73,7 @@ fn meta(alloc: Global, name: &str, label: &str, value: &str) -> Result<Meta, Fai
     })
 }
 
-fn ports(alloc: Global, name: &str, port: u16) -> Result<List<NamedPort>, Fail> {
+fn ports(alloc: Global, name: &str, port: u16) -> Result<List<NamedPort>, TrialFault> {
     let mut ports = List::new(alloc);
     ports.add(NamedPort {
         name: Text::from_str(alloc, name)?,
@@ -75,7 +83,7 @@ fn ports(alloc: Global, name: &str, port: u16) -> Result<List<NamedPort>, Fail> 
     Ok(ports)
 }
 
-fn service(alloc: Global, port: &str, external: bool) -> Result<Object, Fail> {
+fn service(alloc: Global, port: &str, external: bool) -> Result<Object, TrialFault> {
     let service = Service {
         meta: meta(alloc, "web", "", "")?,
         external,
@@ -85,9 +93,9 @@ fn service(alloc: Global, port: &str, external: bool) -> Result<Object, Fail> {
     Ok(Object::Service(Boxed::new(alloc, service)?))
 }
 
-fn slice(alloc: Global, words: &str, family: Family) -> Result<Object, Fail> {
-    let (name, rest) = words.split_once(' ').ok_or("a slice has no port")?;
-    let (port, rest) = rest.split_once(' ').ok_or("a slice has no points")?;
+fn slice(alloc: Global, words: &str, family: Family) -> Result<Object, TrialFault> {
+    let (name, rest) = cut(words)?;
+    let (port, rest) = cut(rest)?;
     let slice = Slice {
         meta: meta(alloc, name, "kubernetes.io/service-name", "web")?,
         family,
@@ -97,7 +105,7 @@ fn slice(alloc: Global, words: &str, family: Family) -> Result<Object, Fail> {
     Ok(Object::EndpointSlice(Boxed::new(alloc, slice)?))
 }
 
-fn points(alloc: Global, words: &str) -> Result<List<Point>, Fail> {
+fn points(alloc: Global, words: &str) -> Result<List<Point>, TrialFault> {
     let mut points = List::new(alloc);
     for word in words.split(' ') {
         points.add(point(alloc, word)?)?;
@@ -105,7 +113,7 @@ fn points(alloc: Global, words: &str) -> Result<List<Point>, Fail> {
     Ok(points)
 }
 
-fn point(alloc: Global, word: &str) -> Result<Point, Fail> {
+fn point(alloc: Global, word: &str) -> Result<Point, TrialFault> {
     match word.split_once('>') {
         Some((digit, pod)) => Ok(Point {
             addrs: address(alloc, digit)?,
@@ -120,16 +128,16 @@ fn point(alloc: Global, word: &str) -> Result<Point, Fail> {
     }
 }
 
-fn address(alloc: Global, digit: &str) -> Result<List<Ip>, Fail> {
+fn address(alloc: Global, digit: &str) -> Result<List<Ip>, TrialFault> {
     let mut addrs = List::new(alloc);
     match digit.as_bytes() {
         [byte] if byte.is_ascii_digit() => addrs.add(Ip::V4(u32::from(*byte - b'0')))?,
-        _ => return Err(Fail::new("an address is no digit")),
+        _ => return Err(TrialFault::new("an address is no digit")),
     }
     Ok(addrs)
 }
 
-fn pod(alloc: Global, name: &str, mesh: &str, count: u32) -> Result<Object, Fail> {
+fn pod(alloc: Global, name: &str, mesh: &str, count: u32) -> Result<Object, TrialFault> {
     let mut addrs = List::new(alloc);
     for last in 0..count {
         addrs.add(Ip::V4(last))?;
