@@ -1,9 +1,9 @@
 // The contents of a trace, as words.
-use mesh_links::call::{LinkCall, LinkEvent, ReadGot, WriteGot};
+use mesh_links::call::{LinkCall, ReadGot, WriteGot};
+use row_file::TrialFault;
 use std::alloc::Global;
-use std::test::Fail;
 
-fn push_lines(text: &mut String, shown: &str) -> Result<(), Fail> {
+fn push_lines(text: &mut String, shown: &str) -> Result<(), TrialFault> {
     for (place, line) in shown.lines().enumerate() {
         if place > 0 {
             text.push_str(",")?;
@@ -14,19 +14,19 @@ fn push_lines(text: &mut String, shown: &str) -> Result<(), Fail> {
 }
 
 // Appends bytes as text with a `,` between its lines, or as hex if one is no character of a line.
-fn push_bytes(alloc: Global, text: &mut String, bytes: &[u8]) -> Result<(), Fail> {
+fn push_bytes(alloc: Global, text: &mut String, bytes: &[u8]) -> Result<(), TrialFault> {
     if bytes.iter().any(|byte| *byte < 32 && *byte != b'\n') {
         let hex = hex::encode(alloc, bytes)?;
         return Ok(text.push_str(hex.as_str())?);
     }
     let Ok(shown) = str::from_utf8(bytes) else {
-        return Err(Fail::new("what was written is neither text nor frames"));
+        return Err(TrialFault::new("what was written is neither text nor frames"));
     };
     push_lines(text, shown)
 }
 
 /// Returns the bytes that were written on a link.
-pub fn written(alloc: Global, trace: &[LinkCall], number: u32) -> Result<Vec<u8>, Fail> {
+pub fn written(alloc: Global, trace: &[LinkCall], number: u32) -> Result<Vec<u8>, TrialFault> {
     let mut bytes = Vec::new(alloc);
     for call in trace {
         if let LinkCall::Write { link, piece, got } = call {
@@ -53,36 +53,30 @@ pub fn is_closed(trace: &[LinkCall], number: u32) -> bool {
     false
 }
 
-fn push_closes(text: &mut String, trace: &[LinkCall]) -> Result<(), Fail> {
+/// Writes what was written on each of the links 1 to 4, and which links were closed.
+pub fn push_outcome(alloc: Global, trace: &[LinkCall], out: &mut String) -> Result<(), TrialFault> {
+    for link in 1..5 {
+        let bytes = written(alloc, trace, link)?;
+        if !bytes.is_empty() {
+            write!(out, "{link} ")?;
+            push_bytes(alloc, out, bytes.as_slice())?;
+            out.push_str("\n")?;
+        }
+    }
     for call in trace {
         if let LinkCall::Close { link } = call {
-            write!(text, "closed {link}; ")?;
+            writeln!(out, "closed {link}")?;
         }
     }
     Ok(())
 }
 
-/// Returns what was written on each of the links 1 to 4, and which links were closed.
-pub fn outcome(alloc: Global, trace: &[LinkCall]) -> Result<String, Fail> {
-    let mut text = String::new(alloc);
-    for link in 1..5 {
-        let bytes = written(alloc, trace, link)?;
-        if !bytes.is_empty() {
-            write!(text, "{link} ")?;
-            push_bytes(alloc, &mut text, bytes.as_slice())?;
-            text.push_str("; ")?;
-        }
-    }
-    push_closes(&mut text, trace)?;
-    Ok(text)
-}
-
-fn push_call(text: &mut String, call: &LinkCall) -> Result<(), Fail> {
+fn push_call(text: &mut String, call: &LinkCall) -> Result<(), TrialFault> {
     match call {
         LinkCall::Poll { wait, got } => {
             let word = if *wait { "wait" } else { "poll" };
             match got {
-                Some(events) => push_events(text, word, events.as_slice()),
+                Some(events) => Ok(write!(text, "{word}:{}", events.len())?),
                 None => Ok(write!(text, "{word}!")?),
             }
         }
@@ -103,20 +97,19 @@ fn push_call(text: &mut String, call: &LinkCall) -> Result<(), Fail> {
     }
 }
 
-fn push_events(text: &mut String, word: &str, events: &[LinkEvent]) -> Result<(), Fail> {
-    let n = events.len();
-    Ok(write!(text, "{word}:{n}")?)
-}
-
-/// Returns the calls in their order: `wait` and `poll` with the number of events, `r` and `w` with
-/// the link and the number of bytes, `?` for Pending and `!` for a failure, `c` for a close.
-pub fn calls(alloc: Global, trace: &[LinkCall]) -> Result<String, Fail> {
-    let mut text = String::new(alloc);
-    let mut before = "";
-    for call in trace {
-        text.push_str(before)?;
-        push_call(&mut text, call)?;
-        before = " ";
+/// Writes the calls in their order, with a line for each turn: `wait` and `poll` with the number of
+/// events, `r` and `w` with the link and the number of bytes, `?` for Pending and `!` for a
+/// failure, `c` for a close.
+pub fn push_calls(trace: &[LinkCall], out: &mut String) -> Result<(), TrialFault> {
+    for (place, call) in trace.iter().enumerate() {
+        let between = match call {
+            LinkCall::Poll { .. } => "\n",
+            _ => " ",
+        };
+        if place > 0 {
+            out.push_str(between)?;
+        }
+        push_call(out, call)?;
     }
-    Ok(text)
+    Ok(out.push_str("\n")?)
 }
