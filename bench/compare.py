@@ -6,14 +6,11 @@ one run, with a tenth of the changes. A run that doesn't write as many lines as 
 import argparse
 import os
 import re
-import resource
 import shutil
-import signal
-import subprocess
 import sys
 import tempfile
 
-from measure import PROGRAM
+from measure import PROGRAM, is_ended, present, require_lines, seconds_of, wait, write
 
 TIMES = 3
 LIMIT = 300
@@ -41,7 +38,7 @@ class Clock:
         return ["time", "-f", "%M", *words]
 
     def run(self, usage, told):
-        return Run(usage.ru_utime + usage.ru_stime, int(told.splitlines()[-1]) / 1024)
+        return Run(seconds_of(usage), int(told.splitlines()[-1]) / 1024)
 
     def shown(self, cost, count):
         return f"{cost:9.3f} s" if count is None else f"{cost / count * 1e6:9.1f} us"
@@ -73,10 +70,7 @@ class Bench:
         return max(1, count // self.meter.share)
 
     def write(self, name, lines):
-        path = os.path.join(self.folder, name)
-        with open(path, "w") as out:
-            out.writelines(line + "\n" for line in lines)
-        return path
+        return write(os.path.join(self.folder, name), lines)
 
     def replays(self, lines, wanted):
         """A run of `replay` of each program."""
@@ -103,19 +97,12 @@ class Bench:
 
     def run_once(self, words, path, wanted):
         """A run over a file that writes so many lines."""
-        limit = self.meter.limit
         with open(path, "rb") as source, tempfile.TemporaryFile() as sink, tempfile.TemporaryFile() as told:
-            child = subprocess.Popen(self.meter.command(words), stdin=source, stdout=sink, stderr=told,
-                                     preexec_fn=lambda: resource.setrlimit(resource.RLIMIT_CPU, (limit, limit + 1)))
-            _, status, usage = os.wait4(child.pid, 0)
-            child.returncode = status
+            status, usage = wait(self.meter.command(words), source, sink, told, self.meter.limit)
             if is_ended(status):
                 return Run()
-            sink.seek(0)
+            require_lines(words[0], status, sink, wanted)
             told.seek(0)
-            found = sum(1 for _ in sink)
-            if status or found != wanted:
-                sys.exit(f"{words[0]}: status {os.waitstatus_to_exitcode(status)}, {found} lines written in place of {wanted}")
             return self.meter.run(usage, told.read())
 
     def is_told(self, run):
@@ -144,12 +131,6 @@ class Bench:
         print(f"  {title:62} " + "   ".join(cells), flush=True)
 
 
-def is_ended(status):
-    """Whether a command took too long, alone or under `time`, which tells a signal by a status above 128."""
-    number = os.WTERMSIG(status) if os.WIFSIGNALED(status) else os.WEXITSTATUS(status) - 128
-    return number in (signal.SIGXCPU, signal.SIGKILL)
-
-
 def less(after, before):
     return [run.less(other) for run, other in zip(after, before)]
 
@@ -163,10 +144,7 @@ def main(doc, rows):
     words.add_argument("--instructions", action="store_true", help="count instructions with valgrind in place of processor time")
     words.add_argument("--times", type=int, metavar="N", help=f"the least of so many runs (default: {TIMES}, and one of instructions)")
     arguments = words.parse_args()
-    programs = [os.path.abspath(it) for it in (arguments.program, arguments.old) if it]
-    for program in programs:
-        if not os.access(program, os.X_OK):
-            sys.exit(f"there is no program {program}: run tools/prove first")
+    programs = [present(os.path.abspath(it)) for it in (arguments.program, arguments.old) if it]
     unknown = set(arguments.rows.split(",")) - set(rows)
     if unknown:
         sys.exit(f"there is no row {', '.join(sorted(unknown))}; the rows are {', '.join(rows)}")

@@ -12,17 +12,12 @@ The time for each is that of the run less that of a run without these lines; of 
 cancellation. Beside events and drains stands what it takes to read lines that do nothing: as many BOOKMARK events. A run is ended
 after LIMIT seconds of processor time, and the table then says so. A run that doesn't end with status 0, or doesn't write as many
 lines as it should, ends the measurement."""
-import argparse
-import json
 import os
-import resource
-import signal
 import subprocess
-import sys
 import tempfile
 
-from feed import drain_line, endpoint, service_line, slice_line, subscribe_line
-from measure import PROGRAM
+from feed import drain_line, endpoint, joined, service_line, slice_line, subscribe_line, text_of
+from measure import is_ended, program_of, require_lines, seconds_of, wait, write
 
 EVENTS = 10_000
 PODS = 1_000
@@ -34,16 +29,12 @@ TIMES = 3  # runs of each feed, of which the least counts
 LIMIT = 120  # seconds of processor time of one run
 
 
-def line(value):
-    return json.dumps(value, separators=(",", ":"))
-
-
 def cancel_line(number):
-    return line({"control": "cancel", "id": number})
+    return text_of({"control": "cancel", "id": number})
 
 
 def bookmark_line():
-    return line({"type": "BOOKMARK", "object": {"kind": "Pod", "apiVersion": "v1"}})
+    return text_of({"type": "BOOKMARK", "object": {"kind": "Pod", "apiVersion": "v1"}})
 
 
 # ------------------------------------------------------------------------------------------------ runs
@@ -51,24 +42,16 @@ def bookmark_line():
 def run(program, path, wanted):
     """Processor seconds of a run that writes so many lines, or None where it took too long."""
     with open(path, "rb") as source, tempfile.TemporaryFile() as sink:
-        child = subprocess.Popen([program, "replay"], stdin=source, stdout=sink, stderr=subprocess.DEVNULL,
-                                 preexec_fn=lambda: resource.setrlimit(resource.RLIMIT_CPU, (LIMIT, LIMIT + 1)))
-        _, status, usage = os.wait4(child.pid, 0)
-        child.returncode = status
-        if os.WIFSIGNALED(status) and os.WTERMSIG(status) in (signal.SIGXCPU, signal.SIGKILL):
+        status, usage = wait([program, "replay"], source, sink, subprocess.DEVNULL, LIMIT)
+        if is_ended(status):
             return None
-        sink.seek(0)
-        found = sum(1 for _ in sink)
-    if status or found != wanted:
-        sys.exit(f"{path}: status {os.waitstatus_to_exitcode(status)}, {found} lines written in place of {wanted}")
-    return usage.ru_utime + usage.ru_stime
+        require_lines(program, status, sink, wanted)
+    return seconds_of(usage)
 
 
-def seconds_of(program, folder, lines, wanted):
-    path = os.path.join(folder, "feed.jsonl")
-    with open(path, "w") as out:
-        for text in lines:
-            out.write(text + "\n")
+def least(program, folder, lines, wanted):
+    """The least processor seconds of TIMES runs over a feed, or None where one took too long."""
+    path = write(os.path.join(folder, "feed.jsonl"), lines)
     found = []
     for _ in range(TIMES):
         found.append(run(program, path, wanted))
@@ -103,20 +86,20 @@ def changes(count):
 
 
 def pod_line(number, label):
-    return line({"type": "MODIFIED", "object": {
+    return text_of({"type": "MODIFIED", "object": {
         "kind": "Pod", "apiVersion": "v1", "metadata": {"name": f"web-{number}", "namespace": "app", "labels": {"app": "web", "round": label}},
         "spec": {"containers": [{"ports": [{"name": "http", "containerPort": 8080}]}]}, "status": {"podIP": f"10.1.{number // 250}.{number % 250}"}}})
 
 
 def ports():
     """Pods that a Server selects, with a drained subscription each."""
-    yield line({"type": "ADDED", "object": {
+    yield text_of({"type": "ADDED", "object": {
         "kind": "Server", "apiVersion": "policy.linkerd.io/v1beta3", "metadata": {"name": "web", "namespace": "app"},
         "spec": {"podSelector": {"matchLabels": {"app": "web"}}, "port": 8080}}})
     for number in range(PODS):
         yield pod_line(number, "first")
     for number in range(PODS):
-        yield line({"control": "subscribe", "id": number + 1, "query": {"method": "WatchPort", "workload": f"app:web-{number}", "port": 8080}})
+        yield text_of({"control": "subscribe", "id": number + 1, "query": {"method": "WatchPort", "workload": f"app:web-{number}", "port": 8080}})
         yield drain_line(number + 1)
 
 
@@ -142,48 +125,39 @@ def cancelled(order):
         yield from (cancel_line(CANCELS - number) for number in range(CANCELS))
 
 
-def joined(*parts):
-    for part in parts:
-        yield from part
-
-
 # ------------------------------------------------------------------------------------------------ measurements
 
 def measure_events(program, folder):
     for count in (1_000, 5_000):
-        before = seconds_of(program, folder, services(count), count)
-        after = seconds_of(program, folder, joined(services(count), changes(EVENTS)), count + 2)
+        before = least(program, folder, services(count), count)
+        after = least(program, folder, joined(services(count), changes(EVENTS)), count + 2)
         tell(f"changes of one slice beside {count:,} Services with a Get", EVENTS, after, before)
-    before = seconds_of(program, folder, services(1), 1)
-    after = seconds_of(program, folder, joined(services(1), changes(EVENTS)), 1 + 2)
+    before = least(program, folder, services(1), 1)
+    after = least(program, folder, joined(services(1), changes(EVENTS)), 1 + 2)
     tell("the same beside no other Service", EVENTS, after, before)
 
 
 def measure_pods(program, folder):
-    before = seconds_of(program, folder, joined(ports(), all_cancelled(PODS)), PODS)
-    after = seconds_of(program, folder, joined(ports(), relabelled(), all_cancelled(PODS)), PODS)
+    before = least(program, folder, joined(ports(), all_cancelled(PODS)), PODS)
+    after = least(program, folder, joined(ports(), relabelled(), all_cancelled(PODS)), PODS)
     tell(f"labels of {PODS:,} Pods change beside {PODS:,} WatchPort", ROUNDS * PODS, after, before)
 
 
 def measure_drains(program, folder):
-    before = seconds_of(program, folder, services(ASKED), ASKED)
-    after = seconds_of(program, folder, joined(services(ASKED), (drain_line(number % ASKED + 1) for number in range(DRAINS))), ASKED)
+    before = least(program, folder, services(ASKED), ASKED)
+    after = least(program, folder, joined(services(ASKED), (drain_line(number % ASKED + 1) for number in range(DRAINS))), ASKED)
     tell(f"drains of {ASKED:,} ids that aren't due", DRAINS, after, before)
-    bookmarks = seconds_of(program, folder, joined(services(ASKED), (bookmark_line() for _ in range(DRAINS))), ASKED)
+    bookmarks = least(program, folder, joined(services(ASKED), (bookmark_line() for _ in range(DRAINS))), ASKED)
     tell("lines that do nothing, in place of these drains", DRAINS, bookmarks, before)
 
 
 def measure_cancels(program, folder):
     for order, words in (("first", "cancelled from the first on"), ("last", "cancelled from the last on"), ("at once", "each cancelled at once")):
-        tell(f"subscriptions, {words}", CANCELS, seconds_of(program, folder, cancelled(order), 0))
+        tell(f"subscriptions, {words}", CANCELS, least(program, folder, cancelled(order), 0))
 
 
 def main():
-    words = argparse.ArgumentParser(description=__doc__.splitlines()[0])
-    words.add_argument("program", nargs="?", default=PROGRAM, help="the built linkerd_cli")
-    program = words.parse_args().program
-    if not os.access(program, os.X_OK):
-        sys.exit("there is no proved program: run tools/prove first")
+    program = program_of(__doc__)
     with tempfile.TemporaryDirectory() as folder:
         measure_events(program, folder)
         measure_pods(program, folder)

@@ -7,14 +7,13 @@ and the subscription is drained: one address is added, one removed. The time for
 run over the same events, whose subscription is drained at the end alone, divided by 100. That for each event is the time of this
 run less that of a run in which nobody subscribes before the events, divided by 100. The second time each endpoint has its Pod, so
 that it has labels, an identity and a hint."""
-import argparse
 import os
 import subprocess
 import sys
 import tempfile
 
 from feed import drain_line, endpoint, pod_line, service_line, slice_line, subscribe_line
-from measure import PROGRAM, best
+from measure import best, program_of, write
 
 SLICES = 100
 WIDTH = 100  # endpoints of a slice
@@ -55,12 +54,6 @@ def lines(has_pods, has_drains, is_early=True):
         yield subscribe_line(1, 0)
 
 
-def write(path, feed):
-    with open(path, "w") as out:
-        for line in feed:
-            out.write(line + "\n")
-
-
 def frames(program, path):
     """How many frames a run gives."""
     with open(path, "rb") as source:
@@ -86,11 +79,7 @@ def measure(program, folder, title, has_pods):
 
 
 def main():
-    words = argparse.ArgumentParser(description=__doc__.splitlines()[0])
-    words.add_argument("program", nargs="?", default=PROGRAM, help="the built linkerd_cli")
-    program = words.parse_args().program
-    if not os.access(program, os.X_OK):
-        sys.exit("there is no proved program: run tools/prove first")
+    program = program_of(__doc__)
     with tempfile.TemporaryDirectory() as folder:
         measure(program, folder, "10,000 endpoints", has_pods=False)
         measure(program, folder, "10,000 endpoints with their Pods", has_pods=True)

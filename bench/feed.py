@@ -2,6 +2,17 @@
 import json
 
 
+def text_of(value):
+    """A value as a line."""
+    return json.dumps(value, separators=(",", ":"))
+
+
+def joined(*parts):
+    """The lines of some feeds, one after another."""
+    for part in parts:
+        yield from part
+
+
 def managed_fields(manager, stamp):
     return [{
         "manager": manager, "operation": "Update", "apiVersion": "discovery.k8s.io/v1", "time": stamp,
@@ -35,7 +46,7 @@ def slice_line(number, service, kind="ADDED", endpoints=None):
     stamp = stamp_of(number)
     name = "web-%d-%05x" % (service, number)
     endpoints = [endpoint(number)] if endpoints is None else endpoints
-    return json.dumps({
+    return text_of({
         "type": kind,
         "object": {
             "kind": "EndpointSlice", "apiVersion": "discovery.k8s.io/v1",
@@ -53,12 +64,12 @@ def slice_line(number, service, kind="ADDED", endpoints=None):
             "addressType": "IPv4", "endpoints": endpoints,
             "ports": [{"name": "http", "port": 8080, "protocol": "TCP"}],
         },
-    }, separators=(",", ":"))
+    })
 
 
 def pod_line(number):
     """The Pod that an endpoint targets, in the mesh, about 0.9 KB."""
-    return json.dumps({
+    return text_of({
         "type": "ADDED",
         "object": {
             "kind": "Pod", "apiVersion": "v1",
@@ -78,11 +89,11 @@ def pod_line(number):
             "status": {"phase": "Running", "podIP": address_of(number), "podIPs": [{"ip": address_of(number)}],
                        "conditions": [{"type": "Ready", "status": "True"}]},
         },
-    }, separators=(",", ":"))
+    })
 
 
 def service_line(service):
-    return json.dumps({
+    return text_of({
         "type": "ADDED",
         "object": {
             "kind": "Service", "apiVersion": "v1",
@@ -90,14 +101,13 @@ def service_line(service):
             "spec": {"type": "ClusterIP", "clusterIP": "10.96.%d.%d" % (service // 250, service % 250 + 1),
                      "ports": [{"name": "http", "port": 80, "protocol": "TCP", "targetPort": 8080}]},
         },
-    }, separators=(",", ":"))
+    })
 
 
 def subscribe_line(number, service):
-    return json.dumps({"control": "subscribe", "id": number,
-                       "query": {"method": "Get", "path": "web-%d.app.svc.cluster.local:80" % service}},
-                      separators=(",", ":"))
+    query = {"method": "Get", "path": "web-%d.app.svc.cluster.local:80" % service}
+    return text_of({"control": "subscribe", "id": number, "query": query})
 
 
 def drain_line(number):
-    return json.dumps({"control": "drain", "id": number}, separators=(",", ":"))
+    return text_of({"control": "drain", "id": number})

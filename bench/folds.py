@@ -5,14 +5,12 @@ or the path of a program as its argument.
 A Service has 10 or 10,000 endpoints. 2,000 times one of its slices comes with one endpoint in place of another, and the subscription
 is drained: a message adds an address, another removes one. The time for each change is that of a fold of all frames less that of a
 fold of the first view alone, divided by 2,000."""
-import argparse
 import os
 import subprocess
-import sys
 import tempfile
 
 from feed import drain_line, endpoint, service_line, slice_line, subscribe_line
-from measure import PROGRAM, best
+from measure import best, program_of, write
 
 CHANGES = 2_000
 
@@ -32,20 +30,14 @@ def lines(slices, width, changes):
 def fold(program, folder, slices, width, changes):
     """Processor seconds of a fold of what a replay writes."""
     feed, frames = os.path.join(folder, "feed.jsonl"), os.path.join(folder, "frames.txt")
-    with open(feed, "w") as out:
-        for line in lines(slices, width, changes):
-            out.write(line + "\n")
+    write(feed, lines(slices, width, changes))
     with open(feed, "rb") as source, open(frames, "wb") as sink:
         subprocess.run([program, "replay"], stdin=source, stdout=sink, stderr=subprocess.DEVNULL, check=True)
     return best([program, "fold", "--id", "1", "--method", "Get"], frames)[0]
 
 
 def main():
-    words = argparse.ArgumentParser(description=__doc__.splitlines()[0])
-    words.add_argument("program", nargs="?", default=PROGRAM, help="the built linkerd_cli")
-    program = words.parse_args().program
-    if not os.access(program, os.X_OK):
-        sys.exit("there is no proved program: run tools/prove first")
+    program = program_of(__doc__)
     with tempfile.TemporaryDirectory() as folder:
         for slices, width in ((1, 10), (100, 100)):
             whole, first = (fold(program, folder, slices, width, changes) for changes in (CHANGES, 0))

@@ -10,16 +10,15 @@ memory. All links lead to that server, at most MOST_LINKS besides the subscriber
 seconds. If a wait passes it, or a subscriber is sent other bytes, or the server does with a link what docs/SERVE.md does not say, it is
 said and the status is 1. Needs a program with the command `serve`."""
 import argparse
-import json
-import os
 import random
 import resource
 import socket
 import struct
 import sys
 
+from feed import text_of
 from links import PATH, Loop, Peer, Scene, field, frame, order_of, request
-from measure import PROGRAM
+from measure import PROGRAM, present
 from recording import Wrong
 
 MOST_LINKS = 1_024       # that a server has at once,
@@ -265,7 +264,7 @@ class DeepLine(Lines):
 
 def object_line(group, kind, name, spec, **meta):
     value = {"type": "ADDED", "object": {"apiVersion": group, "kind": kind, "metadata": {"name": name, "namespace": "other", **meta}, "spec": spec}}
-    return json.dumps(value, separators=(",", ":")).encode()
+    return text_of(value).encode()
 
 
 def pattern_lines(pattern):
@@ -279,7 +278,7 @@ def pattern_lines(pattern):
 
 def simulation(path):
     value = {"control": "simulate", "workload": "other:p", "port": 8080, "client": "10.0.0.5", "http": {"path": path}}
-    return json.dumps(value, separators=(",", ":")).encode()
+    return text_of(value).encode()
 
 
 class Patterns(Lines):
@@ -346,8 +345,7 @@ def main():
     for name, value in (("subscribers", 200), ("services", 20), ("changes", 100), ("limit", Loop.limit)):
         words.add_argument(f"--{name}", type=int, default=value, metavar="N", help=f"default: {value:,}")
     it = words.parse_args()
-    if not os.access(it.program, os.X_OK):
-        sys.exit("there is no proved program: run tools/prove first")
+    present(it.program)
     if unknown := set(it.only.split(",")) - set(KINDS):
         sys.exit(f"there is no misbehaviour {', '.join(sorted(unknown))}")
     raise_file_limit(it.subscribers)

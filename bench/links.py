@@ -10,6 +10,7 @@ import tempfile
 import time
 
 from feed import address_of, endpoint, service_line, slice_line
+from measure import write
 from recording import View, Wrong
 
 PATH = b"/io.linkerd.proxy.destination.Destination/Get\n"
@@ -306,10 +307,9 @@ class Scene:
     def check(self, most=None):
         """Compares what each subscriber of so many Services, or of all, folds to with what `diagnose` shows over the same feed."""
         checked = list(self.peers)[:most]
-        with tempfile.NamedTemporaryFile("w", suffix=".jsonl") as out:
-            out.writelines(text + "\n" for text in self.feed.lines)
-            out.flush()
-            expected = {service: self.diagnosis(out.name, service) for service in checked}
+        with tempfile.TemporaryDirectory() as folder:
+            path = write(os.path.join(folder, "feed.jsonl"), self.feed.lines)
+            expected = {service: self.diagnosis(path, service) for service in checked}
         for service in checked:
             for peer in self.peers[service]:
                 if peer.is_closed:

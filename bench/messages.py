@@ -7,7 +7,6 @@ Reading: `fold` over 1,000 lines, each the frame of one message with 1,000 endpo
 stays at 1,000 rows. The time has the hex and the folding in it. Writing: a thousand `Get` subscriptions of a Service with 1,000
 such endpoints, drained at the end, less a run over the same feed with one subscription; the time has the making of the views in
 it. Python parses and serializes the message a thousand times, and does nothing else."""
-import argparse
 import os
 import subprocess
 import sys
@@ -15,17 +14,11 @@ import tempfile
 import time
 
 from feed import endpoint, pod_line, service_line, slice_line, subscribe_line
-from measure import PROGRAM, best
+from measure import best, program_of, write
 
 HERE = os.path.dirname(os.path.abspath(__file__))
 ROWS = 1_000  # endpoints of a message
 TIMES = 1_000
-
-
-def write(path, lines):
-    with open(path, "w") as out:
-        for line in lines:
-            out.write(line + "\n")
 
 
 def feed(subscriptions):
@@ -66,11 +59,7 @@ def python_seconds(frame):
 
 
 def main():
-    parser = argparse.ArgumentParser(description=__doc__, formatter_class=argparse.RawDescriptionHelpFormatter)
-    parser.add_argument("program", nargs="?", default=PROGRAM)
-    program = parser.parse_args().program
-    if not os.access(program, os.X_OK):
-        sys.exit("there is no proved program: run tools/prove first")
+    program = program_of(__doc__)
     with tempfile.TemporaryDirectory() as room:
         one, many, lines = (os.path.join(room, name) for name in ("one", "many", "lines"))
         write(one, feed(1))

@@ -8,13 +8,12 @@
 
 Each row is one measurement of `replay`, as compare.py says. The time of a change is that of a run less that of a run over the same feed
 without the changes. Both have one change before, which pays for what is done once at the first."""
-import json
 import random
 import subprocess
 
 from compare import Bench, main
-from feed import drain_line, endpoint, slice_line
-from simulations import added, authorizations, line as text_of, pod, route, server, simulation
+from feed import drain_line, endpoint, slice_line, text_of
+from simulations import added, authorizations, pod, route, server, simulation
 
 SERVERS = 5_000       # of one namespace, with a Pod and a WatchPort each
 # what is done so often: by the program, and by the older one, which takes long

@@ -14,8 +14,8 @@ import random
 import subprocess
 
 from compare import less, main
-from due import bookmark_line, changes, joined, services
-from feed import drain_line, endpoint, pod_line, service_line, slice_line, subscribe_line
+from due import bookmark_line, changes, services
+from feed import drain_line, endpoint, joined, pod_line, service_line, slice_line, subscribe_line, text_of
 from folds import lines as fold_lines
 from slices import LINES, by_key
 
@@ -104,7 +104,7 @@ def annotated_pod(number):
     """The Pod that an endpoint targets, with an annotation of ANNOTATION bytes, which names no port of it."""
     line = json.loads(pod_line(number))
     line["object"]["metadata"]["annotations"]["config.linkerd.io/opaque-ports"] = ("1-2," * (ANNOTATION // 4))[:-1]
-    return json.dumps(line, separators=(",", ":"))
+    return text_of(line)
 
 
 def annotated_pods(count):

@@ -15,13 +15,12 @@ After each run what each subscriber was sent must fold to what `diagnose` shows 
 alone. Each wait is bounded by --limit seconds; where it is passed, or something doesn't hold, it is said and the status is 1. Needs a
 program with the command `serve`."""
 import argparse
-import os
 import random
 import sys
 import time
 
 from links import PATH, Loop, Peer, Scene, Slow, address_bytes, order_of, percentile, request
-from measure import PROGRAM
+from measure import PROGRAM, present
 from recording import Wrong
 
 LARGE = 400        # endpoints of the Service whose subscribers never read,
@@ -151,8 +150,7 @@ def main():
     for name, value in (("subscribers", 200), ("services", 20), ("changes", 2_000), ("hostile", 20), ("rounds", 24), ("limit", Loop.limit)):
         words.add_argument(f"--{name}", type=int, default=value, metavar="N", help=f"default: {value:,}")
     it = words.parse_args()
-    if not os.access(it.program, os.X_OK):
-        sys.exit("there is no proved program: run tools/prove first")
+    present(it.program)
     Loop.limit = it.limit
     try:
         at_once(it.program, it.subscribers, it.services, it.changes)

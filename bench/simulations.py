@@ -1,22 +1,17 @@
 #!/usr/bin/env python3
 """What a simulated request costs: 10,000 of them over one Server with 20 routes, half of which have regular expressions, and 50
 authorizations. Processor time for each, without what reading the objects takes. Needs the proved program (tools/prove)."""
-import json
 import os
 import random
-import sys
 import tempfile
 
-from measure import PROGRAM, best
+from feed import text_of
+from measure import PROGRAM, best, present, write
 
 SIMULATIONS = 10_000
 ROUTES = 20
 AUTHORIZATIONS = 50
 TRUST = "serviceaccount.identity.linkerd.cluster.local"
-
-
-def line(value):
-    return json.dumps(value, separators=(",", ":"))
 
 
 def added(group, kind, name, spec, **meta):
@@ -54,27 +49,25 @@ def simulation():
             "identity": f"client{random.randrange(AUTHORIZATIONS)}.app.{TRUST}", "http": {"path": path}}
 
 
-def write(path, simulations):
-    with open(path, "w") as feed:
-        lines = [pod(), server(), *(route(number) for number in range(ROUTES))]
-        for number in range(AUTHORIZATIONS):
-            lines.extend(authorizations(number))
-        for it in lines:
-            feed.write(line(it) + "\n")
-        for _ in range(simulations):
-            feed.write(line(simulation()) + "\n")
+def lines(simulations):
+    """The objects, and so many simulations over them."""
+    objects = [pod(), server(), *(route(number) for number in range(ROUTES))]
+    for number in range(AUTHORIZATIONS):
+        objects.extend(authorizations(number))
+    yield from map(text_of, objects)
+    for _ in range(simulations):
+        yield text_of(simulation())
 
 
 def main():
-    if not os.access(PROGRAM, os.X_OK):
-        sys.exit("there is no proved program: run tools/prove first")
+    program = present(PROGRAM)
     random.seed(1)
     with tempfile.TemporaryDirectory() as folder:
         path = os.path.join(folder, "feed.jsonl")
-        write(path, 0)
-        before = best([PROGRAM, "replay"], path)[0]
-        write(path, SIMULATIONS)
-        seconds, memory, status = best([PROGRAM, "replay"], path)
+        write(path, lines(0))
+        before = best([program, "replay"], path)[0]
+        write(path, lines(SIMULATIONS))
+        seconds, memory, status = best([program, "replay"], path)
     print(f"{SIMULATIONS} simulations over {ROUTES} routes and {AUTHORIZATIONS} authorizations: {seconds:.2f} s, {memory:.0f} MB peak, status {status}")
     print(f"  {(seconds - before) / SIMULATIONS * 1e6:.0f} microseconds of processor time for each")
 

@@ -11,19 +11,16 @@ import random
 import tempfile
 
 from feed import service_line, slice_line, subscribe_line
-from measure import table
+from measure import table, write
 
 LINES = 99_900  # with the Services, as many objects as may be held
 
 
-def write(path, numbers, subscriptions):
-    with open(path, "w") as feed:
-        for service in range(100):
-            feed.write(service_line(service) + "\n")
-        for number in numbers:
-            feed.write(slice_line(number, number % 100) + "\n")
-        for number in range(subscriptions):
-            feed.write(subscribe_line(number + 1, number % 100) + "\n")
+def lines(numbers, subscriptions):
+    """A hundred Services, slices with these numbers, and so many subscriptions."""
+    yield from (service_line(service) for service in range(100))
+    yield from (slice_line(number, number % 100) for number in numbers)
+    yield from (subscribe_line(number + 1, number % 100) for number in range(subscriptions))
 
 
 def by_key(numbers):
@@ -42,7 +39,7 @@ def main():
     with tempfile.TemporaryDirectory() as folder:
         path = os.path.join(folder, "feed.jsonl")
         for title, numbers, subscriptions in runs:
-            write(path, numbers, subscriptions)
+            write(path, lines(numbers, subscriptions))
             table(title, path)
 
 

@@ -11,22 +11,14 @@ import os
 import random
 import tempfile
 
-from feed import service_line, slice_line, subscribe_line
-from measure import table
+from feed import joined, service_line, slice_line, subscribe_line, text_of
+from measure import table, write
 
 HELD = 20_000
 LONGEST = 55_000  # in one list line of at most 64 MiB
 EVENTS = 100_000
 ROUTES = 10_000
 RELISTS = 10
-
-
-def write(path, lines):
-    with open(path, "w") as feed:
-        feed.write(service_line(0) + "\n")
-        for line in lines:
-            feed.write(line + "\n")
-        feed.write(subscribe_line(1, 0) + "\n")
 
 
 def added(numbers):
@@ -42,7 +34,7 @@ def listed(numbers):
     for item in items:
         del item["kind"], item["apiVersion"]
     kind = {"kind": "EndpointSliceList", "apiVersion": "discovery.k8s.io/v1", "metadata": {"resourceVersion": "1"}}
-    yield json.dumps(dict(kind, items=items), separators=(",", ":"))
+    yield text_of(dict(kind, items=items))
 
 
 def routes(group, count):
@@ -52,7 +44,7 @@ def routes(group, count):
             "rules": [{"matches": [{"path": {"type": "PathPrefix", "value": "/"}}]}]}
     items = [{"metadata": {"name": f"route-{number:05}", "namespace": "app"}, "spec": spec} for number in range(count)]
     kind = {"kind": "HTTPRouteList", "apiVersion": f"{group}/{version}", "metadata": {"resourceVersion": "1"}}
-    yield json.dumps(dict(kind, items=items), separators=(",", ":"))
+    yield text_of(dict(kind, items=items))
 
 
 def relisted(others):
@@ -81,7 +73,7 @@ def main():
     with tempfile.TemporaryDirectory() as folder:
         path = os.path.join(folder, "feed.jsonl")
         for title, lines in runs:
-            write(path, lines)
+            write(path, joined([service_line(0)], lines, [subscribe_line(1, 0)]))
             table(title, path, keeps=True)
 
 
