@@ -7,6 +7,7 @@ import shutil
 import subprocess
 import sys
 from dataclasses import dataclass
+from typing import Any
 
 
 @dataclass(frozen=True)
@@ -68,7 +69,7 @@ def install(packages: list[Package]) -> None:
     before = [] if os.geteuid() == 0 else ["sudo", "-n"]
     if not packages or shutil.which("apt-get") is None or before and shutil.which("sudo") is None:
         return
-    quiet = {"stdin": subprocess.DEVNULL, "stdout": subprocess.DEVNULL, "stderr": subprocess.DEVNULL}
+    quiet: dict[str, Any] = {"stdin": subprocess.DEVNULL, "stdout": subprocess.DEVNULL, "stderr": subprocess.DEVNULL}
     environment = {**os.environ, "DEBIAN_FRONTEND": "noninteractive"}
     if subprocess.run([*before, *system_command(packages)], env=environment, **quiet).returncode:
         # A fresh machine may have no list of packages yet.

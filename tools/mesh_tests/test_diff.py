@@ -280,6 +280,22 @@ class Diff(Case):
         run = self.mesh("diff", feed, "--delete", "Server/app/web")
         self.assertIn("opens   app/web-1:8080 to anyone (203.0.113.7, no identity): denied default deny -> allowed", run.output)
 
+    def test_an_authorization_that_admits_others(self):
+        """Of an authorization that stays, an identity, a network and the end of an exception come, and an identity goes: each is told."""
+        rules = reference("Server", "a"), reference("MeshTLSAuthentication", "who"), reference("NetworkAuthentication", "where")
+
+        def authentications(identities, *networks):
+            who = new_object("MeshTLSAuthentication", "who", {"identities": list(identities)}, f"{POLICY}/v1alpha1")
+            return who, new_object("NetworkAuthentication", "where", {"networks": list(networks)}, f"{POLICY}/v1alpha1")
+
+        before = authentications("ab", {"cidr": "10.0.0.0/8", "except": ["10.9.0.0/16"]})
+        after = authentications("bc", {"cidr": "10.0.0.0/8"}, {"cidr": "192.168.0.0/16"})
+        feed = feed_of(pod("a-1", "a", "10.0.0.1", 80), server("a", "a", 80), policy("p", *rules), *before)
+        value = self.diff(feed, lines_of(*after), "-o", "json").json()
+        clients, denied, allowed = "the clients of AuthorizationPolicy/p", "denied default deny", "allowed AuthorizationPolicy shop/p"
+        opens = f"shop/a-1:80 to {clients} (10.0.0.1, c; 10.9.0.0, b; 192.168.0.0, b): {denied} -> {allowed}"
+        self.assertEqual(([opens], [f"shop/a-1:80 to {clients} (10.0.0.1, a): {allowed} -> {denied}"]), (value["opens"], value["closes"]))
+
     def test_what_the_api_server_sets(self):
         """A manifest of a route keeps the time of its creation, and one of a Pod its address."""
         older, newer = (new_object("HTTPRoute", name, {"parentRefs": [reference("Server", "a")], "rules": [{}]}) for name in ("z", "a"))
