@@ -1,9 +1,9 @@
-# Command lines, and the command that each gives.
+use crate::shown::compare;
+use std::alloc::Global;
+use std::test::Fail;
 
-# the first word
-commands
-----
- => usage
+// Words, and the expected command.
+const FIRST_WORDS: &str = " => usage
 '' => usage
 replya => usage
 Replay => usage
@@ -36,12 +36,9 @@ replay -- -- => usage
 replay 5 => usage
 fold => usage
 diagnose => usage
-sample => usage
+sample => usage";
 
-# help and version
-commands
-----
-replay -h => usage
+const HELP: &str = "replay -h => usage
 replay --help => usage
 replay --version => usage
 replay -V => usage
@@ -58,12 +55,10 @@ fold --id 7 --method Get --help => usage
 fold --id 7 --method Get --version => usage
 sample 5 -h => usage
 sample 5 --help => usage
-sample 5 --version => usage
+sample 5 --version => usage";
 
-# options of other commands, of none, and the first letters of options
-commands
-----
-replay --id 1 => usage
+// Options of other commands, of none, and the first letters of options.
+const OTHER_OPTIONS: &str = "replay --id 1 => usage
 replay --method Get => usage
 replay --path web.app.svc.cluster.local => usage
 replay --workload app:web-1 => usage
@@ -111,12 +106,9 @@ diagnose --id 1 --method Watch --pat 10.0.0.1:80 => usage
 diagnose --id 1 --method WatchPort --work app:web-1 --port 80 => usage
 diagnose --id 1 --method WatchPort --workload app:web-1 --po 80 => usage
 diagnose --id 1 --method Watch --path 10.0.0.1:80 --tok x => usage
-sample --5 => usage
+sample --5 => usage";
 
-# folds
-commands
-----
-fold --id 0 --method Get => fold 0 Get
+const FOLDS: &str = "fold --id 0 --method Get => fold 0 Get
 fold --id 7 --method Get => fold 7 Get
 fold --id 7 --method GetProfile => fold 7 GetProfile
 fold --id 7 --method WatchPort => fold 7 WatchPort
@@ -159,12 +151,9 @@ fold --id 7 --method Gets => usage
 fold --id 7 --method getProfile => usage
 fold --id 7 --method watch => usage
 fold --id 7 Get => usage
-fold 7 Get => usage
+fold 7 Get => usage";
 
-# samples
-commands
-----
-sample 0 => sample 0
+const SAMPLES: &str = "sample 0 => sample 0
 sample 1 => sample 1
 sample 5 => sample 5
 sample 999 => sample 999
@@ -200,12 +189,78 @@ sample 5 --default-policy audit => sample 5 default-policy=audit
 sample --default-policy=audit -- 5 => sample 5 default-policy=audit
 sample --default-policy 5 => usage
 sample --default-policy => usage
-sample -- --default-policy audit => usage
+sample -- --default-policy audit => usage";
 
-# addresses to listen on, and the other words of a server
-commands
-----
-serve --bind 127.0.0.1:8086 => serve 127.0.0.1:8086
+const POLICIES: &str = "replay --default-policy all-unauthenticated => replay
+replay --default-policy all-authenticated => replay default-policy=all-authenticated
+replay --default-policy cluster-unauthenticated => replay default-policy=cluster-unauthenticated
+replay --default-policy cluster-authenticated => replay default-policy=cluster-authenticated
+replay --default-policy deny => replay default-policy=deny
+replay --default-policy audit => replay default-policy=audit
+replay --default-policy allow => usage
+replay --default-policy Deny => usage
+replay --default-policy all_authenticated => usage
+replay --default-policy deny,audit => usage
+replay --default-policy deny audit => usage
+sample 5 --default-policy all => usage
+diagnose --id 1 --method Watch --path 10.0.0.1:80 --default-policy allow => usage";
+
+const NETWORKS: &str =
+    "replay --cluster-networks 10.0.0.0/8,100.64.0.0/10,172.16.0.0/12,192.168.0.0/16 => replay
+replay --cluster-networks 10.0.0.0/8 => replay cluster-networks=4:a000000/8
+replay --cluster-networks 10.0.0.0/8,192.168.0.0/16 => replay cluster-networks=4:a000000/8,4:c0a80000/16
+replay --cluster-networks 192.168.0.0/16,10.0.0.0/8 => replay cluster-networks=4:c0a80000/16,4:a000000/8
+replay --cluster-networks 10.0.0.0/8,10.0.0.0/8 => replay cluster-networks=4:a000000/8,4:a000000/8
+replay --cluster-networks 10.1.2.3/8 => replay cluster-networks=4:a000000/8
+replay --cluster-networks 10.1.2.3 => replay cluster-networks=4:a010203/32
+replay --cluster-networks 0.0.0.0/0 => replay cluster-networks=4:0/0
+replay --cluster-networks fd00::/8 => replay cluster-networks=6:fd000000000000000000000000000000/8
+replay --cluster-networks ::1 => replay cluster-networks=6:1/128
+replay --cluster-networks ::/0,0.0.0.0/0 => replay cluster-networks=6:0/0,4:0/0
+replay --cluster-networks '' => usage
+replay --cluster-networks , => usage
+replay --cluster-networks ,10.0.0.0/8 => usage
+replay --cluster-networks 10.0.0.0/8, => usage
+replay --cluster-networks 10.0.0.0/8,,192.168.0.0/16 => usage
+replay --cluster-networks 10.0.0.0/8;192.168.0.0/16 => usage
+replay --cluster-networks 10.0.0.0/8 192.168.0.0/16 => usage
+replay --cluster-networks 10.0.0.0/33 => usage
+replay --cluster-networks 10.0.0.0/8,10.0.0.0/33 => usage
+replay --cluster-networks 10.0.0.0/33,10.0.0.0/8 => usage
+replay --cluster-networks ::/129 => usage
+replay --cluster-networks 10.0.0.0/08 => usage
+replay --cluster-networks 10.0.0.0/ => usage
+replay --cluster-networks 10.0.0.0/-1 => usage
+replay --cluster-networks 10.0.0.256/8 => usage
+replay --cluster-networks 10.0.0/8 => usage
+replay --cluster-networks [::1] => usage
+replay --cluster-networks all => usage";
+
+const NAMES: &str = "replay --cluster-domain a => replay cluster-domain=a
+replay --cluster-domain cluster.local => replay
+replay --cluster-domain mesh.example-1.com => replay cluster-domain=mesh.example-1.com
+replay --cluster-domain '' => usage
+replay --cluster-domain Mesh => usage
+replay --cluster-domain a_b => usage
+replay --cluster-domain a/b => usage
+replay --cluster-domain mésh => usage
+replay --cluster-domain -a => usage
+replay --cluster-domain=-a => replay cluster-domain=-a
+replay --trust-domain cluster.local => replay
+replay --trust-domain '' => usage
+replay --trust-domain CLUSTER.LOCAL => usage
+replay --trust-domain a:b => usage
+replay --control-plane-namespace linkerd => replay
+replay --control-plane-namespace '' => usage
+replay --control-plane-namespace Linkerd => usage
+replay --control-plane-namespace l5d,linkerd => usage
+replay --cluster-domain c --trust-domain t --control-plane-namespace n --cluster-networks ::/0 --default-policy deny => replay cluster-domain=c trust-domain=t control-plane-namespace=n cluster-networks=6:0/0 default-policy=deny
+sample 5 --default-policy=deny --cluster-networks=::/0 --control-plane-namespace=n --trust-domain=t --cluster-domain=c => sample 5 cluster-domain=c trust-domain=t control-plane-namespace=n cluster-networks=6:0/0 default-policy=deny
+replay --cluster-domain c --trust-domain T => usage
+replay --cluster-domain C --trust-domain t => usage";
+
+// Addresses to listen on, and the other words of a server.
+const SERVERS: &str = "serve --bind 127.0.0.1:8086 => serve 127.0.0.1:8086
 serve --bind=127.0.0.1:8086 => serve 127.0.0.1:8086
 serve --bind 0.0.0.0:1 => serve 0.0.0.0:1
 serve --bind 255.255.255.255:65535 => serve 255.255.255.255:65535
@@ -271,89 +326,12 @@ serve --bind 127.0.0.1:80 --default-policy allow => usage
 serve --default-policy deny => usage
 SERVE --bind 127.0.0.1:80 => usage
 serves --bind 127.0.0.1:80 => usage
-serv --bind 127.0.0.1:80 => usage
+serv --bind 127.0.0.1:80 => usage";
 
-# default policies
-commands
-----
-replay --default-policy all-unauthenticated => replay
-replay --default-policy all-authenticated => replay default-policy=all-authenticated
-replay --default-policy cluster-unauthenticated => replay default-policy=cluster-unauthenticated
-replay --default-policy cluster-authenticated => replay default-policy=cluster-authenticated
-replay --default-policy deny => replay default-policy=deny
-replay --default-policy audit => replay default-policy=audit
-replay --default-policy allow => usage
-replay --default-policy Deny => usage
-replay --default-policy all_authenticated => usage
-replay --default-policy deny,audit => usage
-replay --default-policy deny audit => usage
-sample 5 --default-policy all => usage
-diagnose --id 1 --method Watch --path 10.0.0.1:80 --default-policy allow => usage
-
-# networks of the cluster
-commands
-----
-replay --cluster-networks 10.0.0.0/8,100.64.0.0/10,172.16.0.0/12,192.168.0.0/16 => replay
-replay --cluster-networks 10.0.0.0/8 => replay cluster-networks=4:a000000/8
-replay --cluster-networks 10.0.0.0/8,192.168.0.0/16 => replay cluster-networks=4:a000000/8,4:c0a80000/16
-replay --cluster-networks 192.168.0.0/16,10.0.0.0/8 => replay cluster-networks=4:c0a80000/16,4:a000000/8
-replay --cluster-networks 10.0.0.0/8,10.0.0.0/8 => replay cluster-networks=4:a000000/8,4:a000000/8
-replay --cluster-networks 10.1.2.3/8 => replay cluster-networks=4:a000000/8
-replay --cluster-networks 10.1.2.3 => replay cluster-networks=4:a010203/32
-replay --cluster-networks 0.0.0.0/0 => replay cluster-networks=4:0/0
-replay --cluster-networks fd00::/8 => replay cluster-networks=6:fd000000000000000000000000000000/8
-replay --cluster-networks ::1 => replay cluster-networks=6:1/128
-replay --cluster-networks ::/0,0.0.0.0/0 => replay cluster-networks=6:0/0,4:0/0
-replay --cluster-networks '' => usage
-replay --cluster-networks , => usage
-replay --cluster-networks ,10.0.0.0/8 => usage
-replay --cluster-networks 10.0.0.0/8, => usage
-replay --cluster-networks 10.0.0.0/8,,192.168.0.0/16 => usage
-replay --cluster-networks 10.0.0.0/8;192.168.0.0/16 => usage
-replay --cluster-networks 10.0.0.0/8 192.168.0.0/16 => usage
-replay --cluster-networks 10.0.0.0/33 => usage
-replay --cluster-networks 10.0.0.0/8,10.0.0.0/33 => usage
-replay --cluster-networks 10.0.0.0/33,10.0.0.0/8 => usage
-replay --cluster-networks ::/129 => usage
-replay --cluster-networks 10.0.0.0/08 => usage
-replay --cluster-networks 10.0.0.0/ => usage
-replay --cluster-networks 10.0.0.0/-1 => usage
-replay --cluster-networks 10.0.0.256/8 => usage
-replay --cluster-networks 10.0.0/8 => usage
-replay --cluster-networks [::1] => usage
-replay --cluster-networks all => usage
-
-# domains and namespaces
-commands
-----
-replay --cluster-domain a => replay cluster-domain=a
-replay --cluster-domain cluster.local => replay
-replay --cluster-domain mesh.example-1.com => replay cluster-domain=mesh.example-1.com
-replay --cluster-domain '' => usage
-replay --cluster-domain Mesh => usage
-replay --cluster-domain a_b => usage
-replay --cluster-domain a/b => usage
-replay --cluster-domain mésh => usage
-replay --cluster-domain -a => usage
-replay --cluster-domain=-a => replay cluster-domain=-a
-replay --trust-domain cluster.local => replay
-replay --trust-domain '' => usage
-replay --trust-domain CLUSTER.LOCAL => usage
-replay --trust-domain a:b => usage
-replay --control-plane-namespace linkerd => replay
-replay --control-plane-namespace '' => usage
-replay --control-plane-namespace Linkerd => usage
-replay --control-plane-namespace l5d,linkerd => usage
-replay --cluster-domain c --trust-domain t --control-plane-namespace n --cluster-networks ::/0 --default-policy deny => replay cluster-domain=c trust-domain=t control-plane-namespace=n cluster-networks=6:0/0 default-policy=deny
-sample 5 --default-policy=deny --cluster-networks=::/0 --control-plane-namespace=n --trust-domain=t --cluster-domain=c => sample 5 cluster-domain=c trust-domain=t control-plane-namespace=n cluster-networks=6:0/0 default-policy=deny
-replay --cluster-domain c --trust-domain T => usage
-replay --cluster-domain C --trust-domain t => usage
-
-# queries of Get
-# All options that the method needs, each of them missing or invalid, and options that it does not need.
-commands
-----
-diagnose --id 1 --method Get --path web.app.svc.cluster.local:8080 => diagnose 1 Get app/web:8080
+// Each method with all options that it needs, with each option missing or invalid, and with options
+// that it does not need.
+const GETS: &str =
+    r#"diagnose --id 1 --method Get --path web.app.svc.cluster.local:8080 => diagnose 1 Get app/web:8080
 diagnose --path=web.app.svc.cluster.local --method=Get --id=0000000001 => diagnose 1 Get app/web:80
 diagnose --id 4294967295 --method Get --path WEB.app.svc.cluster.LOCAL => diagnose 4294967295 Get app/web:80
 diagnose --method Get --path web.app.svc.cluster.local => usage
@@ -387,13 +365,10 @@ diagnose --id 1 --method Get --path web.app.svc.cluster.local --token {"ns":7} =
 diagnose --id 1 --method Get --path web.app.svc.cluster.local --token { => diagnose 1 Get app/web:80
 diagnose --id 1 --method Get --path web.app.svc.cluster.local --token [] => diagnose 1 Get app/web:80
 diagnose --id 1 --method Get --path web.app.svc.cluster.local --token '' => diagnose 1 Get app/web:80
-diagnose --id 1 --method Get -- --path web.app.svc.cluster.local => usage
+diagnose --id 1 --method Get -- --path web.app.svc.cluster.local => usage"#;
 
-# queries of GetProfile
-# The options as for Get.
-commands
-----
-diagnose --id 1 --method GetProfile --path web.app.svc.cluster.local:8080 => diagnose 1 GetProfile app/web:8080
+const PROFILES: &str =
+    r#"diagnose --id 1 --method GetProfile --path web.app.svc.cluster.local:8080 => diagnose 1 GetProfile app/web:8080
 diagnose --id 1 --method GetProfile --path 10.96.0.10:443 => diagnose 1 GetProfile 4:a60000a:443
 diagnose --id 1 --method GetProfile --path 10.96.0.10 => diagnose 1 GetProfile 4:a60000a:80
 diagnose --id 1 --method GetProfile --path [fd00::1]:443 => diagnose 1 GetProfile 6:fd000000000000000000000000000001:443
@@ -408,13 +383,10 @@ diagnose --id 1 --method getprofile --path 10.96.0.10 => usage
 diagnose --id 1 --method GetProfile --workload app:web-1 --port 80 => usage
 diagnose --id 1 --method GetProfile --path 10.96.0.10 --workload x --port 0 => diagnose 1 GetProfile 4:a60000a:80
 diagnose --id 1 --method GetProfile --path 10.96.0.10 --token {"ns":"cli"} => diagnose 1 GetProfile 4:a60000a:80 ns=cli
-diagnose --id 1 --method GetProfile --path 10.96.0.10 --token { => diagnose 1 GetProfile 4:a60000a:80
+diagnose --id 1 --method GetProfile --path 10.96.0.10 --token { => diagnose 1 GetProfile 4:a60000a:80"#;
 
-# queries of WatchPort and WatchPort2
-# The options as for Get.
-commands
-----
-diagnose --id 1 --method WatchPort --workload app:web-1 --port 8080 => diagnose 1 WatchPort app:web-1:8080
+const PORTS: &str =
+    r#"diagnose --id 1 --method WatchPort --workload app:web-1 --port 8080 => diagnose 1 WatchPort app:web-1:8080
 diagnose --port=8080 --workload=app:web-1 --method=WatchPort --id=1 => diagnose 1 WatchPort app:web-1:8080
 diagnose --id 1 --method WatchPort --workload a.b:web.1 --port 1 => diagnose 1 WatchPort a.b:web.1:1
 diagnose --id 1 --method WatchPort --workload app:web-1 --port 65535 => diagnose 1 WatchPort app:web-1:65535
@@ -452,13 +424,10 @@ diagnose --id 1 --method WatchPort2 --workload app:web-1 => usage
 diagnose --id 1 --method WatchPort2 --port 80 => usage
 diagnose --id 1 --method WatchPort2 --workload web-1 --port 80 => usage
 diagnose --id 1 --method WatchPort2 --path web.app.svc.cluster.local:80 => usage
-diagnose --id 1 --method WatchPort2 --workload app:web-1 --port 80 --path x --token { => diagnose 1 WatchPort2 app:web-1:80
+diagnose --id 1 --method WatchPort2 --workload app:web-1 --port 80 --path x --token { => diagnose 1 WatchPort2 app:web-1:80"#;
 
-# queries of Watch
-# The options as for Get.
-commands
-----
-diagnose --id 1 --method Watch --path 10.9.9.9:443 => diagnose 1 Watch 4:a090909:443
+const TRAFFIC: &str =
+    r#"diagnose --id 1 --method Watch --path 10.9.9.9:443 => diagnose 1 Watch 4:a090909:443
 diagnose --id 1 --method Watch --path web.app.svc.cluster.local => diagnose 1 Watch app/web:80
 diagnose --id 1 --method Watch --path [::1]:8080 => diagnose 1 Watch 6:1:8080
 diagnose --id 1 --method Watch --path 10.9.9.9:443 -- => diagnose 1 Watch 4:a090909:443
@@ -473,15 +442,60 @@ diagnose --id 1 --method Watch --workload app:web-1 --port 80 => usage
 diagnose --id 1 --method Watch --path 10.9.9.9 --token { --workload x --port x => diagnose 1 Watch 4:a090909:80
 diagnose --id 1 --method Watch --path 10.9.9.9 --token {"ns":"cli"} => diagnose 1 Watch 4:a090909:80
 diagnose --id 1 --method Watch --path 10.9.9.9 --cluster-networks x => usage
-diagnose 1 Watch 10.9.9.9 => usage
+diagnose 1 Watch 10.9.9.9 => usage"#;
 
-# the longest names
-# A name has at most 253 bytes. The names here have 253 and 254 letters.
-commands
-----
-replay --cluster-domain aaaaaaaaaaaaaaaaaaaaaaaaaaaaaaaaaaaaaaaaaaaaaaaaaaaaaaaaaaaaaaaaaaaaaaaaaaaaaaaaaaaaaaaaaaaaaaaaaaaaaaaaaaaaaaaaaaaaaaaaaaaaaaaaaaaaaaaaaaaaaaaaaaaaaaaaaaaaaaaaaaaaaaaaaaaaaaaaaaaaaaaaaaaaaaaaaaaaaaaaaaaaaaaaaaaaaaaaaaaaaaaaaaaaaaaaaaaaaaaaaaaaaaaaaaaaa => replay cluster-domain=aaaaaaaaaaaaaaaaaaaaaaaaaaaaaaaaaaaaaaaaaaaaaaaaaaaaaaaaaaaaaaaaaaaaaaaaaaaaaaaaaaaaaaaaaaaaaaaaaaaaaaaaaaaaaaaaaaaaaaaaaaaaaaaaaaaaaaaaaaaaaaaaaaaaaaaaaaaaaaaaaaaaaaaaaaaaaaaaaaaaaaaaaaaaaaaaaaaaaaaaaaaaaaaaaaaaaaaaaaaaaaaaaaaaaaaaaaaaaaaaaaaaaaaaaaaaa
-replay --cluster-domain aaaaaaaaaaaaaaaaaaaaaaaaaaaaaaaaaaaaaaaaaaaaaaaaaaaaaaaaaaaaaaaaaaaaaaaaaaaaaaaaaaaaaaaaaaaaaaaaaaaaaaaaaaaaaaaaaaaaaaaaaaaaaaaaaaaaaaaaaaaaaaaaaaaaaaaaaaaaaaaaaaaaaaaaaaaaaaaaaaaaaaaaaaaaaaaaaaaaaaaaaaaaaaaaaaaaaaaaaaaaaaaaaaaaaaaaaaaaaaaaaaaaaaaaaaaaaa => usage
-replay --trust-domain aaaaaaaaaaaaaaaaaaaaaaaaaaaaaaaaaaaaaaaaaaaaaaaaaaaaaaaaaaaaaaaaaaaaaaaaaaaaaaaaaaaaaaaaaaaaaaaaaaaaaaaaaaaaaaaaaaaaaaaaaaaaaaaaaaaaaaaaaaaaaaaaaaaaaaaaaaaaaaaaaaaaaaaaaaaaaaaaaaaaaaaaaaaaaaaaaaaaaaaaaaaaaaaaaaaaaaaaaaaaaaaaaaaaaaaaaaaaaaaaaaaaaaaaaaaaa => replay trust-domain=aaaaaaaaaaaaaaaaaaaaaaaaaaaaaaaaaaaaaaaaaaaaaaaaaaaaaaaaaaaaaaaaaaaaaaaaaaaaaaaaaaaaaaaaaaaaaaaaaaaaaaaaaaaaaaaaaaaaaaaaaaaaaaaaaaaaaaaaaaaaaaaaaaaaaaaaaaaaaaaaaaaaaaaaaaaaaaaaaaaaaaaaaaaaaaaaaaaaaaaaaaaaaaaaaaaaaaaaaaaaaaaaaaaaaaaaaaaaaaaaaaaaaaaaaaaaa
-replay --trust-domain aaaaaaaaaaaaaaaaaaaaaaaaaaaaaaaaaaaaaaaaaaaaaaaaaaaaaaaaaaaaaaaaaaaaaaaaaaaaaaaaaaaaaaaaaaaaaaaaaaaaaaaaaaaaaaaaaaaaaaaaaaaaaaaaaaaaaaaaaaaaaaaaaaaaaaaaaaaaaaaaaaaaaaaaaaaaaaaaaaaaaaaaaaaaaaaaaaaaaaaaaaaaaaaaaaaaaaaaaaaaaaaaaaaaaaaaaaaaaaaaaaaaaaaaaaaaaa => usage
-replay --control-plane-namespace aaaaaaaaaaaaaaaaaaaaaaaaaaaaaaaaaaaaaaaaaaaaaaaaaaaaaaaaaaaaaaaaaaaaaaaaaaaaaaaaaaaaaaaaaaaaaaaaaaaaaaaaaaaaaaaaaaaaaaaaaaaaaaaaaaaaaaaaaaaaaaaaaaaaaaaaaaaaaaaaaaaaaaaaaaaaaaaaaaaaaaaaaaaaaaaaaaaaaaaaaaaaaaaaaaaaaaaaaaaaaaaaaaaaaaaaaaaaaaaaaaaaaaaaaaaaa => replay control-plane-namespace=aaaaaaaaaaaaaaaaaaaaaaaaaaaaaaaaaaaaaaaaaaaaaaaaaaaaaaaaaaaaaaaaaaaaaaaaaaaaaaaaaaaaaaaaaaaaaaaaaaaaaaaaaaaaaaaaaaaaaaaaaaaaaaaaaaaaaaaaaaaaaaaaaaaaaaaaaaaaaaaaaaaaaaaaaaaaaaaaaaaaaaaaaaaaaaaaaaaaaaaaaaaaaaaaaaaaaaaaaaaaaaaaaaaaaaaaaaaaaaaaaaaaaaaaaaaaa
-replay --control-plane-namespace aaaaaaaaaaaaaaaaaaaaaaaaaaaaaaaaaaaaaaaaaaaaaaaaaaaaaaaaaaaaaaaaaaaaaaaaaaaaaaaaaaaaaaaaaaaaaaaaaaaaaaaaaaaaaaaaaaaaaaaaaaaaaaaaaaaaaaaaaaaaaaaaaaaaaaaaaaaaaaaaaaaaaaaaaaaaaaaaaaaaaaaaaaaaaaaaaaaaaaaaaaaaaaaaaaaaaaaaaaaaaaaaaaaaaaaaaaaaaaaaaaaaaaaaaaaaaa => usage
+// Appends the rows that do not pass. A row that cannot be split fails the test.
+fn compare_all(alloc: Global, wrong: &mut String, rows: &str) -> Result<(), Fail> {
+    for row in rows.lines() {
+        let Some((line, expected)) = row.split_once(" => ") else {
+            return Err(Fail::new("a row has no =>"));
+        };
+        compare(alloc, wrong, line, expected)?;
+    }
+    Ok(())
+}
+
+#[test]
+fn each_command(rt: HostRuntime) -> Result<(), Fail> {
+    let alloc = rt.alloc();
+    let mut wrong = String::new(alloc);
+    for rows in [
+        FIRST_WORDS,
+        HELP,
+        OTHER_OPTIONS,
+        FOLDS,
+        SAMPLES,
+        SERVERS,
+        POLICIES,
+        NETWORKS,
+        NAMES,
+        GETS,
+        PROFILES,
+        PORTS,
+        TRAFFIC,
+    ] {
+        compare_all(alloc, &mut wrong, rows)?;
+    }
+    assert_eq!(rt; wrong.as_str(), "");
+    Ok(())
+}
+
+// A name has at most 253 bytes.
+#[test]
+fn the_longest_names(rt: HostRuntime) -> Result<(), Fail> {
+    let alloc = rt.alloc();
+    let mut wrong = String::new(alloc);
+    let mut name = String::new(alloc);
+    for _ in 0..253 {
+        name.push('a')?;
+    }
+    for option in ["cluster-domain", "trust-domain", "control-plane-namespace"] {
+        let line = format!(in alloc; "replay --{option} {name}")?;
+        let expected = format!(in alloc; "replay {option}={name}")?;
+        compare(alloc, &mut wrong, &line, &expected)?;
+        let line = format!(in alloc; "replay --{option} {name}a")?;
+        compare(alloc, &mut wrong, &line, "usage")?;
+    }
+    assert_eq!(rt; wrong.as_str(), "");
+    Ok(())
+}
