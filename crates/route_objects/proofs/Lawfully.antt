@@ -17,7 +17,7 @@ use Rattle.mesh_text.specs.Methods.{method}
 use Rattle.mesh_text.proofs.MethodTexts.{IsSome, method_gives, method_utf8}
 use Rattle.route_objects.specs.Backends.{backend_at}
 use Rattle.route_objects.specs.Filters.{filter_at}
-use Rattle.route_objects.specs.Matches.{default_match, match_at, path_at, path_match, some_match}
+use Rattle.route_objects.specs.Matches.{default_match, match_at, or_one, path_at, path_match}
 use Rattle.route_objects.specs.NameMatches.{name_match_at}
 use Rattle.route_objects.specs.Parents.{parent_at}
 use Rattle.route_objects.specs.Routes.{route_at}
@@ -26,7 +26,6 @@ use Rattle.route_objects.specs.declared.matches.PathForm.{PathForm}
 use Rattle.route_objects.specs.declared.matches.PathForm.TheVariants as forms
 use Rattle.route_objects.proofs.Parts.{IsSomeText, backend_gives, filter_gives, name_match_gives, parent_gives}
 use Rattle.view_types.specs.Lawful.{IsLawfulBackend, IsLawfulFilter, IsLawfulMatch, IsLawfulName, IsLawfulParent, IsLawfulPath, IsLawfulRoute, IsLawfulRule}
-use Rattle.view_types.specs.declared.route.HttpMatch.{HttpMatch}
 
 -- ---- matches
 
@@ -63,9 +62,9 @@ match_gives s =
 default_is : IsLawfulMatch default_match
 default_is = record { path = slash_utf8; headers = tt; query = tt; method = tt; filled = λ h. cc }
 
-some_match_is : (ms : List HttpMatch) → AllByRecursion IsLawfulMatch ms → AllByRecursion IsLawfulMatch (some_match ms)
-some_match_is [] all = (default_is, tt)
-some_match_is (m ∷ ms) all = all
+pub or_one_gives : {A : Type 0} (P : A → Type 0) (one : A) (xs : List A) → P one → AllByRecursion P xs → AllByRecursion P (or_one one xs)
+or_one_gives P one [] is all = (is, tt)
+or_one_gives P one (x ∷ xs) is all = all
 
 -- ---- rules
 
@@ -75,7 +74,7 @@ module _ (own : List ℕ) (is : IsUtf8 own) where
   rule_gives s =
       after IsLawfulRule _ _ (λ r _. after IsLawfulRule _ _ (λ matches all. after IsLawfulRule _ _ (λ filters some. after IsLawfulRule _ _ (λ backends are. after IsLawfulRule _ _ (λ timeouts _.
       after IsLawfulRule _ _ (λ request short. after IsLawfulRule _ _ (λ backend brief. last IsLawfulRule _ (record {
-        matches = some_match_is matches (each_gives IsLawfulMatch match_at match_gives _ matches all);
+        matches = or_one_gives IsLawfulMatch default_match matches default_is (each_gives IsLawfulMatch match_at match_gives _ matches all);
         filters = each_some_gives IsLawfulFilter filter_at filter_gives _ filters some;
         backends = each_gives IsLawfulBackend (backend_at own) (backend_gives own is) _ backends are;
         request = short_timeout _ request short;

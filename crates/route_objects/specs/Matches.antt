@@ -44,7 +44,7 @@ match_at m = do
 abbrev pub default_match : HttpMatch
 default_match = record { path = paths.Prefix (codes "/"); headers = []; query = []; method = None }
 
--- The default is the default match.
-abbrev pub some_match : List HttpMatch → List HttpMatch
-some_match [] = default_match ∷ []
-some_match (m ∷ ms) = m ∷ ms
+-- the items, or the default alone if there are none
+abbrev pub or_one : {A : Type 0} → A → List A → List A
+or_one one [] = one ∷ []
+or_one one (x ∷ xs) = x ∷ xs

@@ -8,7 +8,7 @@ use Rattle.k8s_meta.specs.declared.fault.ReadFault.{ReadFault}
 use Rattle.k8s_meta.specs.declared.key.Key.TheVariants as keys
 use Rattle.route_objects.specs.Backends.{backend_at}
 use Rattle.route_objects.specs.Filters.{filter_at}
-use Rattle.route_objects.specs.Matches.{default_match, match_at, some_match}
+use Rattle.route_objects.specs.Matches.{default_match, match_at, or_one}
 use Rattle.view_types.specs.declared.route.Rule.{Rule}
 
 unfoldable pub rule_at : List ℕ → Spot → Result Rule ReadFault
@@ -20,7 +20,7 @@ rule_at own r = do
   timeouts ← part (r · keys.Timeouts)
   request ← optional duration (timeouts · keys.Request)
   backend ← optional duration (timeouts · keys.BackendRequest)
-  Ok (record { matches = some_match matches; filters = filters; backends = backends; request_timeout = request; backend_timeout = backend })
+  Ok (record { matches = or_one default_match matches; filters = filters; backends = backends; request_timeout = request; backend_timeout = backend })
 
 abbrev pub default_rule : Rule
 default_rule = record { matches = default_match ∷ []; filters = []; backends = []; request_timeout = None; backend_timeout = None }

@@ -2,8 +2,9 @@
 //!
 //! Depends on k8s_meta for the parts of the member tables, on mesh_text for request methods and API
 //! groups, and on view_types for the objects. `read_route` returns `route_at` of `specs/Routes`.
-//! The parts that routes of other kinds have, too, are public: parents, backends, headers and the
-//! filter that modifies them, each with its table in `specs` and the laws of its values in `laws`.
+//! The parts that routes of other kinds have, too, are public: parents, backends, headers and their
+//! types, and the filters, each with its table in `specs`; the laws of their values are in `laws`.
+//! `or_one` of `specs/Matches` is for a list with a default, in code `list_of_one`.
 #![tactic(auto)]
 
 pub mod backend;
@@ -13,4 +14,4 @@ mod matches;
 pub mod name_match;
 pub mod parent;
 pub mod route;
-mod rule;
+pub mod rule;

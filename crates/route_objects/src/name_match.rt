@@ -27,7 +27,7 @@ impl Reader for NameAndValue {
 }
 
 /// The names of the types of a value: whether it is a regular expression.
-struct ValueType;
+pub struct ValueType;
 
 impl Word for ValueType {
     type Meaning = bool;

@@ -1,7 +1,7 @@
 ghost use Rattle.std.specs.Prelude.{◌≡◌, ◌∷◌, [], IfOk};
 ghost use Rattle.k8s_meta.specs.Spots.{◌·◌, Reads, seen};
 ghost use Rattle.k8s_meta.specs.declared.key.Key.TheVariants as keys;
-ghost use Rattle.route_objects.specs.Matches.{default_match, some_match};
+ghost use Rattle.route_objects.specs.Matches.{default_match, or_one};
 ghost use Rattle.route_objects.specs.Rules.{default_rule, rule_at, rules_at};
 
 use crate::backend::Backend;
@@ -32,15 +32,16 @@ pub fn rules_of<'a>(spec: &'a Place<'a>, own: &str) -> Result<List<Rule>, ReadFa
 fn default_rules(alloc: Global) -> Result<List<Rule>, Memory>
     ensures { IfOk result (λ rules. rules ≡ default_rule ∷ []) }
 {
-    let mut rules = List::new(alloc);
-    rules.add(Rule {
-        matches: some_match(alloc, List::new(alloc))?,
-        filters: List::new(alloc),
-        backends: List::new(alloc),
-        request_timeout: None,
-        backend_timeout: None,
-    })?;
-    Ok(rules)
+    list_of_one(
+        alloc,
+        Rule {
+            matches: some_match(alloc, List::new(alloc))?,
+            filters: List::new(alloc),
+            backends: List::new(alloc),
+            request_timeout: None,
+            backend_timeout: None,
+        },
+    )
 }
 
 /// A rule of a route in a namespace.
@@ -75,17 +76,27 @@ impl<'b> Reader for RouteRule<'b> {
 
 /// Returns the matches, or if there are none the default one, which matches each path.
 fn some_match(alloc: Global, matches: List<HttpMatch>) -> Result<List<HttpMatch>, Memory>
-    ensures { IfOk result (λ some. some ≡ some_match matches) }
+    ensures { IfOk result (λ some. some ≡ or_one default_match matches) }
 {
     if matches.len() > 0 {
         return Ok(matches);
     }
-    let mut matches = matches;
-    matches.add(HttpMatch {
-        path: PathMatch::Prefix(Text::from_str(alloc, "/")?),
-        headers: List::new(alloc),
-        query: List::new(alloc),
-        method: None,
-    })?;
-    Ok(matches)
+    list_of_one(
+        alloc,
+        HttpMatch {
+            path: PathMatch::Prefix(Text::from_str(alloc, "/")?),
+            headers: List::new(alloc),
+            query: List::new(alloc),
+            method: None,
+        },
+    )
+}
+
+/// Returns a list of the item alone.
+pub fn list_of_one<T: Drop>(alloc: Global, item: T) -> Result<List<T>, Memory>
+    ensures { IfOk result (λ list. list ≡ item ∷ []) }
+{
+    let mut list = List::new(alloc);
+    list.add(item)?;
+    Ok(list)
 }
