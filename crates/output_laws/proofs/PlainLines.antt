@@ -3,6 +3,7 @@ use Rattle.std.proofs.Common.{ℕ, Bool, true, false, List, Option, Some, None, 
 use Rattle.std.specs.Option.{ok_or}
 use Rattle.line_run.specs.Rows.{NoBreak, Row}
 use Rattle.mesh_base.specs.declared.key.Kind.{Kind}
+use Rattle.mesh_base.specs.declared.key.ObjKey.{ObjKey}
 use Rattle.mesh_text.specs.Json.{json_of}
 use Rattle.serde_json.specs.Data.{Data, Members}
 use Rattle.serde_json.specs.Find.{as_object}
@@ -17,17 +18,21 @@ use Rattle.view_types.specs.declared.object.Object.{Object}
 use Rattle.view_types.specs.declared.query.Method.{Method}
 use Rattle.view_types.specs.Ports.{query_by_rows, query_whole}
 use Rattle.view_types.specs.declared.query.Method.TheVariants as methods
-use Rattle.watch_events.specs.Controls.{cancellation_of, control_as, control_of, drain_of, query_of, simulation_of, subscription_of}
+use Rattle.watch_events.specs.Controls.{cancellation_of, control_as, drain_of, query_of, simulation_of, subscription_of}
 use Rattle.watch_events.specs.Events.{delete_of, event_as, event_of, set_of}
-use Rattle.watch_events.specs.Kinds.{group_of, kind_named, kind_of}
-use Rattle.watch_events.specs.Lines.{form_of, is_blank, json_line, line_spot, list_as, row_says, text_line}
+use Rattle.watch_events.specs.Forms.{form_of, list_as}
+use Rattle.watch_events.specs.Kinds.{group_of, kind_named}
+use Rattle.watch_events.specs.Lines.{is_blank, json_by, line_as, line_at, line_spot, row_says, text_line}
 use Rattle.watch_events.specs.ListLines.{item_kind, list_of, repeated, unless_repeated}
 use Rattle.watch_events.specs.Queries.{method_of}
 use Rattle.watch_events.specs.Reading.{of_object, of_query, ◌>>=◌, then}
+use Rattle.watch_events.specs.Tables.{kind_of, plain}
 use Rattle.watch_events.specs.declared.control.ControlWord.{ControlWord}
 use Rattle.watch_events.specs.declared.control.ControlWord.TheVariants as words
 use Rattle.watch_events.specs.declared.event_type.EventType.{EventType}
 use Rattle.watch_events.specs.declared.event_type.EventType.TheVariants.{Added, Modified, Deleted, Bookmark, Error}
+use Rattle.watch_events.specs.declared.form.Form.{Form}
+use Rattle.watch_events.specs.declared.form.Form.TheVariants as forms
 use Rattle.watch_events.specs.declared.line.Line.{Line}
 use Rattle.watch_events.specs.declared.line.Line.TheVariants as lines
 use Rattle.watch_events.specs.declared.line.LineFault.{LineFault}
@@ -119,7 +124,7 @@ control_plain config (Some words.Stop) s here = tt
 
 -- ---- events and lists
 
-kind_plain : (name : List ℕ) (s : Spot) → IsPlainLine (kind_of name s)
+kind_plain : (name : List ℕ) (s : Spot) → IsPlainLine (kind_of plain name s)
 unfolding kind_of
 kind_plain name s = by_kind (kind_named name (group_of s))
   where
@@ -127,19 +132,19 @@ kind_plain name s = by_kind (kind_named name (group_of s))
     by_kind None = tt
     by_kind (Some kind) = tt
 
-set_plain : (s : Spot) → NoBreak s.at → IsPlainLine (set_of s)
+set_plain : (s : Spot) → NoBreak s.at → IsPlainLine (set_of plain s)
 unfolding set_of
 set_plain s here =
     let at = at_member s keys.Object here in
     object_there (s · keys.Object) _ at (line_then _ _ (kind_plain _ (s · keys.Object)) (λ kind. line_then _ _ (object_plain _ (object_at_plain kind (s · keys.Object) at)) (λ x. tt)))
 
-delete_plain : (s : Spot) → NoBreak s.at → IsPlainLine (delete_of s)
+delete_plain : (s : Spot) → NoBreak s.at → IsPlainLine (delete_of plain s)
 unfolding delete_of
 delete_plain s here =
     let at = at_member s keys.Object here in
     object_there (s · keys.Object) _ at (line_then _ _ (kind_plain _ (s · keys.Object)) (λ kind. line_then _ _ (object_plain _ (key_at_plain kind (s · keys.Object) at)) (λ x. tt)))
 
-event_plain : (kind : Option EventType) (s : Spot) → NoBreak s.at → IsPlainLine (event_as kind s)
+event_plain : (kind : Option EventType) (s : Spot) → NoBreak s.at → IsPlainLine (event_as plain kind s)
 event_plain None s here = tt
 event_plain (Some Added) s here = set_plain s here
 event_plain (Some Modified) s here = set_plain s here
@@ -147,40 +152,51 @@ event_plain (Some Deleted) s here = delete_plain s here
 event_plain (Some Bookmark) s here = tt
 event_plain (Some Error) s here = tt
 
-repeated_plain : (kind : Kind) (items : List Object) (place : Option ℕ) → IsPlainLine (unless_repeated kind items place)
+repeated_plain : (kind : Kind) (items : List Object) (place : Option ℕ) → IsPlainLine (unless_repeated {K = ObjKey} kind items place)
 repeated_plain kind items None = tt
 repeated_plain kind items (Some n) = tt
 
-list_plain : (name : List ℕ) (s : Spot) → NoBreak s.at → IsPlainLine (list_of name s)
+list_plain : (name : List ℕ) (s : Spot) → NoBreak s.at → IsPlainLine (list_of plain name s)
 unfolding list_of
 list_plain name s here =
-    line_then _ _ (kind_plain name s) (λ kind. line_then _ _ (object_plain _ (each_plain _ (object_at_plain kind) (s · keys.Items) (at_member s keys.Items here))) (λ items. repeated_plain kind items (repeated items)))
+    line_then _ _ (kind_plain name s) (λ kind. line_then _ _ (object_plain _ (each_plain _ (object_at_plain kind) (s · keys.Items) (at_member s keys.Items here))) (λ items. repeated_plain kind items (repeated plain items)))
 
-list_as_plain : (name : Option (List ℕ)) (s : Spot) → NoBreak s.at → IsPlainLine (list_as name s)
+list_as_plain : (name : Option (List ℕ)) (s : Spot) → NoBreak s.at → IsPlainLine (list_as plain name s)
 list_as_plain None s here = tt
 list_as_plain (Some name) s here = list_plain name s here
 
-form_plain : (config : Config) (s : Spot) → NoBreak s.at → IsPlainLine (form_of config s)
+form_plain : (s : Spot) → NoBreak s.at → IsPlainLine (form_of plain s)
 unfolding form_of
-form_plain config s here = cases (is_absent (s · keys.Control)) (is_absent (s · keys.Type))
+form_plain s here = cases (is_absent (s · keys.Control)) (is_absent (s · keys.Type))
   where
-    list : Result Line LineFault
-    list = list_as (option_and_then item_kind (string_in (s · keys.Kind).value)) s
+    list : Result (Form Kind Object ObjKey) LineFault
+    list = list_as plain (option_and_then item_kind (string_in (s · keys.Kind).value)) s
 
-    cases : (a b : Bool) → IsPlainLine (if a then (if b then list else event_of s) else control_of config s)
+    cases : (a b : Bool) → IsPlainLine (if a then (if b then list else event_of plain s) else Ok forms.Control)
     cases true true = list_as_plain _ s here
     cases true false = event_plain _ s here
-    cases false b = control_plain config _ s here
+    cases false b = tt
 
-json_plain : (config : Config) (value : Option Data) → IsPlainLine (json_line config value)
+made_plain : (config : Config) (s : Spot) → NoBreak s.at → (form : Form Kind Object ObjKey) → IsPlainLine (line_as config s form)
+made_plain config s here (forms.Set kind object) = tt
+made_plain config s here (forms.Delete kind key) = tt
+made_plain config s here (forms.Relist kind items) = tt
+made_plain config s here forms.Bookmark = tt
+made_plain config s here forms.Control = control_plain config _ s here
+
+line_plain : (config : Config) (s : Spot) → NoBreak s.at → IsPlainLine (line_at config s)
+unfolding line_at
+line_plain config s here = line_then _ _ (form_plain s here) (made_plain config s here)
+
+json_plain : (config : Config) (value : Option Data) → IsPlainLine (json_by (line_at config) value)
 json_plain config None = tt
-json_plain config (Some value) = form_plain config (line_spot value) tt
+json_plain config (Some value) = line_plain config (line_spot value) tt
 
 text_plain : (config : Config) (bytes : List ℕ) → IsPlainLine (text_line config bytes)
 unfolding text_line
 text_plain config bytes = cases (is_blank bytes)
   where
-    cases : (b : Bool) → IsPlainLine (if b then Ok lines.Blank else json_line config (json_of bytes))
+    cases : (b : Bool) → IsPlainLine (if b then Ok lines.Blank else json_by (line_at config) (json_of bytes))
     cases true = tt
     cases false = json_plain config (json_of bytes)
 

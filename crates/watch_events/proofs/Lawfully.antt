@@ -1,9 +1,13 @@
 -- Each line that was read is lawful, where the objects are.
 use Rattle.std.proofs.Common.{◌≡◌, List, [], ◌∷◌, map, Some, None, Result, Ok, Err, IfOk}
+use Rattle.std.specs.Cmp.{eq_by_cmp_equiv}
 use Rattle.std.specs.List.{AllByRecursion}
+use Rattle.std.specs.Ordering.{eq_by_cmp}
 use Rattle.std.proofs.lemmas.List.Elements.{All-from_recursion}
 use Rattle.line_run.specs.Rows.{Row, row_of}
+use Rattle.mesh_base.specs.KeyOrder.{key_cmp}
 use Rattle.mesh_base.specs.declared.key.Kind.{Kind}
+use Rattle.mesh_base.proofs.KeyOrder.{keys_total}
 use Rattle.k8s_meta.proofs.GivenLists.{each_gives}
 use Rattle.view_types.specs.Lawful.{IsLawful}
 use Rattle.view_types.specs.Objects.{IsListOf, key_of, kind_of}
@@ -14,10 +18,11 @@ use Rattle.watch_events.specs.Lawful.{IsLawfulLine, IsLawfulOf, LinesAreLawful, 
 use Rattle.watch_events.specs.Lines.{row_says, text_line}
 use Rattle.watch_events.specs.ListLines.{repeated}
 use Rattle.watch_events.specs.Objects.{object_at}
+use Rattle.watch_events.specs.Tables.{plain}
 use Rattle.watch_events.specs.declared.line.Line.{Line}
 use Rattle.watch_events.specs.declared.line.LineFault.{LineFault}
 use Rattle.watch_events.proofs.Apart.{apart_unless_repeated}
-use Rattle.watch_events.proofs.OfEachForm.{OfEachForm, text_has}
+use Rattle.watch_events.proofs.OfEachLine.{OfEachLine, text_has}
 use Rattle.watch_events.proofs.Simulations.{request_gives}
 use Rattle.watch_events.proofs.Targets.{query_gives}
 
@@ -29,18 +34,18 @@ seconds : {A : Type 0} (P Q : A → Type 0) (xs : List A) → AllByRecursion (λ
 seconds P Q [] all = tt
 seconds P Q (x ∷ xs) all = (all.0.1, seconds P Q xs all.1)
 
-list_is : (kind : Kind) (items : List Object) → AllByRecursion (IsLawfulOf kind) items → repeated items ≡ None → IsListOf kind items × AllByRecursion IsLawful items
+list_is : (kind : Kind) (items : List Object) → AllByRecursion (IsLawfulOf kind) items → repeated plain items ≡ None → IsListOf kind items × AllByRecursion IsLawful items
 list_is kind items all once = (
   record {
     each = All-from_recursion (λ (o : Object). kind_of o ≡ kind) items (seconds IsLawful (λ (o : Object). kind_of o ≡ kind) items all);
-    apart = apart_unless_repeated (map key_of items) once;
+    apart = apart_unless_repeated (eq_by_cmp key_cmp) (eq_by_cmp_equiv keys_total) (map key_of items) once;
   },
   firsts IsLawful (λ (o : Object). kind_of o ≡ kind) items all,
 )
 
 module _ (lawful : ObjectsAreLawful) where
-  of_each_form : (config : Config) → OfEachForm config IsLawfulLine
-  of_each_form config = record {
+  of_each_line : (config : Config) → OfEachLine config IsLawfulLine
+  of_each_line config = record {
     blank = tt;
     stop = tt;
     cancel = λ id. tt;
@@ -54,7 +59,7 @@ module _ (lawful : ObjectsAreLawful) where
   }
 
   pub text_gives : TextsAreLawful
-  text_gives config = text_has config IsLawfulLine (of_each_form config)
+  text_gives config = text_has config IsLawfulLine (of_each_line config)
 
 row_gives : TextsAreLawful → (config : Config) (row : Row) (line : Line) → row_says (text_line config) row ≡ Ok line → IsLawfulLine line
 row_gives texts config None line e = absurd cc

@@ -133,7 +133,7 @@ each_target config text target e = to_lowered config.cluster_domain (map to_asci
 
 -- ---- queries
 
-target_gives : (config : Config) → GivesOnly IsLawfulTarget (target_at config)
+pub target_gives : (config : Config) → GivesOnly IsLawfulTarget (target_at config)
 unfolding target_at
 target_gives config s = after IsLawfulTarget _ _ (λ t _ target e. each_target config t target (valid_value _ _ (target_of config t) target e))
 

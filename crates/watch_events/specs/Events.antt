@@ -1,35 +1,33 @@
--- The contents of a watch event.
+-- The contents of a watch event, by a table of kinds.
 use Rattle.std.specs.Prelude.{ℕ, List, Option, Some, None, Result, Ok, Err, bytes_eq, codes, option_and_then, if◌then◌else◌}
 use Rattle.k8s_meta.specs.Spots.{Spot, ◌·◌}
 use Rattle.k8s_meta.specs.Words.{object, required, string_in}
 use Rattle.k8s_meta.specs.declared.key.Key.TheVariants as keys
-use Rattle.watch_events.specs.Keys.{key_at}
-use Rattle.watch_events.specs.Kinds.{kind_of, text_or_empty}
-use Rattle.watch_events.specs.Objects.{object_at}
+use Rattle.watch_events.specs.Kinds.{text_or_empty}
 use Rattle.watch_events.specs.Reading.{of_object, ◌>>=◌}
-use Rattle.watch_events.specs.declared.event.Event.TheVariants as events
+use Rattle.watch_events.specs.Tables.{Table, kind_of}
 use Rattle.watch_events.specs.declared.event_type.EventType.{EventType}
 use Rattle.watch_events.specs.declared.event_type.EventType.TheVariants.{Added, Modified, Deleted, Bookmark, Error}
-use Rattle.watch_events.specs.declared.line.Line.{Line}
-use Rattle.watch_events.specs.declared.line.Line.TheVariants as lines
+use Rattle.watch_events.specs.declared.form.Form.{Form}
+use Rattle.watch_events.specs.declared.form.Form.TheVariants as forms
 use Rattle.watch_events.specs.declared.line.LineFault.{LineFault}
 use Rattle.watch_events.specs.declared.line.LineFault.TheVariants as faults
 
 -- puts the object
-unfoldable pub set_of : Spot → Result Line LineFault
-set_of s = do
+unfoldable pub set_of : {C M K : Type 0} → Table C M K → Spot → Result (Form C M K) LineFault
+set_of table s = do
   o ← of_object (required object (s · keys.Object))
-  kind ← kind_of (text_or_empty (o · keys.Kind)) o
-  x ← of_object (object_at kind o)
-  Ok (lines.Event (events.Set x))
+  kind ← kind_of table (text_or_empty (o · keys.Kind)) o
+  x ← of_object (table.object kind o)
+  Ok (forms.Set kind x)
 
--- Removes the object: only its name and its namespace are read.
-unfoldable pub delete_of : Spot → Result Line LineFault
-delete_of s = do
+-- Removes the object: only its key is read.
+unfoldable pub delete_of : {C M K : Type 0} → Table C M K → Spot → Result (Form C M K) LineFault
+delete_of table s = do
   o ← of_object (required object (s · keys.Object))
-  kind ← kind_of (text_or_empty (o · keys.Kind)) o
-  key ← of_object (key_at kind o)
-  Ok (lines.Event (events.Delete key))
+  kind ← kind_of table (text_or_empty (o · keys.Kind)) o
+  key ← of_object (table.removed kind o)
+  Ok (forms.Delete kind key)
 
 abbrev pub event_type : List ℕ → Option EventType
 event_type t =
@@ -40,13 +38,13 @@ event_type t =
     if bytes_eq t (codes "ERROR") then Some Error else None
 
 -- The object of a bookmark is not read.
-abbrev pub event_as : Option EventType → Spot → Result Line LineFault
-event_as None s = Err faults.UnknownType
-event_as (Some Added) s = set_of s
-event_as (Some Modified) s = set_of s
-event_as (Some Deleted) s = delete_of s
-event_as (Some Bookmark) s = Ok (lines.Event events.Bookmark)
-event_as (Some Error) s = Err faults.ErrorEvent
+abbrev pub event_as : {C M K : Type 0} → Table C M K → Option EventType → Spot → Result (Form C M K) LineFault
+event_as table None s = Err faults.UnknownType
+event_as table (Some Added) s = set_of table s
+event_as table (Some Modified) s = set_of table s
+event_as table (Some Deleted) s = delete_of table s
+event_as table (Some Bookmark) s = Ok forms.Bookmark
+event_as table (Some Error) s = Err faults.ErrorEvent
 
-abbrev pub event_of : Spot → Result Line LineFault
-event_of s = event_as (option_and_then event_type (string_in (s · keys.Type).value)) s
+abbrev pub event_of : {C M K : Type 0} → Table C M K → Spot → Result (Form C M K) LineFault
+event_of table s = event_as table (option_and_then event_type (string_in (s · keys.Type).value)) s

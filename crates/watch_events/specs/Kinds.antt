@@ -1,6 +1,5 @@
 -- Kinds of objects by name and API group.
-use Rattle.std.specs.Prelude.{ℕ, List, [], ◌∷◌, Option, Some, None, Result, codes, unwrap_or, ◌&&◌, if◌then◌else◌}
-use Rattle.std.specs.Option.{ok_or}
+use Rattle.std.specs.Prelude.{ℕ, List, [], ◌∷◌, Option, Some, None, codes, unwrap_or, ◌&&◌, if◌then◌else◌}
 use Rattle.std.specs.Str.{bytes_eq}
 use Rattle.k8s_meta.specs.Spots.{Spot, ◌·◌}
 use Rattle.k8s_meta.specs.Words.{string_in}
@@ -8,8 +7,6 @@ use Rattle.k8s_meta.specs.declared.key.Key.TheVariants as keys
 use Rattle.mesh_base.specs.Pieces.{pieces}
 use Rattle.mesh_base.specs.declared.key.Kind.{Kind}
 use Rattle.mesh_base.specs.declared.key.Kind.TheVariants.{Pod, Service, EndpointSlice, ServiceProfile, Server, ServerAuthorization, AuthorizationPolicy, MeshTLSAuthentication, NetworkAuthentication, LinkerdRoute, GatewayRoute}
-use Rattle.watch_events.specs.declared.line.LineFault.{LineFault}
-use Rattle.watch_events.specs.declared.line.LineFault.TheVariants as faults
 
 -- the part of an API version before its first '/', or empty without one
 abbrev pub before_slash : List (List ℕ) → List ℕ
@@ -45,7 +42,3 @@ kind_named kind group =
     if bytes_eq kind (codes "EndpointSlice") && bytes_eq group (codes "discovery.k8s.io") then Some EndpointSlice else
     if bytes_eq kind (codes "ServiceProfile") && bytes_eq group (codes "linkerd.io") then Some ServiceProfile else
     if bytes_eq kind (codes "HTTPRoute") && bytes_eq group (codes "gateway.networking.k8s.io") then Some GatewayRoute else None
-
--- the kind with this name in the group of the value
-unfoldable pub kind_of : List ℕ → Spot → Result Kind LineFault
-kind_of name s = ok_or (kind_named name (group_of s)) faults.UnknownKind

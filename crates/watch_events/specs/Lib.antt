@@ -1,6 +1,7 @@
 pub mod Controls
 pub mod Events
 pub mod FaultText
+pub mod Forms
 pub mod Given
 pub mod Keys
 pub mod Kinds
@@ -10,4 +11,6 @@ pub mod ListLines
 pub mod Objects
 pub mod Queries
 pub mod Reading
+pub mod SameKeys
 pub mod Simulations
+pub mod Tables

@@ -2,9 +2,11 @@ ghost use Rattle.std.specs.Prelude.{◌≡◌};
 ghost use Rattle.std.specs.Str.{bytes_eq};
 ghost use Rattle.k8s_meta.specs.Spots.{seen};
 ghost use Rattle.watch_events.specs.Given.{Gives};
-ghost use Rattle.watch_events.specs.Kinds.{group_in, group_of, kind_named, kind_of, policy_kind, text_or_empty};
+ghost use Rattle.watch_events.specs.Kinds.{group_in, group_of, kind_named, policy_kind, text_or_empty};
+ghost use Rattle.watch_events.specs.Tables.{kind_of};
 
 use crate::line::LineFault;
+use crate::table::KindTable;
 use k8s_meta::key::Key;
 use k8s_meta::place::Place;
 use mesh_base::key::Kind;
@@ -64,8 +66,9 @@ fn policy_kind(kind: &[u8]) -> Option<Kind>
     }
 }
 
+/// Returns the kind with this name in this API group.
 #[tactic(auto, unfolding(crate::specs::Kinds::kind_named))]
-fn kind_named(kind: &[u8], group: &[u8]) -> Option<Kind>
+pub fn kind_named(kind: &[u8], group: &[u8]) -> Option<Kind>
     ensures { result ≡ kind_named kind.now group.now }
 {
     if is_bytes(group, b"policy.linkerd.io") {
@@ -86,11 +89,15 @@ fn kind_named(kind: &[u8], group: &[u8]) -> Option<Kind>
 }
 
 /// Returns the kind with this name in the group at the place.
-#[tactic(auto, unfolding(crate::specs::Kinds::kind_of))]
-pub fn kind_of<'a>(name: &[u8], place: &'a Place<'a>) -> Result<Kind, LineFault>
-    ensures { Gives result (kind_of name.now (seen place.now)) }
+#[tactic(auto, unfolding(crate::specs::Tables::kind_of))]
+pub fn kind_of<'a, T: KindTable>(
+    table: &T,
+    name: &[u8],
+    place: &'a Place<'a>,
+) -> Result<T::Kind, LineFault>
+    ensures { Gives result (kind_of (T.table table.now) name.now (seen place.now)) }
 {
-    match kind_named(name, group_of(place)) {
+    match table.kind_named(name, group_of(place)) {
         None => Err(LineFault::UnknownKind),
         Some(kind) => Ok(kind),
     }

@@ -5,12 +5,17 @@
 //! `read_row` returns `row_says` of `specs/Lines` for the rows that line_run splits
 //! (`specs/Simulations` defines a simulated request), `read_line` the same for a line of any
 //! length. The contents are lawful (`specs/Lawful`).
+//!
+//! Events and lists are read by a table of kinds (`specs/Tables`), as which form they have
+//! (`specs/Forms`). A feed with further kinds has a `KindTable` of its own for `read_form`; one with
+//! further lines has a `LineReader` of its own for `read_row_by`.
 #![tactic(auto)]
 
-mod control;
+pub mod control;
 pub mod event;
 mod event_type;
-mod fault;
+pub mod fault;
+pub mod form;
 mod kinds;
 pub mod laws;
 pub mod line;
@@ -18,7 +23,9 @@ mod line_text;
 mod list;
 pub mod method;
 mod object;
-mod query;
+pub mod plain;
+pub mod query;
 pub mod read;
-mod simulation;
+pub mod simulation;
+pub mod table;
 mod watch;

@@ -8,7 +8,6 @@ use k8s_core::slice::slice_of;
 use k8s_meta::fault::ReadFault;
 use k8s_meta::key::Key;
 use k8s_meta::place::Place;
-use k8s_meta::reader::Reader;
 use k8s_meta::words::{Name, Namespace};
 use mesh_base::boxed::Boxed;
 use mesh_base::key::{Kind, ObjKey};
@@ -19,22 +18,6 @@ use policy_objects::server_authz::server_authz_of;
 use profile_objects::profile::profile_of;
 use route_objects::route::route_of;
 use view_types::object::Object;
-
-/// An object of a kind.
-#[derive(Clone, Copy)]
-pub struct ObjectOf {
-    pub kind: Kind,
-}
-
-impl Reader for ObjectOf {
-    type Made = Object;
-
-    ghost reading = { λ reader. object_at reader.kind };
-
-    fn read<'a>(&self, place: &'a Place<'a>) -> Result<Object, ReadFault> {
-        read_object(self.kind, place)
-    }
-}
 
 /// Reads the object at a place, as one of the kind.
 #[tactic(auto, unfolding(k8s_meta::specs::Spots::then, crate::specs::Objects::object_at))]

@@ -62,8 +62,8 @@ fn service_port(target: Option<Target>) -> Option<ServicePort>
 
 /// Any target.
 #[derive(Clone, Copy)]
-struct AnyTarget<'c> {
-    config: &'c Config,
+pub struct AnyTarget<'c> {
+    pub config: &'c Config,
 }
 
 impl Reader for AnyTarget<'_> {
@@ -115,7 +115,7 @@ impl Reader for Workload {
 
 /// What a client declares about itself.
 #[derive(Clone, Copy)]
-struct ContextToken;
+pub struct ContextToken;
 
 impl Reader for ContextToken {
     type Made = Context;

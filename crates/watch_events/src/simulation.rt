@@ -1,9 +1,13 @@
 ghost use Rattle.std.specs.Prelude.{◌≡◌};
-ghost use Rattle.serde_json.specs.View.{items_view};
+ghost use Rattle.serde_json.specs.View.{items_view, view};
 ghost use Rattle.k8s_meta.specs.Spots.{◌·◌, Reads, seen};
 ghost use Rattle.k8s_meta.specs.declared.key.Key.TheVariants as keys;
+ghost use Rattle.watch_events.specs.Given.{Gives};
+ghost use Rattle.watch_events.specs.Reading.{of_query};
 ghost use Rattle.watch_events.specs.Simulations.{client_tls, http_at, identity_at, pair_at, pair_from, pairs_at, request_at};
 
+use crate::fault::query_fault;
+use crate::line::LineFault;
 use crate::query::Workload;
 use k8s_meta::fault::ReadFault;
 use k8s_meta::key::Key;
@@ -13,6 +17,7 @@ use k8s_meta::words::{Address, AnyText, Flag, PORT};
 use mesh_base::list::List;
 use mesh_base::text::Text;
 use serde_json::Value;
+use std::alloc::Global;
 use view_types::request::{ClientTls, HttpRequest, Request};
 
 /// A list of exactly two strings.
@@ -56,9 +61,10 @@ fn read_headers<'a>(http: &'a Place<'a>) -> Result<List<(Text, Text)>, ReadFault
     }
 }
 
-/// The HTTP part of a request.
+/// The HTTP part of a request. A further control line reads it as `required` or `optional` at its
+/// own place.
 #[derive(Clone, Copy)]
-struct HttpPart;
+pub struct HttpPart;
 
 impl Reader for HttpPart {
     type Made = HttpRequest;
@@ -80,6 +86,16 @@ impl Reader for HttpPart {
             query,
             headers,
         })
+    }
+}
+
+/// Reads the HTTP part of a request, with the path `at`. A fault is that of a control line.
+pub fn read_http(alloc: Global, value: &Value, at: &str) -> Result<HttpRequest, LineFault>
+    ensures { Gives result (of_query (http_at record { at = at.now; value = view value.now })) }
+{
+    match HttpPart.read(&Place::top(alloc, value, at)) {
+        Ok(request) => Ok(request),
+        Err(fault) => Err(query_fault(fault)),
     }
 }
 

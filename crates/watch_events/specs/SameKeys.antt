@@ -1,7 +1,7 @@
 -- The order that keys are compared by in the program is that of the definitions.
-use Rattle.std.proofs.Common.{◌≡◌, refl, ap, nat_cmp}
+use Rattle.std.proofs.Common.{◌≡◌, refl, ap, nat_cmp, is_eq}
 use Rattle.std.specs.Cmp.Lexicographic.{slice_cmp}
-use Rattle.std.specs.Ordering.{ordering_then}
+use Rattle.std.specs.Ordering.{eq_by_cmp, ordering_then}
 use Rattle.std.specs.declared.cmp.Ordering.{Ordering}
 use Rattle.mesh_base.specs.KeyOrder.{key_cmp, kind_place}
 use Rattle.mesh_base.specs.contracts.key.KindOrd as kind_order
@@ -27,3 +27,6 @@ kind_cmp_is _ _ = refl
 
 pub key_cmp_is : (a b : ObjKey) → order.TheImpl.cmp-value.it a b ≡ key_cmp a b
 key_cmp_is a b = ap (λ (o : Ordering). ordering_then o (ordering_then (slice_cmp nat_cmp a.ns b.ns) (slice_cmp nat_cmp a.name b.name))) (kind_cmp_is a.kind b.kind)
+
+pub same_keys_is : (a b : ObjKey) → eq_by_cmp order.TheImpl.cmp-value.it a b ≡ eq_by_cmp key_cmp a b
+same_keys_is a b = ap (λ (o : Ordering). is_eq o) (key_cmp_is a b)
