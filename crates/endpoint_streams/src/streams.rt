@@ -1,7 +1,8 @@
 ghost use Rattle.std.specs.Prelude.{◌≡◌, ◌≤◌, ◌+◌, ℕ, List, Option, Some, None, IfOk, OnErr, OnOk, option_map};
+ghost use Rattle.std.specs.Option.{option_copied};
 ghost use Rattle.view_types.specs.Objects.{ObjectMap};
 ghost use Rattle.view_types.specs.declared.config.Config.{Config};
-ghost use Rattle.view_types.specs.declared.endpoint.EndpointView.{EndpointView};
+ghost use Rattle.view_types.specs.declared.endpoint.EndpointView.{EndpointView as TheEndpoints};
 ghost use Rattle.mark_graph.specs.RowMarks.{has_row};
 ghost use Rattle.mark_rules.specs.Changes.{Leads};
 ghost use Rattle.mark_rules.specs.Reads.{cost, endpoint_reads};
@@ -22,6 +23,7 @@ use mesh_base::memory::Memory;
 use mesh_base::steps::Steps;
 use object_store::change::Change;
 use object_store::store::Store;
+use view_types::endpoint::EndpointView;
 
 /// The streams of endpoints that subscribers are sent, each under the id of its subscription. After
 /// `Memory` nothing is known of what was shown, but the keys of the streams stay.
@@ -30,7 +32,7 @@ pub trait EndpointStreams: Drop {
     ghost key_of: { Self → ℕ → Option TheKey };
 
     /// The endpoints that the subscriber of a stream was last shown; None if it was shown none.
-    ghost shown_to: { Self → ℕ → Option EndpointView };
+    ghost shown_to: { Self → ℕ → Option TheEndpoints };
 
     /// The streams represent the endpoints over these objects, in frames within these limits.
     ghost stands: { Self → Config → Limits → ObjectMap → Type 0 };
@@ -113,6 +115,12 @@ pub trait EndpointStreams: Drop {
         ensures stands { (config : Config) (limits : Limits) (held : ObjectMap)
             → stands self.old config limits held → stands self.new config limits held }
         ensures keys { Keeps (key_of self.old) (key_of self.new) };
+
+    /// Returns the current endpoints of the stream of an id, if it has one. It does not allocate.
+    fn endpoints(&self, id: u64) -> Option<&EndpointView>
+        ensures { (config : Config) (limits : Limits) (held : ObjectMap)
+            → stands self.now config limits held
+            → option_copied result ≡ endpoints_at config held (key_of self.now id) };
 
     /// States that the rows that have users are exactly those of the keys of the open streams.
     ghost in_use: { (streams : Self) (config : Config) (limits : Limits) (held : ObjectMap)

@@ -1,6 +1,6 @@
 -- The live subscriptions of a hub, whatever its streams have shown.
-use Rattle.std.proofs.Common.{◌≡◌, ◌&&◌, ◌||◌, not, ℕ, Bool, true, false, List, [], ◌∷◌, map, length, Option, Some, None, Ok, Err, Bor, nat_eq, inl, inr, refl, sym, ap, ◌∙◌}
-use Rattle.std.specs.Prelude.{option_map}
+use Rattle.std.proofs.Common.{◌≡◌, ◌&&◌, ◌||◌, not, ℕ, Bool, true, false, List, [], ◌∷◌, map, cond, length, Option, Some, None, Ok, Err, Bor, nat_eq, inl, inr, refl, sym, ap, ◌∙◌}
+use Rattle.std.specs.Prelude.{option_and_then, option_map}
 use Rattle.std.specs.Option.{is_some, option_copied}
 use Rattle.mesh_base.specs.declared.sub_id.SubId.{SubId}
 use Rattle.view_types.specs.declared.query.Query.{Query}
@@ -9,15 +9,17 @@ use Rattle.std.proofs.lemmas.Bool.Decides.{eqb_tells}
 use Rattle.std.proofs.lemmas.List.{length-map}
 use Rattle.view_types.specs.declared.endpoint.EndpointView.{EndpointView}
 use Rattle.feed_history.specs.Ids.{ended, in_place}
+use Rattle.mark_rules.specs.Rows.{endpoint_row}
 use Rattle.kept_views.specs.contracts.views.KeptViewsQueryViews.TheImpl.{ghosts as views}
 use Rattle.kept_views.specs.declared.views.KeptViews.{KeptViews}
 use Rattle.shared_endpoints.specs.contracts.shared.SharedEndpointsEndpointStreams.TheImpl.{ghosts}
 use Rattle.shared_endpoints.specs.declared.shared.SharedEndpoints.{SharedEndpoints}
-use Rattle.subscriptions.specs.Live.{Covers, LiveSubscription, endpoint_key, id_of, query_at, sub_at, subs_of, with_endpoints}
+use Rattle.subscriptions.specs.Live.{Covers, LiveSubscription, endpoint_key, id_of, key_at, query_at, sub_at, subs_of, with_endpoints}
 use Rattle.subscriptions.specs.declared.subscribers.Subscribers.{Subscribers}
 use Rattle.subscriptions.proofs.Streamed.{plain_same, seen_at}
-use Rattle.mesh_hub.specs.Hub.{asked_in, cancel_answer}
+use Rattle.mesh_hub.specs.Hub.{HubState, asked_in, cancel_answer, endpoints_at, endpoints_for, state_of}
 use Rattle.mesh_hub.specs.LiveSubs.{live_in}
+use Rattle.mesh_hub.specs.declared.hub.Hub.{Hub}
 
 abbrev Subs : Type 0
 Subs = Subscribers SharedEndpoints KeptViews
@@ -122,6 +124,23 @@ are_covered (Profile target ctx) = refl
 are_covered (Port ns pod port) = refl
 are_covered (Traffic target) = refl
 are_covered (PortRows ns pod port) = refl
+
+-- ---- endpoints
+
+requested : (now : HubState) (query : Option Query) → option_map (endpoint_row now.config now.objects) (option_and_then endpoint_key query) ≡ option_and_then (endpoints_for now) query
+requested now None = refl
+requested now (Some (Get ns name port ctx)) = refl
+requested now (Some (Profile target ctx)) = refl
+requested now (Some (Port ns pod port)) = refl
+requested now (Some (Traffic target)) = refl
+requested now (Some (PortRows ns pod port)) = refl
+
+-- those of the key of an id are those that its query requests
+pub endpoints_live : (hub : Hub) (id : ℕ) → hub.spent ≡ false → option_map (endpoint_row hub.config hub.store.objects) (key_at id hub.subscribers.live.subs) ≡ endpoints_at (state_of hub) id
+endpoints_live hub id going =
+    requested (state_of hub) (query_at id hub.subscribers.live.subs)
+    ∙ ap (option_and_then (endpoints_for (state_of hub))) (sym (query_live hub.spent hub.subscribers id))
+    ∙ sym (ap (λ (b : Bool). cond b None (option_and_then (endpoints_for (state_of hub)) (query_at id (state_of hub).subs))) going)
 
 -- ---- who is due
 

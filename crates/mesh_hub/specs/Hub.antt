@@ -1,13 +1,16 @@
 -- The state of a hub as contracts see it, and the effect of its calls.
-use Rattle.std.specs.Prelude.{◌≡◌, ℕ, Bool, true, false, List, [], ◌∷◌, ◌++◌, Option, Some, None, Result, Ok, Err, is_some, length, map}
+use Rattle.std.specs.Prelude.{◌≡◌, ℕ, Bool, true, false, List, [], ◌∷◌, ◌++◌, Option, Some, None, Result, Ok, Err, if◌then◌else◌, is_some, length, map, option_and_then}
 use Rattle.std.specs.FinMap.{empty}
 use Rattle.mesh_base.specs.declared.limits.Limits.{Limits}
 use Rattle.mesh_base.specs.declared.sub_id.SubId.{SubId}
 use Rattle.view_types.specs.Objects.{ObjectMap}
 use Rattle.view_types.specs.declared.config.Config.{Config}
+use Rattle.view_types.specs.declared.endpoint.EndpointView.{EndpointView}
 use Rattle.view_types.specs.declared.message.Message.{Message}
 use Rattle.view_types.specs.declared.query.Query.{Query}
+use Rattle.view_types.specs.declared.query.Query.TheVariants.{Get}
 use Rattle.view_rules.specs.Batch.{batch}
+use Rattle.view_rules.specs.Endpoints.{endpoints}
 use Rattle.view_rules.specs.Views.{view_of}
 use Rattle.view_types.specs.declared.request.Request.{Request}
 use Rattle.view_types.specs.declared.verdict.Verdict.{Verdict}
@@ -22,6 +25,7 @@ use Rattle.feed_history.specs.Ids.{ended, in_place, subscribe_refusal, unless_re
 use Rattle.mesh_hub.specs.LiveSubs.{live_in}
 use Rattle.mesh_hub.specs.declared.hub.Hub.{Hub}
 pub use Rattle.subscriptions.specs.Live.{LiveSubscription, id_of, sub_at}
+use Rattle.subscriptions.specs.Live.{query_at}
 use Rattle.feed_history.specs.declared.refusal.HubFault.{HubFault}
 use Rattle.feed_history.specs.declared.refusal.HubFault.TheVariants.{Memory, Full, TooManySubs, IdOrder, NoSuchId, Oversize}
 use Rattle.feed_history.specs.declared.refusal.NoSuchId.{NoSuchId as NotLive}
@@ -122,6 +126,17 @@ shown_now now sub = unless_too_long (too_long now.limits.message (messages_for n
 
 abbrev pub drained : HubState → ℕ → HubState
 drained now id = record now { subs = in_place id_of id (shown_now now) now.subs }
+
+-- ---- endpoints
+
+-- the endpoints that a query requests, over the objects held; none if it requests another view
+abbrev pub endpoints_for : HubState → Query → Option EndpointView
+endpoints_for now (Get ns name port ctx) = Some (endpoints now.config now.objects ns name port)
+endpoints_for now _ = None
+
+-- Those of the live subscription under an id. A spent hub has none.
+abbrev pub endpoints_at : HubState → ℕ → Option EndpointView
+endpoints_at now id = if now.spent then None else option_and_then (endpoints_for now) (query_at id now.subs)
 
 -- ---- simulations
 

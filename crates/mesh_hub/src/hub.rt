@@ -1,4 +1,5 @@
 ghost use Rattle.std.specs.Prelude.{◌≡◌, ◌≤◌, nat_eq, ℕ, false, true, None, Ok, IfOk, OnErr, OnOk, Some};
+ghost use Rattle.std.specs.Option.{option_copied};
 ghost use Rattle.view_types.specs.declared.query.Query.TheVariants.{Port};
 ghost use Rattle.view_rules.specs.Batch.{batch};
 ghost use Rattle.view_rules.specs.Fold.{IsOrderlyIfShown};
@@ -38,6 +39,7 @@ use subscriptions::queries::is_for_endpoints;
 use subscriptions::subscribers::Subscribers;
 use view_rules::laws::views_are_orderly;
 use view_types::config::Config;
+use view_types::endpoint::EndpointView;
 use view_types::query::Query;
 use view_types::request::Request;
 use view_types::verdict::Verdict;
@@ -80,7 +82,7 @@ impl Drop for Hub {
 impl Hub {
     ghost use Rattle.mesh_hub.specs.Costs.{AppliesWithin, FindsWithin};
     ghost use Rattle.mesh_hub.specs.Due.{IdlesUnlessDue, IsUndueUnlessMemory, StaysDue, StaysDueOr, Undue, is_due};
-    ghost use Rattle.mesh_hub.specs.Hub.{Answers, Cancels, LiveSubscription, Simulates, answer_of, applied, apply_refusal, drained, frames_at, fresh, is_live, new_refusal, state_of, sub_at, subscribed};
+    ghost use Rattle.mesh_hub.specs.Hub.{Answers, Cancels, LiveSubscription, Simulates, answer_of, applied, apply_refusal, drained, endpoints_at, frames_at, fresh, is_live, new_refusal, state_of, sub_at, subscribed};
     ghost use Rattle.mesh_hub.specs.InUse.{users_in};
     ghost use Rattle.mesh_hub.specs.Replies.{MayApply, MayDrain, MaySubscribe};
     ghost use Rattle.mesh_hub.specs.Sending.{IsDueOrTooLong, IsSent};
@@ -299,6 +301,17 @@ impl Hub {
             (λ id. query_at id (state_of self.now).subs) (users_in self.now) }
     {
         self.subscribers.rows_in_use_are_those_of_queries();
+    }
+
+    /// Returns the endpoints of a live subscription to endpoints, over the objects held, and None
+    /// for any other id. It does not allocate. Once memory ran out, there are none.
+    pub fn endpoints(&self, id: SubId) -> Option<&EndpointView>
+        ensures { option_copied result ≡ endpoints_at (state_of self.now) id.0 }
+    {
+        if self.spent {
+            return None;
+        }
+        self.subscribers.endpoints(id)
     }
 
     /// Returns the store of the objects held.

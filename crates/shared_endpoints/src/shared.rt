@@ -21,6 +21,7 @@ use std::alloc::Global;
 use std::collections::BTreeMap;
 use view_rules::laws::endpoints_are_orderly;
 use view_types::config::Config;
+use view_types::endpoint::EndpointView;
 
 /// The streams of endpoints. The streams of a key share its endpoints, and subscribers that were
 /// last shown the same endpoints share frames.
@@ -186,6 +187,13 @@ impl EndpointStreams for SharedEndpoints {
         match self.by_key.get_mut(key) {
             Some(streams) => drain(self.alloc, streams, id, now, &self.limits),
             None => Ok(List::new(self.alloc)),
+        }
+    }
+
+    fn endpoints(&self, id: u64) -> Option<&EndpointView> {
+        match self.by_id.get(&id) {
+            Some(key) => self.index.row(key),
+            None => None,
         }
     }
 }

@@ -16,6 +16,7 @@ ghost use Rattle.mark_rules.specs.Rows.{rows};
 ghost use Rattle.row_views.specs.Costs.{FollowsWithin, cost_of};
 ghost use Rattle.row_views.specs.Ids.{SetsAt};
 ghost use Rattle.row_views.specs.InUse.{AreInUse};
+ghost use Rattle.endpoint_streams.specs.Streams.{endpoints_at};
 ghost use Rattle.subscriptions.specs.Costs.{stream_cost};
 ghost use Rattle.subscriptions.specs.DueIds.{Rises, is_among};
 ghost use Rattle.subscriptions.specs.Live.{AreBelow, Covers, LiveSubscription, endpoint_key, id_of, key_at, query_at, shown_in_place, sub_at, subs_of};
@@ -38,6 +39,7 @@ use object_store::change::Change;
 use object_store::store::Store;
 use row_views::query_views::QueryViews;
 use std::alloc::Global;
+use view_types::endpoint::EndpointView;
 use view_types::query::Query;
 use view_types::view::View;
 
@@ -188,6 +190,17 @@ impl<E: EndpointStreams, V: QueryViews> Subscribers<E, V> {
             Some(sub) => Ok(told(&sub.query, self.views.view(id.0 as u64)?)),
             None => Ok(None),
         }
+    }
+
+    /// Returns the current endpoints of the subscription under the id. For other views, and for an
+    /// id without a subscription, it returns None. It does not allocate.
+    pub fn endpoints(&self, id: SubId) -> Option<&EndpointView>
+        ensures { (config : Config) (limits : Limits) (held : ObjectMap)
+            → AllStand E.key_of E.shown_to E.stands V.kept_query V.query_of V.stands
+            config limits held self.now
+            → option_copied result ≡ endpoints_at config held (key_at id.0 self.now.live.subs) }
+    {
+        self.endpoints.endpoints(id.0 as u64)
     }
 
     /// Records that the subscriber under the id was shown the view, which is not of endpoints. The
