@@ -21,7 +21,7 @@ use Rattle.feed_history.specs.declared.refusal.Refusal.TheVariants as refusals
 use Rattle.feed_history.specs.Live.{LastLineDecidesLive}
 use Rattle.subscriptions.specs.Live.{LiveSubscription, query_at}
 use Rattle.mesh_hub.specs.HubAfter.{seen, seen_sub}
-use Rattle.mesh_hub.proofs.Calls.{after_alike, are_older, leads_here, number_in, program, read_alike, reads_lawfully, reads_of, rows_of, same_number}
+use Rattle.mesh_hub.proofs.Calls.{after_alike, are_older, history_of, leads_here, program, read_alike, reads_of, rows_of, same_number}
 use Rattle.mesh_hub.proofs.HubSteps.{sub_seen, subscribe_refused}
 use Rattle.due_laws.specs.Calls.{CallsAreDueHistories, due_called, due_called_all}
 use Rattle.due_laws.specs.Laws.{DueAfterRows, DueAreLive}
@@ -120,11 +120,6 @@ module _ (config : Config) (limits : Limits) (live : (p : Program) → LastLineD
 
 pub calls_are_due_histories : ((p : Program) → LastLineDecidesLive p) → ((p : Program) → DueAfterRows p) → ((p : Program) → DueAreLive p) → CallsAreDueHistories
 calls_are_due_histories live after_rows due_live config limits calls lawful = record {
-  program = program config limits (reads_of calls);
-  past = rows_of calls;
-  same_config = refl;
-  same_limits = refl;
-  lawfully = λ bytes line is. reads_lawfully calls lawful (number_in bytes) line is;
-  leads = leads_here config limits calls;
+  history = history_of config limits calls lawful;
   due = due_here config limits live after_rows due_live calls;
 }

@@ -7,14 +7,9 @@ use Rattle.watch_events.specs.Lawful.{IsLawfulLine}
 use Rattle.watch_events.specs.declared.line.Line.{Line}
 use Rattle.watch_events.specs.declared.line.Line.TheVariants as lines
 use Rattle.feed_history.specs.Due.{is_due, is_touched}
-use Rattle.feed_history.specs.History.{after}
-use Rattle.feed_history.specs.Lawful.{ReadsLawfully}
-use Rattle.feed_history.specs.Marks.{MarkedRow}
-use Rattle.feed_history.specs.Program.{Program}
 use Rattle.subscriptions.specs.Live.{query_at}
-use Rattle.mesh_hub.specs.Calls.{called_all}
+use Rattle.mesh_hub.specs.Calls.{IsHistory, called_all}
 use Rattle.mesh_hub.specs.Hub.{HubState, apply_refusal, new_refusal}
-use Rattle.mesh_hub.specs.HubAfter.{seen}
 
 -- whether an id is due after a call that does not run out of memory, given whether it was before, as the hub's contracts state it
 abbrev pub due_called : HubState → Line → ℕ → Bool → Bool
@@ -30,16 +25,10 @@ abbrev pub due_called_all : Config → Limits → List Line → ℕ → Bool
 due_called_all config limits [] id = false
 due_called_all config limits (call ∷ past) id = due_called (called_all config limits past) call id (due_called_all config limits past id)
 
--- The hub is in the state after some rows, for some program with this configuration and these limits whose rows are read lawfully, and the
--- same ids are due looking back through the rows.
+-- The calls are a history, and the same ids are due looking back through its rows.
 pub record IsDueHistory (config : Config) (limits : Limits) (calls : List Line) : Type 0 where
-  pub program : Program
-  pub past : List MarkedRow
-  pub same_config : program.config ≡ config
-  pub same_limits : program.limits ≡ limits
-  pub lawfully : ReadsLawfully program
-  pub leads : called_all config limits calls ≡ seen program (after program past)
-  pub due : (id : ℕ) → due_called_all config limits calls id ≡ is_due program past id
+  pub history : IsHistory config limits calls
+  pub due : (id : ℕ) → due_called_all config limits calls id ≡ is_due history.program history.past id
 
 -- The same after any lawful calls.
 abbrev pub CallsAreDueHistories : Type 0

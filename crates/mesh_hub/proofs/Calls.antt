@@ -19,7 +19,7 @@ use Rattle.feed_history.specs.Marks.{MarkedRow}
 use Rattle.feed_history.specs.Program.{Program}
 use Rattle.feed_history.specs.declared.refusal.HubFault.{HubFault}
 use Rattle.feed_history.specs.declared.refusal.Refusal.TheVariants as refusals
-use Rattle.mesh_hub.specs.Calls.{CallsAreHistories, called, called_all}
+use Rattle.mesh_hub.specs.Calls.{CallsAreHistories, IsHistory, called, called_all}
 use Rattle.mesh_hub.specs.Hub.{HubState}
 use Rattle.mesh_hub.specs.HubAfter.{seen}
 use Rattle.mesh_hub.proofs.HubSteps.{applied_seen, cancelled_seen, drained_seen, subscribed_seen}
@@ -140,12 +140,36 @@ reads_lawfully (call ∷ past) lawful n line is = by_test (eqb n (length past)) 
     by_test true earlier is = let same : call ≡ line = cc is in subst IsLawfulLine same lawful.0
     by_test false earlier is = earlier is
 
-pub calls_are_histories : CallsAreHistories
-calls_are_histories config limits calls lawful = record {
+-- ---- each row reads as its call
+
+same_said : (one other : List ℕ → Result Line LineFault) (rows : List MarkedRow) → AllByRecursion (λ (row : MarkedRow). row_says one row.0 ≡ row_says other row.0) rows
+    → map (λ (row : MarkedRow). row_says one row.0) rows ≡ map (λ (row : MarkedRow). row_says other row.0) rows
+same_said one other [] same = refl
+same_said one other (row ∷ rows) same = λ i. same.0 i ∷ same_said one other rows same.1 i
+
+said : (calls : List Line) → map (λ (row : MarkedRow). row_says (reads_of calls) row.0) (rows_of calls) ≡ map Ok calls
+said [] = refl
+said (call ∷ past) =
+    let reads = reads_of (call ∷ past) in
+    let here : reads (length past ∷ []) ≡ Ok call = ap (λ (b : Bool). cond b (Ok call) (numbered past (length past))) (same_number (length past)) in
+    let before = sym (same_said (reads_of past) reads (rows_of past) (read_alike call past (rows_of past) (are_older past))) ∙ said past in
+    λ i. here i ∷ before i
+
+none_marked : (calls : List Line) → AllByRecursion (λ (row : MarkedRow). row.1 ≡ None) (rows_of calls)
+none_marked [] = tt
+none_marked (call ∷ past) = (refl, none_marked past)
+
+abbrev pub history_of : (config : Config) (limits : Limits) (calls : List Line) → AllByRecursion IsLawfulLine calls → IsHistory config limits calls
+history_of config limits calls lawful = record {
   program = program config limits (reads_of calls);
   past = rows_of calls;
   same_config = refl;
   same_limits = refl;
   lawfully = λ bytes line is. reads_lawfully calls lawful (number_in bytes) line is;
+  reads = said calls;
+  unmarked = none_marked calls;
   leads = leads_here config limits calls;
 }
+
+pub calls_are_histories : CallsAreHistories
+calls_are_histories = history_of

@@ -1,6 +1,6 @@
 -- The state after any list of calls on a new hub, which is also the state after some history of feed lines. A call is given as the
 -- line that requests it; the newest call is first.
-use Rattle.std.specs.Prelude.{◌≡◌, List, [], ◌∷◌}
+use Rattle.std.specs.Prelude.{◌≡◌, List, [], ◌∷◌, None, Ok, map}
 use Rattle.std.specs.List.{AllByRecursion}
 use Rattle.mesh_base.specs.declared.limits.Limits.{Limits}
 use Rattle.view_types.specs.declared.config.Config.{Config}
@@ -10,7 +10,7 @@ use Rattle.watch_events.specs.declared.line.Line.TheVariants as lines
 use Rattle.feed_history.specs.History.{after}
 use Rattle.feed_history.specs.Lawful.{ReadsLawfully}
 use Rattle.feed_history.specs.Marks.{MarkedRow}
-use Rattle.feed_history.specs.Program.{Program}
+use Rattle.feed_history.specs.Program.{Program, reading}
 use Rattle.mesh_hub.specs.Hub.{HubState, applied, cancelled, drained, fresh, subscribed}
 use Rattle.mesh_hub.specs.HubAfter.{seen}
 
@@ -28,15 +28,19 @@ abbrev pub called_all : Config → Limits → List Line → HubState
 called_all config limits [] = fresh config limits
 called_all config limits (call ∷ past) = called (called_all config limits past) call
 
--- This is the state after some rows, for some program with this configuration and these limits whose rows are read lawfully.
-pub record IsHistory (config : Config) (limits : Limits) (state : HubState) : Type 0 where
+-- For some program with this configuration and these limits, whose rows are read lawfully, there is
+-- a row for each call, in the same order, that reads as the call and met no refused pattern. The
+-- calls lead to the state after these rows.
+pub record IsHistory (config : Config) (limits : Limits) (calls : List Line) : Type 0 where
   pub program : Program
   pub past : List MarkedRow
   pub same_config : program.config ≡ config
   pub same_limits : program.limits ≡ limits
   pub lawfully : ReadsLawfully program
-  pub leads : state ≡ seen program (after program past)
+  pub reads : map (reading program) past ≡ map Ok calls
+  pub unmarked : AllByRecursion (λ (row : MarkedRow). row.1 ≡ None) past
+  pub leads : called_all config limits calls ≡ seen program (after program past)
 
--- After any lawful calls on a new hub, in any order, the state is that after some history.
+-- Any lawful calls on a new hub, in any order, are a history.
 abbrev pub CallsAreHistories : Type 0
-CallsAreHistories = (config : Config) (limits : Limits) (calls : List Line) → AllByRecursion IsLawfulLine calls → IsHistory config limits (called_all config limits calls)
+CallsAreHistories = (config : Config) (limits : Limits) (calls : List Line) → AllByRecursion IsLawfulLine calls → IsHistory config limits calls
