@@ -432,9 +432,12 @@ impl Hub {
 
 impl Machine for Hub {
     ghost use Rattle.std.specs.Prelude.{Some, None};
+    ghost use Rattle.mesh_hub.specs.Due.{is_due};
     ghost use Rattle.mesh_hub.specs.Hub.{state_of};
 
     ghost state = { λ hub. Some (state_of hub) };
+
+    ghost due = { λ hub. Some (is_due hub) };
 
     ghost replies = { λ hub. None };
 

@@ -1,4 +1,5 @@
-ghost use Rattle.std.specs.Prelude.{◌≡◌, ◌≤◌, List, [], Option, Ok};
+ghost use Rattle.std.specs.Prelude.{◌≡◌, ◌≤◌, nat_eq, ℕ, Bool, false, List, [], Option, Ok, IfSome, OnOk};
+ghost use Rattle.view_types.specs.declared.query.Query.TheVariants.{Port};
 ghost use Rattle.watch_events.specs.Lawful.{IsLawfulEvent};
 ghost use Rattle.route_match.specs.Asking.{AsksPatterns, facts_of};
 ghost use Rattle.request_sim.specs.Faults.{MetPattern};
@@ -34,16 +35,24 @@ pub enum Reply {
     Pattern(SimFault),
 }
 
-/// A hub, or a substitute for one. Contracts may know its state, its replies, or both.
+/// A hub, or a substitute for one. Contracts may know its state with the ids that are due, its
+/// replies, or both. Where the state is known, so is how many objects a call looks up at most.
 pub trait Machine {
     ghost use Rattle.mesh_hub.specs.Hub.{Answers, Cancels, HubState, answer_of, applied, apply_refusal, drained, frames_at, fresh, new_refusal, subscribed, Simulates};
+    ghost use Rattle.feed_history.specs.Due.{is_touched};
     ghost use Rattle.feed_history.specs.Optional.{Becomes, Grows};
+    ghost use Rattle.subscriptions.specs.Live.{query_at};
+    ghost use Rattle.mesh_hub.specs.Costs.{AppliesWithin, FindsWithin};
+    ghost use Rattle.mesh_hub.specs.Due.{BecomeDueIfOk, Idles, Leaves, LeavesUnlessMemory, StayUnlessSpent};
     ghost use Rattle.mesh_hub.specs.Replies.{MayApply, MayDrain, MaySubscribe, done_reply, drain_reply, sim_reply};
     ghost use Rattle.mesh_hub.specs.Begins.{Begins};
     ghost use Rattle.mesh_hub.specs.declared.machine.Reply.{Reply as TheReply};
 
     /// The state, if it is known.
     ghost state: { Self → Option HubState };
+
+    /// Whether an id is due, if that is known.
+    ghost due: { Self → Option (ℕ → Bool) };
 
     /// The replies so far, the oldest first, if they are known.
     ghost replies: { Self → Option (List TheReply) };
@@ -53,13 +62,21 @@ pub trait Machine {
         requires { 1 ≤ limits.frame_addrs }
         ensures state { Becomes (state self.old) (state self.new)
             (Begins (fresh config limits) result) }
+        ensures due { Becomes (due self.old) (due self.new) (λ was now.
+            OnOk result ((id : ℕ) → now id ≡ false)) }
         ensures replies { Grows (replies self.old) (replies self.new) [] };
 
-    /// Applies a watch event. Returns `Full` if there would be more objects than the limit.
+    /// Applies a watch event. The subscriptions whose queries read a mark of the event before it
+    /// become due. Returns `Full` if there would be more objects than the limit.
     fn apply<L>(&mut self, event: Event, steps: &mut Steps<L>) -> Result<(), HubFault>
         requires { IsLawfulEvent event }
         ensures state { Becomes (state self.old) (state self.new) (λ old new.
             Answers old (answer_of (apply_refusal old event)) (applied old event) result new) }
+        ensures due { Becomes (due self.old) (due self.new) (λ was now.
+            IfSome (state self.old) (λ old. BecomeDueIfOk (λ id.
+            is_touched old.config old.objects event (query_at id old.subs)) result was now)) }
+        ensures steps { IfSome (state self.old) (λ old.
+            AppliesWithin old event result steps.old steps.new) }
         ensures replies { Grows (replies self.old) (replies self.new) (done_reply result) }
         ensures may { MayApply result };
 
@@ -73,6 +90,10 @@ pub trait Machine {
     ) -> Result<(), HubFault>
         ensures state { Becomes (state self.old) (state self.new) (λ old new.
             Answers old (answer_of (new_refusal old id.0)) (subscribed old id query) result new) }
+        ensures due { Becomes (due self.old) (due self.new)
+            (BecomeDueIfOk (λ n. nat_eq n id.0) result) }
+        ensures steps { IfSome (state self.old) (λ old.
+            FindsWithin old query steps.old steps.new) }
         ensures replies { Grows (replies self.old) (replies self.new) (done_reply result) }
         ensures may { MaySubscribe result };
 
@@ -81,16 +102,20 @@ pub trait Machine {
     fn cancel(&mut self, id: SubId) -> Result<(), NoSuchId>
         ensures state { Becomes (state self.old) (state self.new) (λ old new.
             Cancels id.0 old result new) }
+        ensures due { Becomes (due self.old) (due self.new) (Leaves id.0) }
         ensures replies { Becomes (replies self.old) (replies self.new) (λ old new.
             (new ≡ old) × (result ≡ Ok tt)) };
 
     /// Returns the frames that bring a subscriber from the view that it was last shown to its
-    /// current one. Returns `NoSuchId` if the id is not live, and `Oversize`, with the length of
-    /// the first such message, if a message is longer than the limit; the subscription has then
-    /// ended.
+    /// current one. For an id that is not due there are none, and nothing is allocated. Returns
+    /// `NoSuchId` if the id is not live, and `Oversize`, with the length of the first such message,
+    /// if a message is longer than the limit; the subscription has then ended.
     fn drain(&mut self, id: SubId) -> Result<List<Bytes>, HubFault>
         ensures state { Becomes (state self.old) (state self.new) (λ old new.
             Answers old (frames_at old id.0) (drained old id.0) result new) }
+        ensures due { Becomes (due self.old) (due self.new) (LeavesUnlessMemory id.0 result) }
+        ensures idle { IfSome (state self.old) (λ old. IfSome (due self.old) (λ was.
+            Idles id.0 old was result self.old self.new)) }
         ensures replies { Grows (replies self.old) (replies self.new) (drain_reply id result) }
         ensures may { MayDrain id result };
 
@@ -104,6 +129,9 @@ pub trait Machine {
     ) -> Result<Verdict, SimFault>
         ensures state { Becomes (state self.old) (state self.new) (λ old new.
             Simulates (facts_of P.Patterns patterns.old) request.now result old new) }
+        ensures due { Becomes (due self.old) (due self.new) (StayUnlessSpent (state self.new)) }
+        ensures steps { IfSome (state self.old) (λ old. FindsWithin old
+            (Port request.now.ns request.now.pod request.now.port) steps.old steps.new) }
         ensures replies { Grows (replies self.old) (replies self.new) (sim_reply result) }
         ensures asks { AsksPatterns P.Patterns patterns.old patterns.new (MetPattern result) };
 }

@@ -69,6 +69,8 @@ impl Machine for ScriptMachine {
 
     ghost state = { λ machine. None };
 
+    ghost due = { λ machine. None };
+
     ghost replies = { λ machine. Some (take machine.given machine.replies) };
 
     fn begin(&mut self, _config: Config, _limits: Limits) -> Result<(), Memory>
