@@ -27,4 +27,6 @@ abbrev pub refusal_text : Refusal → List ℕ
 refusal_text (refusals.Line fault) = line_fault_text fault
 refusal_text (refusals.Hub fault) = hub_fault_text fault
 refusal_text refusals.NotHere = codes "NotHere"
+refusal_text refusals.Reserved = codes "Reserved"
 refusal_text (refusals.Sim fault) = sim_fault_text fault
+refusal_text (refusals.Profile place) = codes "Pattern profile " ++ decimal place

@@ -45,8 +45,14 @@ pub enum Refusal {
     Hub(HubFault),
     /// It has no place in this program.
     NotHere,
+    /// It would replace an object that another kind's lines stand for. For a command that keeps
+    /// such objects.
+    Reserved,
     /// It simulates a request, and met a regular expression that is refused.
     Sim(SimFault),
+    /// It met a regular expression that is refused, in the condition of a profile's route; `place`
+    /// is that of the route. For a command that looks up routes of a profile.
+    Profile { place: u64 },
 }
 
 impl fmt::Display for HubFault {
@@ -75,11 +81,16 @@ impl fmt::Display for Refusal {
                 write!(f, "{fault}")
             }
             Refusal::NotHere => write!(f, "NotHere"),
+            Refusal::Reserved => write!(f, "Reserved"),
             Refusal::Sim(SimFault::Memory) => Ok(()),
             Refusal::Sim(SimFault::Pattern { route, rule, item }) => {
                 let route = route.as_str();
                 let (rule, item) = (*rule, *item);
                 write!(f, "Pattern {route} {rule} {item}")
+            }
+            Refusal::Profile { place } => {
+                let place = *place;
+                write!(f, "Pattern profile {place}")
             }
         }
     }

@@ -42,7 +42,9 @@ abbrev pub HasPlainFault : Option Refusal → Type 0
 HasPlainFault (Some (refusals.Line fault)) = IsPlainFault fault
 HasPlainFault (Some (refusals.Hub fault)) = Unit {0}
 HasPlainFault (Some refusals.NotHere) = Unit {0}
+HasPlainFault (Some refusals.Reserved) = Unit {0}
 HasPlainFault (Some (refusals.Sim fault)) = HasPlainRoute fault
+HasPlainFault (Some (refusals.Profile place)) = Unit {0}
 HasPlainFault None = Unit {0}
 
 hub_refused : (fault : Option HubFault) → HasPlainFault (option_map refusals.Hub fault)

@@ -103,6 +103,8 @@ pub plain_refusal : (refusal : Refusal) → HasPlainFault (Some refusal) → Pla
 plain_refusal (refusals.Line fault) plain = line_plain fault plain
 plain_refusal (refusals.Hub fault) plain = hub_plain fault
 plain_refusal refusals.NotHere plain = looked_through 10 (codes "NotHere") refl
+plain_refusal refusals.Reserved plain = looked_through 10 (codes "Reserved") refl
+plain_refusal (refusals.Profile place) plain = worded (codes "Pattern profile ") (decimal place) (looked_through 10 (codes "Pattern profile ") refl) (number_plain place)
 plain_refusal (refusals.Sim sim.Memory) plain = tt
 plain_refusal (refusals.Sim (sim.Pattern route rule item)) plain =
     worded (codes "Pattern ") (route ++ (codes " " ++ (decimal rule ++ (codes " " ++ decimal item)))) (looked_through 10 (codes "Pattern ") refl)
