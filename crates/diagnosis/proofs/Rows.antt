@@ -14,11 +14,11 @@ use Rattle.watch_events.specs.Lines.{row_says, text_line}
 use Rattle.watch_events.specs.declared.line.Line.{Line}
 use Rattle.watch_events.specs.declared.line.Line.TheVariants as lines
 use Rattle.watch_events.specs.declared.line.LineFault.{LineFault}
-use Rattle.feed_history.specs.History.{State, after, after_line, refusal_after, refusal_of}
+use Rattle.feed_history.specs.History.{State, after, after_line, refusal_after}
 use Rattle.feed_history.specs.Ids.{unless_refused}
 use Rattle.feed_history.specs.Marks.{MarkedRow, unmarked}
 use Rattle.feed_history.specs.Output.{line_text, piece_of, row_piece, written_after}
-use Rattle.feed_history.specs.Program.{Program}
+use Rattle.feed_history.specs.Program.{Program, refused_unread}
 use Rattle.feed_history.specs.Text.{refused_line}
 use Rattle.feed_history.specs.declared.refusal.Refusal.{Refusal}
 use Rattle.feed_history.proofs.Marks.{as_long, rows_unmarked}
@@ -39,12 +39,8 @@ module _ (config : Config) (limits : Limits) where
   abbrev program : Program
   program = diagnosis_of config limits
 
-  pub reads_over : (row : Row) → if_read (row_says (text_line config) row) ≡ row_says program.reads row
-  reads_over None = refl
-  reads_over (Some line) = refl
-
   -- an accepted line writes nothing
-  writes_none : (number : ℕ) (now : State) (line : Result Line LineFault) → line_text program number now (if_read line) ≡ []
+  writes_none : (number : ℕ) (now : State) (line : Result Line LineFault) → line_text program number now (refused_unread (if_read line)) ≡ []
   writes_none number now (Err fault) = refl
   writes_none number now (Ok lines.Blank) = refl
   writes_none number now (Ok (lines.Event event)) = refl
@@ -58,14 +54,14 @@ module _ (config : Config) (limits : Limits) where
     abbrev now : State
     now = after program (unmarked past)
 
-    abbrev said : Result Line LineFault
-    said = row_says program.reads row
+    abbrev said : Result Line Refusal
+    said = program.reads now.objects row
 
     piece_is : refusal ≡ refusal_after program (unmarked past) (row, None) → refusal_line (length past + 1) refusal ≡ piece_of program (unmarked past) (row, None)
     piece_is is =
         let marked : List MarkedRow = unmarked past in
         let number = length marked + 1 in
-        let none : line_text program number now said ≡ [] = ap (line_text program number now) (sym (reads_over row)) ∙ writes_none number now (row_says (text_line config) row) in
+        let none : line_text program number now said ≡ [] = writes_none number now (row_says (text_line config) row) in
         ap (λ (n : ℕ). refusal_line (n + 1) refusal) (as_long marked past (rows_unmarked _ past)) ∙ ap (refusal_line number) is
         ∙ refusal_alone number (refusal_after program (unmarked past) (row, None)) (line_text program number now said) none
 
@@ -73,10 +69,8 @@ module _ (config : Config) (limits : Limits) where
         → Stands config limits past text was old → Stands config limits (row ∷ past) text_new (was || is_some refusal) new
     stands_row takes writes stood =
         let taken = takes now stood.holds in
-        let is : refusal ≡ refusal_after program (unmarked past) (row, None) = taken.refusal_is ∙ ap (refusal_of program now None) (reads_over row) in record {
-          holds = subst (λ (state : State). Holds limits state new)
-              (ap (λ (line : Result Line LineFault). unless_refused refusal now (after_line program now line)) (reads_over row)
-              ∙ ap (λ (r : Option Refusal). unless_refused r now (after_line program now said)) is) taken.holds;
+        let is : refusal ≡ refusal_after program (unmarked past) (row, None) = taken.refusal_is in record {
+          holds = subst (λ (state : State). Holds limits state new) (ap (λ (r : Option Refusal). unless_refused r now (after_line program now said)) is) taken.holds;
           writes = writes ∙ ap (λ (xs : List ℕ). xs ++ refusal_line (length past + 1) refusal) stood.writes
               ∙ ap (λ (xs : List ℕ). written_after program (unmarked past) ++ xs) (piece_is is);
           refuses = ap (λ (b : Bool). b || is_some refusal) stood.refuses ∙ ap (λ (r : Option Refusal). refused_in config limits past || is_some r) is;

@@ -5,14 +5,14 @@ use Rattle.line_run.specs.Rows.{Row, past_of}
 use Rattle.view_rules.specs.Views.{view_of}
 use Rattle.view_types.specs.declared.config.Config.{Config}
 use Rattle.view_types.specs.declared.query.Query.{Query}
-use Rattle.watch_events.specs.Lines.{text_line}
+use Rattle.watch_events.specs.Lines.{row_says, text_line}
 use Rattle.watch_events.specs.declared.line.Line.{Line}
 use Rattle.watch_events.specs.declared.line.Line.TheVariants as lines
 use Rattle.watch_events.specs.declared.line.LineFault.{LineFault}
 use Rattle.feed_history.specs.History.{after}
 use Rattle.feed_history.specs.Marks.{unmarked}
 use Rattle.feed_history.specs.Output.{refused_after, written_after}
-use Rattle.feed_history.specs.Program.{Program, has_place_in_replay}
+use Rattle.feed_history.specs.Program.{Program, has_place_in_replay, refused_unread}
 use Rattle.output_fold.specs.Folded.{view_lines}
 
 -- ---- the program
@@ -36,7 +36,7 @@ if_read (Err fault) = Err fault
 abbrev pub diagnosis_of : Config → Limits → Program
 diagnosis_of config limits = record {
   config = config;
-  reads = λ line. if_read (text_line config line);
+  reads = λ held row. refused_unread (if_read (row_says (text_line config) row));
   has_place = has_place_in_replay;
   limits = limits;
   matches = λ pattern string. false;

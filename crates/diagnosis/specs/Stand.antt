@@ -14,6 +14,7 @@ use Rattle.feed_history.specs.History.{State, after, after_line, refusal_of}
 use Rattle.feed_history.specs.Ids.{unless_refused}
 use Rattle.feed_history.specs.Marks.{unmarked}
 use Rattle.feed_history.specs.Output.{written_after}
+use Rattle.feed_history.specs.Program.{refused_unread}
 use Rattle.feed_history.specs.declared.refusal.HubFault.{HubFault}
 use Rattle.feed_history.specs.declared.refusal.Refusal.{Refusal}
 use Rattle.diagnosis.specs.Diagnosed.{diagnosed_after, diagnosis_of, if_read, refused_in}
@@ -36,8 +37,8 @@ pub record Holds (limits : Limits) (now : State) (held : Held) : Type 0 where
 
 -- The line was refused, for its cause, or applied, and the store holds the objects after it.
 pub record TakesFrom (config : Config) (limits : Limits) (line : Result Line LineFault) (refusal : Option Refusal) (now : State) (new : Held) : Type 0 where
-  pub refusal_is : refusal ≡ refusal_of (diagnosis_of config limits) now None (if_read line)
-  pub holds : Holds limits (unless_refused refusal now (after_line (diagnosis_of config limits) now (if_read line))) new
+  pub refusal_is : refusal ≡ refusal_of (diagnosis_of config limits) now None (refused_unread (if_read line))
+  pub holds : Holds limits (unless_refused refusal now (after_line (diagnosis_of config limits) now (refused_unread (if_read line)))) new
 
 -- The same for any state whose objects the store held.
 abbrev pub Takes : Config → Limits → Result Line LineFault → Option Refusal → Held → Held → Type 0

@@ -6,10 +6,8 @@ use Rattle.std.specs.Option.{is_some}
 use Rattle.std.proofs.lemmas.Bool.Decides.{eqb_tells}
 use Rattle.mesh_base.specs.declared.limits.Limits.{Limits}
 use Rattle.view_types.specs.declared.config.Config.{Config}
-use Rattle.watch_events.specs.Lines.{row_says}
 use Rattle.watch_events.specs.declared.line.Line.{Line}
 use Rattle.watch_events.specs.declared.line.Line.TheVariants as lines
-use Rattle.watch_events.specs.declared.line.LineFault.{LineFault}
 use Rattle.feed_history.specs.Due.{due_after, is_due, is_touched}
 use Rattle.feed_history.specs.History.{Asked, State, after, asked_at, hub_refusal, refusal_of}
 use Rattle.feed_history.specs.Live as history
@@ -17,6 +15,7 @@ use Rattle.feed_history.specs.Ids.{unknown_refusal}
 use Rattle.feed_history.specs.Marks.{MarkedRow}
 use Rattle.feed_history.specs.Program.{Program}
 use Rattle.feed_history.specs.declared.refusal.HubFault.{HubFault}
+use Rattle.feed_history.specs.declared.refusal.Refusal.{Refusal}
 use Rattle.feed_history.specs.declared.refusal.Refusal.TheVariants as refusals
 use Rattle.feed_history.specs.Live.{LastLineDecidesLive}
 use Rattle.subscriptions.specs.Live.{LiveSubscription, query_at}
@@ -45,7 +44,7 @@ unless false before = refl
 
 module _ (config : Config) (limits : Limits) (live : (p : Program) → LastLineDecidesLive p) (after_rows : (p : Program) → DueAfterRows p) (due_live : (p : Program) → DueAreLive p) where
   -- who is due depends on what the rows say alone
-  due_alike : (one other : List ℕ → Result Line LineFault) (rows : List MarkedRow) → AllByRecursion (λ (row : MarkedRow). row_says one row.0 ≡ row_says other row.0) rows
+  due_alike : (one other : Option (List ℕ) → Result Line Refusal) (rows : List MarkedRow) → AllByRecursion (λ (row : MarkedRow). one row.0 ≡ other row.0) rows
       → (id : ℕ) → is_due (program config limits one) rows id ≡ is_due (program config limits other) rows id
   due_alike one other [] same id = refl
   due_alike one other (row ∷ past) same id =
@@ -54,12 +53,12 @@ module _ (config : Config) (limits : Limits) (live : (p : Program) → LastLineD
       ∙ (λ i. step one (before i) (same.0 i) row (due_alike one other past same.1 id i))
       ∙ sym (after_rows (program config limits other) past row id)
     where
-      step : (List ℕ → Result Line LineFault) → State → Result Line LineFault → MarkedRow → Bool → Bool
+      step : (Option (List ℕ) → Result Line Refusal) → State → Result Line Refusal → MarkedRow → Bool → Bool
       step reads now line row before = cond (is_some (refusal_of (program config limits reads) now row.1 line)) before (due_after config now line id before)
 
   -- ---- one call
 
-  module _ (reads : List ℕ → Result Line LineFault) (past : List MarkedRow) (id : ℕ) where
+  module _ (reads : Option (List ℕ) → Result Line Refusal) (past : List MarkedRow) (id : ℕ) where
     abbrev the : Program
     the = program config limits reads
 
@@ -113,7 +112,7 @@ module _ (config : Config) (limits : Limits) (live : (p : Program) → LastLineD
       ∙ (λ i. due_called (seen (program config limits reads) (after_alike config limits (reads_of past) reads (rows_of past) alike i)) call id (due_alike (reads_of past) reads (rows_of past) alike id i))
       ∙ called reads (rows_of past) id call
       ∙ ap (λ (b : Bool).
-      let line = cond b (Ok call) (reads_of past (length past ∷ [])) in
+      let line = cond b (Ok call) (reads_of past (Some (length past ∷ []))) in
       cond (is_some (refusal_of (program config limits reads) (after (program config limits reads) (rows_of past)) None line)) (is_due (program config limits reads) (rows_of past) id)
       (due_after config (after (program config limits reads) (rows_of past)) line id (is_due (program config limits reads) (rows_of past) id))) (sym (same_number (length past)))
       ∙ sym (after_rows (program config limits reads) (rows_of past) (Some (length past ∷ []), None) id)

@@ -7,12 +7,11 @@ use Rattle.view_rules.specs.Views.{view_before, view_of}
 use Rattle.watch_events.specs.declared.event.Event.{Event}
 use Rattle.watch_events.specs.declared.line.Line.{Line}
 use Rattle.watch_events.specs.declared.line.Line.TheVariants as lines
-use Rattle.watch_events.specs.declared.line.LineFault.{LineFault}
-use Rattle.feed_history.specs.History.{after, refusal_after}
+use Rattle.feed_history.specs.History.{after, reading_after, refusal_after}
 use Rattle.feed_history.specs.Live.{LastLineDecidesLive, asked_by, live_at, meets_too_long}
 use Rattle.feed_history.specs.LookBack.{last_told}
 use Rattle.feed_history.specs.Marks.{MarkedRow}
-use Rattle.feed_history.specs.Program.{Program, reading}
+use Rattle.feed_history.specs.Program.{Program}
 use Rattle.feed_history.specs.declared.refusal.Refusal.{Refusal}
 use Rattle.feed_history.specs.Due.{due_after, due_by, is_due, is_touched}
 use Rattle.due_laws.specs.Laws.{DueAfterRows, DueAreLive, NeverDrainedAreDue, OnlyDueAreOwed}
@@ -25,7 +24,7 @@ taken : (b before : Bool) → last_told None (cond b (Some false) None) before �
 taken true before = refl
 taken false before = refl
 
-changed : (program : Program) → LastLineDecidesLive program → (past : List MarkedRow) (refusal : Option Refusal) (line : Result Line LineFault) (id : ℕ) (before : Bool)
+changed : (program : Program) → LastLineDecidesLive program → (past : List MarkedRow) (refusal : Option Refusal) (line : Result Line Refusal) (id : ℕ) (before : Bool)
     → last_told refusal (due_by program past line id) before ≡ cond (is_some refusal) before (due_after program.config (after program past) line id before)
 changed program live past (Some refusal) line id before = refl
 changed program live past None (Err fault) id before = refl
@@ -40,7 +39,7 @@ changed program live past None (Ok (lines.Cancel asked)) id before = taken (eqb 
 changed program live past None (Ok (lines.Drain asked)) id before = taken (eqb asked.0 id) before
 
 pub due_after_rows : (program : Program) → LastLineDecidesLive program → DueAfterRows program
-due_after_rows program live past row id = changed program live past (refusal_after program past row) (reading program row) id (is_due program past id)
+due_after_rows program live past row id = changed program live past (refusal_after program past row) (reading_after program past row) id (is_due program past id)
 
 -- who is due is live
 abbrev IsLiveIf : Bool → Option Query → Type 0
@@ -65,7 +64,7 @@ module _ (program : Program) (past : List MarkedRow) (id : ℕ) (so_far : IsLive
   cancelled_live true is_so = absurd (cc is_so)
   cancelled_live false is_so = so_far is_so
 
-  row_live : (refusal : Option Refusal) (line : Result Line LineFault)
+  row_live : (refusal : Option Refusal) (line : Result Line Refusal)
       → IsLiveIf (last_told refusal (due_by program past line id) (is_due program past id)) (last_told refusal (asked_by program (after program past) line id) (live_at program past id))
   row_live (Some refusal) line = so_far
   row_live None (Err fault) = so_far
@@ -79,7 +78,7 @@ module _ (program : Program) (past : List MarkedRow) (id : ℕ) (so_far : IsLive
 
 pub due_are_live : (program : Program) → DueAreLive program
 due_are_live program [] id is_so = absurd (cc is_so)
-due_are_live program (row ∷ past) id is_so = row_live program past id (due_are_live program past id) (refusal_after program past row) (reading program row) is_so
+due_are_live program (row ∷ past) id is_so = row_live program past id (due_are_live program past id) (refusal_after program past row) (reading_after program past row) is_so
 
 -- a live subscription that was never drained is owed its view, so it is due
 pub never_drained_are_due : (program : Program) → OnlyDueAreOwed program → NeverDrainedAreDue program

@@ -9,18 +9,17 @@ use Rattle.watch_events.specs.Lawful.{IsLawfulEvent, IsLawfulLine}
 use Rattle.watch_events.specs.declared.event.Event.{Event}
 use Rattle.watch_events.specs.declared.line.Line.{Line}
 use Rattle.watch_events.specs.declared.line.Line.TheVariants as lines
-use Rattle.watch_events.specs.declared.line.LineFault.{LineFault}
 use Rattle.feed_history.specs.Events.{objects_after}
-use Rattle.feed_history.specs.History.{Asked, State, after, after_line, refusal_after}
+use Rattle.feed_history.specs.History.{Asked, State, after, after_line, reading_after, refusal_after}
 use Rattle.feed_history.specs.Ids.{unless_refused}
 use Rattle.feed_history.specs.LastDrain.{LastDrainDecidesShown, drain_in, last_drain}
 use Rattle.feed_history.specs.Lawful.{HeldAreLawful, HeldAtKeys, ReadsLawfully}
 use Rattle.feed_history.specs.Live.{LastLineDecidesLive, asked_by, live_at, meets_too_long}
 use Rattle.feed_history.specs.LookBack.{last_told}
 use Rattle.feed_history.specs.Marks.{MarkedRow}
-use Rattle.feed_history.specs.Program.{Program, reading}
+use Rattle.feed_history.specs.Program.{Program}
 use Rattle.feed_history.specs.declared.refusal.Refusal.{Refusal}
-use Rattle.history_laws.proofs.Telling.{row_lawful}
+use Rattle.history_laws.proofs.Held.{row_lawful}
 use Rattle.event_laws.specs.Laws.{UntouchedQueriesStay}
 use Rattle.feed_history.specs.Due.{due_by, is_due, is_touched}
 use Rattle.due_laws.specs.Laws.{OnlyDueAreOwed}
@@ -69,7 +68,7 @@ module _ (program : Program) (stay : UntouchedQueriesStay) (id : ℕ) (query : Q
     drained true long rows here live undue = ap (λ (objects : ObjectMap). Some (view_of program.config objects query)) here
     drained false long rows here live undue = so_far live undue
 
-    step_unmoved : (rows : List MarkedRow) (refusal : Option Refusal) (line : Result Line LineFault) → IfOk line IsLawfulLine
+    step_unmoved : (rows : List MarkedRow) (refusal : Option Refusal) (line : Result Line Refusal) → IfOk line IsLawfulLine
         → after program rows ≡ unless_refused refusal (after program past) (after_line program (after program past) line)
         → StaysUnmoved (last_told refusal (asked_by program (after program past) line id) (live_at program past id)) (last_told refusal (due_by program past line id) (is_due program past id))
         (last_told refusal (drain_in rows line id) (last_drain program past id)) (unless_refused refusal (after program past) (after_line program (after program past) line)).objects
@@ -88,7 +87,7 @@ module _ (program : Program) (stay : UntouchedQueriesStay) (id : ℕ) (query : Q
     pub unmoved : (past : List MarkedRow) → StaysUnmoved (live_at program past id) (is_due program past id) (last_drain program past id) (after program past).objects
     unmoved [] live undue = absurd (cc live)
     unmoved (row ∷ past) live undue =
-        step_unmoved past (at_keys past) (lawful past) (unmoved past) (row ∷ past) (refusal_after program past row) (reading program row) (row_lawful program reads row) refl live undue
+        step_unmoved past (at_keys past) (lawful past) (unmoved past) (row ∷ past) (refusal_after program past row) (reading_after program past row) (row_lawful program reads past row) refl live undue
 
 module _ (program : Program) (stay : UntouchedQueriesStay) (reads : ReadsLawfully program) (lawful : HeldAreLawful program) (at_keys : HeldAtKeys program)
     (live : LastLineDecidesLive program) (told : LastDrainDecidesShown program) where

@@ -2,15 +2,15 @@
 use Rattle.std.specs.Prelude.{◌≡◌, ℕ, true, false, List, [], ◌∷◌, Some, None, if◌then◌else◌, is_some}
 use Rattle.feed_history.specs.Deliveries.{IsOwedNothing}
 use Rattle.feed_history.specs.Due.{due_after, is_due}
-use Rattle.feed_history.specs.History.{Asked, after, asked_at, messages_due, refusal_after}
+use Rattle.feed_history.specs.History.{Asked, after, asked_at, messages_due, reading_after, refusal_after}
 use Rattle.feed_history.specs.Live.{live_at}
 use Rattle.feed_history.specs.Marks.{MarkedRow}
-use Rattle.feed_history.specs.Program.{Program, reading}
+use Rattle.feed_history.specs.Program.{Program}
 
 -- An accepted row changes which ids are due as its line does, and a refused row does not.
 abbrev pub DueAfterRows : Program → Type 0
 DueAfterRows program = (past : List MarkedRow) (row : MarkedRow) (id : ℕ)
-    → is_due program (row ∷ past) id ≡ (if is_some (refusal_after program past row) then is_due program past id else due_after program.config (after program past) (reading program row) id (is_due program past id))
+    → is_due program (row ∷ past) id ≡ (if is_some (refusal_after program past row) then is_due program past id else due_after program.config (after program past) (reading_after program past row) id (is_due program past id))
 
 abbrev pub DueAreLive : Program → Type 0
 DueAreLive program = (past : List MarkedRow) (id : ℕ) → is_due program past id ≡ true → is_some (live_at program past id) ≡ true

@@ -3,13 +3,15 @@ use Rattle.std.proofs.Common.{◌≡◌, ℕ, ◌||◌, List, [], ◌∷◌, ◌
 use Rattle.std.specs.Option.{option_to_list}
 use Rattle.line_run.specs.Rows.{Row}
 use Rattle.session_core.specs.Outboxes.{NoneEmpty}
-use Rattle.watch_events.specs.Lines.{row_says}
+use Rattle.mesh_base.specs.declared.limits.Limits.{Limits}
+use Rattle.view_types.specs.declared.config.Config.{Config}
+use Rattle.watch_events.specs.Lines.{row_says, text_line}
 use Rattle.route_match.specs.Matching.{Pat}
 use Rattle.request_sim.specs.declared.fault.SimFault.{SimFault}
 use Rattle.feed_history.specs.History.{after}
 use Rattle.feed_history.specs.KnownPatterns.{PatternsNow, facts_in}
 use Rattle.feed_history.specs.MarkCauses.{IsTold, IsToldFor}
-use Rattle.feed_history.specs.Program.{Program}
+use Rattle.feed_history.specs.Program.{Program, refused_unread}
 use Rattle.feed_history.proofs.Marks.{few_more, may_be_marked, none_more}
 use Rattle.mesh_hub.specs.Hub.{HubState}
 use Rattle.serve_rules.specs.FedLines.{FedRow, answer_to, is_stop, rows_fed, says_stop, serve_of}
@@ -22,16 +24,17 @@ none_empty_then [] item none some = (some, tt)
 none_empty_then (first ∷ items) item none some = (none.0, none_empty_then items item none.1 some)
 
 answer_is : (program : Program) (fed : List FedRow) (link number : ℕ) (row : Row) (met : Option SimFault)
-    → answers_of program number (after program (rows_fed fed)) met (row_says program.reads row) ≡ answer_to program fed (fed_row link number row met)
+    → answers_of program number (after program (rows_fed fed)) met (program.reads (after program (rows_fed fed)).objects row) ≡ answer_to program fed (fed_row link number row met)
 unfolding answer_to
 answer_is program fed link number row met = refl
 
-stop_is : (program : Program) (link number : ℕ) (row : Row) (met : Option SimFault) → says_stop (row_says program.reads row) ≡ is_stop program (fed_row link number row met)
-unfolding is_stop
-stop_is program link number row met = refl
+module _ (config : Config) (limits : Limits) (pat : Pat) (row : Row) (met : Option SimFault) where
+  stop_is : (link number : ℕ) → says_stop (refused_unread (row_says (text_line config) row)) ≡ is_stop (serve_of config limits pat) (fed_row link number row met)
+  unfolding is_stop
+  stop_is link number = refl
 
-told_for : (program : Program) (tells : Option Pat) (row : Row) (met : Option SimFault) → IsTold program tells ((row, met) ∷ []) → IsToldFor program tells (row_says program.reads row)
-told_for program tells row met told = elim told [ inl same ↦ inl same | inr none ↦ inr none.0 ]
+  told_for : (tells : Option Pat) → IsTold (serve_of config limits pat) tells ((row, met) ∷ []) → IsToldFor (serve_of config limits pat) tells (refused_unread (row_says (text_line config) row))
+  told_for tells told = elim told [ inl same ↦ inl same | inr none ↦ inr none.0 ]
 
 module _ (old new : FedHub) (number : ℕ) (row : Row) (known : PatternsNow) (item : Option (List ℕ)) (answers answers_now : List (List ℕ)) where
   pub applied_row : TakesRow old new number row known item → answers_now ≡ answers ++ option_to_list item → AppliesTo old new number row known answers answers_now
@@ -41,7 +44,7 @@ module _ (old new : FedHub) (number : ℕ) (row : Row) (known : PatternsNow) (it
         met = takes.met;
         fair = may_be_marked program (after program (rows_fed fed)) (facts_in known) row takes.met takes.met takes.fair;
         few = few_more [] row takes.met known.before known.before known.now (none_more known.before) takes.few;
-        answered = λ told. adds ∙ ap (λ (xs : List (List ℕ)). answers ++ xs) (takes.item_is (told_for program known.tells row takes.met told) ∙ answer_is program fed link number row takes.met);
+        answered = λ told. adds ∙ ap (λ (xs : List (List ℕ)). answers ++ xs) (takes.item_is (told_for old.config limits pat row takes.met known.tells told) ∙ answer_is program fed link number row takes.met);
         holds = record {
           config_is = ap (λ (s : HubState). s.config) takes.state ∙ holds.config_is;
           limits_are = ap (λ (s : HubState). s.limits) takes.state ∙ holds.limits_are;
@@ -53,5 +56,5 @@ module _ (old new : FedHub) (number : ℕ) (row : Row) (known : PatternsNow) (it
         due = takes.due;
         same_config = takes.config;
         requests = takes.requests;
-        stopped = takes.stopped ∙ ap (λ b. old.stopped || b) (stop_is program link number row takes.met);
+        stopped = takes.stopped ∙ ap (λ b. old.stopped || b) (stop_is old.config limits pat row takes.met link number);
       }

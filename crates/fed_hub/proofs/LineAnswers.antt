@@ -98,7 +98,7 @@ due_for test old new (hub_faults.NoSuchId other) going stays id = stays id
 due_for test old new (hub_faults.Oversize bytes) going stays id = stays id
 
 -- the line has no place, or does not read
-pub record IsRefusedAlways (line : Result Line LineFault) (refusal : Refusal) : Type 0 where
+pub record IsRefusedAlways (line : Result Line Refusal) (refusal : Refusal) : Type 0 where
   pub refuses : (program : Program) (now : State) → program.has_place ≡ has_place_in_serve → refusal_of program now None line ≡ Some refusal
   pub goes : says_stop line ≡ false
 
@@ -111,7 +111,7 @@ no_cancel id = record { refuses = λ program now has. ap (λ h. cond (h (lines.C
 pub no_drain : (id : SubId) → IsRefusedAlways (Ok (lines.Drain id)) refusals.NotHere
 no_drain id = record { refuses = λ program now has. ap (λ h. cond (h (lines.Drain id)) (line_refusal program now None (lines.Drain id)) (Some refusals.NotHere)) has; goes = refl }
 
-pub always_unread : (fault : LineFault) → IsRefusedAlways (Err fault) (refusals.Line fault)
+pub always_unread : (fault : LineFault) → IsRefusedAlways (Err (refusals.Line fault)) (refusals.Line fault)
 always_unread fault = record { refuses = λ program now has. refl; goes = refl }
 
 -- a fault that is not out of memory is that of the row
@@ -169,7 +169,7 @@ module _ (tells : Option Pat) (refuses : Option (List ℕ → Bool)) (count numb
     }
 
     -- a line that is refused whatever is held
-    pub refused_takes : (line : Result Line LineFault) (refusal : Refusal) (item : Option (List ℕ)) → IsItem (refused_line number refusal) item → Rests false old new
+    pub refused_takes : (line : Result Line Refusal) (refusal : Refusal) (item : Option (List ℕ)) → IsItem (refused_line number refusal) item → Rests false old new
         → IsRefusedAlways line refusal → TakesLine old new number line still item
     refused_takes line refusal item is rests always limits pat fed holds =
         let program = serve_of old.config limits pat in
@@ -192,7 +192,7 @@ module _ (tells : Option Pat) (refuses : Option (List ℕ → Bool)) (count numb
     abbrev s : HubState
     s = state_of old.hub
 
-    abbrev line : Result Line LineFault
+    abbrev line : Result Line Refusal
     line = Ok (lines.Event event)
 
     -- the refusal by what is held is that by what the lines lead to

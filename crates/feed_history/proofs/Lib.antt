@@ -4,3 +4,4 @@ pub mod Lists
 pub mod Marks
 pub mod Optional
 pub mod Placed
+pub mod Texts

@@ -7,9 +7,8 @@ use Rattle.line_run.specs.Rows.{Row, past_from}
 use Rattle.request_sim.specs.declared.fault.SimFault.{SimFault}
 use Rattle.route_match.specs.Asking.{PatternFacts}
 use Rattle.route_match.specs.Matching.{Pat}
-use Rattle.watch_events.specs.Lines.{row_says}
 use Rattle.feed_history.specs.MarkCauses.{AreFair, IsTold, MayBeMarked, IsToldFor, MayMeetBy}
-use Rattle.feed_history.specs.History.{State}
+use Rattle.feed_history.specs.History.{State, after}
 use Rattle.feed_history.specs.Marks.{AreFew, MarkedBy, MarkedRow, mark, marks, rows_in, unmarked}
 use Rattle.feed_history.specs.Program.{Program}
 
@@ -114,7 +113,7 @@ module _ (program : Program) where
   fair_from facts marked [] fair = fair
   fair_from facts marked (row ∷ rest) fair = fair_from facts ((row, None) ∷ marked) rest (tt, fair)
 
-  pub may_be_marked : (now : State) (facts : PatternFacts) (row : Row) (met mark : Option SimFault) → MayMeetBy now facts (row_says program.reads row) met → MayBeMarked program now facts (row, mark) met
+  pub may_be_marked : (now : State) (facts : PatternFacts) (row : Row) (met mark : Option SimFault) → MayMeetBy now facts (program.reads now.objects row) met → MayBeMarked program now facts (row, mark) met
   may_be_marked now facts row None mark may = tt
   may_be_marked now facts row (Some fault) mark may = record { request = may.request; simulates = may.simulates; met = may.met }
 
@@ -124,7 +123,7 @@ module _ (program : Program) where
     pub told_before : (row : Row) (past : List Row) → IsTold program tells (unmarked (row ∷ past)) → IsTold program tells (unmarked past)
     told_before row past told = elim told [ inl same ↦ inl same | inr none ↦ inr none.1 ]
 
-    pub told_here : (row : Row) (past : List Row) → IsTold program tells (unmarked (row ∷ past)) → IsToldFor program tells (row_says program.reads row)
+    pub told_here : (row : Row) (past : List Row) → IsTold program tells (unmarked (row ∷ past)) → IsToldFor program tells (program.reads (after program (unmarked past)).objects row)
     told_here row past told = elim told [ inl same ↦ inl same | inr none ↦ inr none.0 ]
 
     pub told_from : (past rest : List Row) → IsTold program tells (unmarked (past_from past rest)) → IsTold program tells (unmarked past)

@@ -9,13 +9,12 @@ use Rattle.view_rules.specs.Fold.{fold}
 use Rattle.view_rules.specs.Views.{view_before, view_of}
 use Rattle.watch_events.specs.declared.line.Line.{Line}
 use Rattle.watch_events.specs.declared.line.Line.TheVariants as lines
-use Rattle.watch_events.specs.declared.line.LineFault.{LineFault}
 use Rattle.feed_history.specs.Drains.{frames_of}
-use Rattle.feed_history.specs.History.{Asked, State, after, asked_at, messages_due, refusal_after, too_long_for}
+use Rattle.feed_history.specs.History.{Asked, State, after, asked_at, messages_due, reading_after, refusal_after, too_long_for}
 use Rattle.feed_history.specs.LookBack.{last_told}
 use Rattle.feed_history.specs.Output.{piece_of, sub_lines}
 use Rattle.feed_history.specs.Marks.{MarkedRow}
-use Rattle.feed_history.specs.Program.{Program, reading}
+use Rattle.feed_history.specs.Program.{Program}
 use Rattle.feed_history.specs.Text.{frame_line}
 use Rattle.feed_history.specs.declared.refusal.Refusal.{Refusal}
 
@@ -35,7 +34,7 @@ abbrev pub sent_now : Program → State → ℕ → List Message
 sent_now program now id = sent_if_live program now.objects (asked_at id now.subs)
 
 -- the messages that a row sends to the subscriber of an id
-abbrev pub sent_by : Program → State → Option Refusal → Result Line LineFault → ℕ → List Message
+abbrev pub sent_by : Program → State → Option Refusal → Result Line Refusal → ℕ → List Message
 sent_by program now (Some refusal) line id = []
 sent_by program now None (Ok (lines.Drain asked)) id = if asked.0 == id then sent_now program now id else []
 sent_by program now None (Ok (lines.Subscribe asked query)) id = []
@@ -49,7 +48,7 @@ sent_by program now None (Err fault) id = []
 -- all that the subscriber of an id was sent by the rows
 abbrev pub sent_to : Program → List MarkedRow → ℕ → List Message
 sent_to program [] id = []
-sent_to program (row ∷ past) id = sent_to program past id ++ sent_by program (after program past) (refusal_after program past row) (reading program row) id
+sent_to program (row ∷ past) id = sent_to program past id ++ sent_by program (after program past) (refusal_after program past row) (reading_after program past row) id
 
 -- the same, with those sent at the end of the input
 abbrev pub sent_in_all : Program → List MarkedRow → ℕ → List Message
@@ -67,7 +66,7 @@ shown_if_live program held None = None
 shown_if_live program held (Some asked) = shown_unless (too_long_for program held asked) (view_of program.config held asked.query)
 
 -- the view that a row shows the subscriber of an id, if it is an accepted drain of the id: the view over the objects held
-abbrev pub shown_by : Program → State → Result Line LineFault → ℕ → Option View
+abbrev pub shown_by : Program → State → Result Line Refusal → ℕ → Option View
 shown_by program now (Ok (lines.Drain asked)) id = if asked.0 == id then shown_if_live program now.objects (asked_at id now.subs) else None
 shown_by program now line id = None
 
@@ -75,7 +74,7 @@ shown_by program now line id = None
 abbrev pub last_shown : Program → List MarkedRow → ℕ → Option View
 last_shown program [] id = None
 last_shown program (row ∷ past) id =
-    last_told (refusal_after program past row) (option_map Some (shown_by program (after program past) (reading program row) id)) (last_shown program past id)
+    last_told (refusal_after program past row) (option_map Some (shown_by program (after program past) (reading_after program past row) id)) (last_shown program past id)
 
 -- Folding what a subscriber was sent gives the view that its last drain showed it, also after its subscription has ended by a
 -- cancellation or by a message that is too long.
@@ -120,8 +119,8 @@ frame_lines id messages = flat_map (frame_line id) (frames_of messages)
 
 -- An accepted drain without a message that is too long writes what it sends.
 abbrev pub DrainWritesWhatIsSent : Program → Type 0
-DrainWritesWhatIsSent program = (past : List MarkedRow) (row : MarkedRow) (asked : Asked) → refusal_after program past row ≡ None → reading program row ≡ Ok (lines.Drain asked.id)
-    → IsDrained program past asked.id.0 asked → piece_of program past row ≡ frame_lines asked.id.0 (sent_by program (after program past) None (reading program row) asked.id.0)
+DrainWritesWhatIsSent program = (past : List MarkedRow) (row : MarkedRow) (asked : Asked) → refusal_after program past row ≡ None → reading_after program past row ≡ Ok (lines.Drain asked.id)
+    → IsDrained program past asked.id.0 asked → piece_of program past row ≡ frame_lines asked.id.0 (sent_by program (after program past) None (reading_after program past row) asked.id.0)
 
 -- So does the end of the input.
 abbrev pub EndWritesWhatIsSent : Program → Type 0

@@ -15,12 +15,12 @@ use Rattle.watch_events.specs.declared.event.Event.{Event}
 use Rattle.watch_events.specs.declared.event.Event.TheVariants.{Set, Delete, Relist, Bookmark}
 use Rattle.watch_events.specs.declared.line.Line.{Line}
 use Rattle.watch_events.specs.declared.line.Line.TheVariants as lines
-use Rattle.watch_events.specs.declared.line.LineFault.{LineFault}
-use Rattle.feed_history.specs.History.{State, after, refusal_after}
+use Rattle.feed_history.specs.History.{State, after, reading_after, refusal_after}
 use Rattle.feed_history.specs.Live.{live_at, query_at}
 use Rattle.feed_history.specs.LookBack.{last_told}
 use Rattle.feed_history.specs.Marks.{MarkedRow}
-use Rattle.feed_history.specs.Program.{Program, reading}
+use Rattle.feed_history.specs.Program.{Program}
+use Rattle.feed_history.specs.declared.refusal.Refusal.{Refusal}
 
 -- ---- the marks of an event
 
@@ -42,7 +42,7 @@ is_touched config held event (Some query) = meets (query_reads config held query
 -- ---- which are due
 
 -- whether an id is due after a row that decides it; None if the row does not concern the id
-abbrev pub due_by : Program → List MarkedRow → Result Line LineFault → ℕ → Option Bool
+abbrev pub due_by : Program → List MarkedRow → Result Line Refusal → ℕ → Option Bool
 due_by program past (Ok (lines.Subscribe asked query)) id = if asked.0 == id then Some true else None
 due_by program past (Ok (lines.Drain asked)) id = if asked.0 == id then Some false else None
 due_by program past (Ok (lines.Cancel asked)) id = if asked.0 == id then Some false else None
@@ -55,10 +55,10 @@ due_by program past (Err fault) id = None
 -- whether an id is due, looking back through the rows
 abbrev pub is_due : Program → List MarkedRow → ℕ → Bool
 is_due program [] id = false
-is_due program (row ∷ past) id = last_told (refusal_after program past row) (due_by program past (reading program row) id) (is_due program past id)
+is_due program (row ∷ past) id = last_told (refusal_after program past row) (due_by program past (reading_after program past row) id) (is_due program past id)
 
 -- whether an id is due after an accepted line, given whether it was due before
-abbrev pub due_after : Config → State → Result Line LineFault → ℕ → Bool → Bool
+abbrev pub due_after : Config → State → Result Line Refusal → ℕ → Bool → Bool
 due_after config now (Ok (lines.Subscribe asked query)) id before = (asked.0 == id) || before
 due_after config now (Ok (lines.Drain asked)) id before = if asked.0 == id then false else before
 due_after config now (Ok (lines.Cancel asked)) id before = if asked.0 == id then false else before

@@ -16,7 +16,6 @@ use Rattle.view_rules.specs.Batch.{batch}
 use Rattle.view_rules.specs.Views.{view_before, view_of}
 use Rattle.watch_events.specs.declared.line.Line.{Line}
 use Rattle.watch_events.specs.declared.line.Line.TheVariants as lines
-use Rattle.watch_events.specs.declared.line.LineFault.{LineFault}
 use Rattle.request_sim.specs.declared.fault.SimFault.{SimFault}
 use Rattle.feed_history.specs.Drains.{too_long, unless_too_long}
 use Rattle.feed_history.specs.Events.{event_refusal, objects_after}
@@ -87,13 +86,14 @@ line_refusal program now met (lines.Cancel id) = option_map refusals.Hub (hub_re
 line_refusal program now met (lines.Drain id) = option_map refusals.Hub (hub_refusal program now (lines.Drain id))
 line_refusal program now met lines.Stop = None
 
--- Why a line is refused: it cannot be read, it has no place in the program, or its effect is refused.
-abbrev pub refusal_of : Program → State → Option SimFault → Result Line LineFault → Option Refusal
-refusal_of program now met (Err fault) = Some (refusals.Line fault)
+-- Why a line is refused: it is refused unread, it has no place in the program, or its effect is
+-- refused.
+abbrev pub refusal_of : Program → State → Option SimFault → Result Line Refusal → Option Refusal
+refusal_of program now met (Err refusal) = Some refusal
 refusal_of program now met (Ok line) = if program.has_place line then line_refusal program now met line else Some refusals.NotHere
 
 -- the state after an accepted line
-abbrev pub after_line : Program → State → Result Line LineFault → State
+abbrev pub after_line : Program → State → Result Line Refusal → State
 after_line program now (Err fault) = now
 after_line program now (Ok lines.Blank) = now
 after_line program now (Ok (lines.Event event)) = record now { objects = objects_after now.objects event }
@@ -105,16 +105,20 @@ after_line program now (Ok lines.Stop) = now
 
 -- why a row is refused
 abbrev pub row_refusal : Program → State → MarkedRow → Option Refusal
-row_refusal program now row = refusal_of program now row.1 (reading program row)
+row_refusal program now row = refusal_of program now row.1 (reading program now.objects row)
 
 -- the state after a row
 abbrev pub step : Program → State → MarkedRow → State
-step program now row = unless_refused (row_refusal program now row) now (after_line program now (reading program row))
+step program now row = unless_refused (row_refusal program now row) now (after_line program now (reading program now.objects row))
 
 -- the state after the rows
 abbrev pub after : Program → List MarkedRow → State
 after program [] = nothing
 after program (row ∷ past) = step program (after program past) row
+
+-- the contents of a row after those before it, or why it is refused unread
+abbrev pub reading_after : Program → List MarkedRow → MarkedRow → Result Line Refusal
+reading_after program past row = reading program (after program past).objects row
 
 -- why a row is refused after those before it
 abbrev pub refusal_after : Program → List MarkedRow → MarkedRow → Option Refusal

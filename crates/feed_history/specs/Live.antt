@@ -4,11 +4,10 @@ use Rattle.std.specs.Prelude.{◌≡◌, ◌<◌, ℕ, ◌==◌, ◌&&◌, Bool,
 use Rattle.view_types.specs.declared.query.Query.{Query}
 use Rattle.watch_events.specs.declared.line.Line.{Line}
 use Rattle.watch_events.specs.declared.line.Line.TheVariants as lines
-use Rattle.watch_events.specs.declared.line.LineFault.{LineFault}
 use Rattle.feed_history.specs.Marks.{MarkedRow}
-use Rattle.feed_history.specs.Program.{Program, reading}
+use Rattle.feed_history.specs.Program.{Program}
 use Rattle.feed_history.specs.declared.refusal.Refusal.{Refusal}
-use Rattle.feed_history.specs.History.{Asked, State, after, asked_at, id_of, refusal_after, too_long_for}
+use Rattle.feed_history.specs.History.{Asked, State, after, asked_at, id_of, reading_after, refusal_after, too_long_for}
 use Rattle.feed_history.specs.Ids.{AscendBy}
 use Rattle.feed_history.specs.LookBack.{last_told}
 
@@ -17,7 +16,7 @@ abbrev pub meets_too_long : Program → State → ℕ → Bool
 meets_too_long program now id = is_some (option_and_then (too_long_for program now.objects) (asked_at id now.subs))
 
 -- If the row is about the id: the query that is live under it afterwards, or none. A drain ends the id if a message is too long.
-abbrev pub asked_by : Program → State → Result Line LineFault → ℕ → Option (Option Query)
+abbrev pub asked_by : Program → State → Result Line Refusal → ℕ → Option (Option Query)
 asked_by program now (Ok (lines.Subscribe asked query)) id = if asked.0 == id then Some (Some query) else None
 asked_by program now (Ok (lines.Cancel asked)) id = if asked.0 == id then Some None else None
 asked_by program now (Ok (lines.Drain asked)) id = if (asked.0 == id) && meets_too_long program now id then Some None else None
@@ -30,7 +29,7 @@ asked_by program now (Err fault) id = None
 -- the query that is live under an id, looking back through the rows
 abbrev pub live_at : Program → List MarkedRow → ℕ → Option Query
 live_at program [] id = None
-live_at program (row ∷ past) id = last_told (refusal_after program past row) (asked_by program (after program past) (reading program row) id) (live_at program past id)
+live_at program (row ∷ past) id = last_told (refusal_after program past row) (asked_by program (after program past) (reading_after program past row) id) (live_at program past id)
 
 -- the query under an id
 abbrev pub query_at : ℕ → List Asked → Option Query
@@ -47,7 +46,7 @@ abbrev pub LiveIdsAscend : Program → Type 0
 LiveIdsAscend program = (past : List MarkedRow) → Ascend (after program past).subs
 
 -- the ids of the subscriptions in accepted rows
-abbrev pub id_accepted : Option Refusal → Result Line LineFault → List ℕ
+abbrev pub id_accepted : Option Refusal → Result Line Refusal → List ℕ
 id_accepted (Some refusal) line = []
 id_accepted None (Ok (lines.Subscribe id query)) = id.0 ∷ []
 id_accepted None (Ok (lines.Event event)) = []
@@ -60,7 +59,7 @@ id_accepted None (Err fault) = []
 
 abbrev pub accepted_ids : Program → List MarkedRow → List ℕ
 accepted_ids program [] = []
-accepted_ids program (row ∷ past) = id_accepted (refusal_after program past row) (reading program row) ++ accepted_ids program past
+accepted_ids program (row ∷ past) = id_accepted (refusal_after program past row) (reading_after program past row) ++ accepted_ids program past
 
 abbrev pub max_with : ℕ → Option ℕ → ℕ
 max_with n None = n

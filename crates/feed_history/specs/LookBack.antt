@@ -10,14 +10,13 @@ use Rattle.object_store.specs.Relisted.{is_of, item_at}
 use Rattle.watch_events.specs.declared.event.Event.TheVariants.{Set, Delete, Relist, Bookmark}
 use Rattle.watch_events.specs.declared.line.Line.{Line}
 use Rattle.watch_events.specs.declared.line.Line.TheVariants as lines
-use Rattle.watch_events.specs.declared.line.LineFault.{LineFault}
 use Rattle.feed_history.specs.Marks.{MarkedRow}
-use Rattle.feed_history.specs.Program.{Program, reading}
+use Rattle.feed_history.specs.Program.{Program}
 use Rattle.feed_history.specs.declared.refusal.Refusal.{Refusal}
-use Rattle.feed_history.specs.History.{refusal_after, after}
+use Rattle.feed_history.specs.History.{after, reading_after, refusal_after}
 
 -- If the row is about the key: the object that is held under it afterwards, or none. A list is about all keys of its kind.
-abbrev pub told_by : Result Line LineFault → ObjKey → Option (Option Object)
+abbrev pub told_by : Result Line Refusal → ObjKey → Option (Option Object)
 told_by (Ok (lines.Event (Set object))) key = if eq_by_cmp key_cmp key (key_of object) then Some (Some object) else None
 told_by (Ok (lines.Event (Delete gone))) key = if eq_by_cmp key_cmp key gone then Some None else None
 told_by (Ok (lines.Event (Relist kind items))) key = if is_of kind key then Some (item_at key items) else None
@@ -39,7 +38,7 @@ last_told None (Some told) before = told
 -- the object under a key, looking back through the rows
 abbrev pub held_at : Program → List MarkedRow → ObjKey → Option Object
 held_at program [] key = None
-held_at program (row ∷ past) key = last_told (refusal_after program past row) (told_by (reading program row) key) (held_at program past key)
+held_at program (row ∷ past) key = last_told (refusal_after program past row) (told_by (reading_after program past row) key) (held_at program past key)
 
 abbrev pub LastEventDecidesHeld : Program → Type 0
 LastEventDecidesHeld program = (past : List MarkedRow) (key : ObjKey) → get (after program past).objects key ≡ held_at program past key

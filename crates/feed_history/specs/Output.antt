@@ -5,7 +5,6 @@ use Rattle.view_types.specs.Objects.{ObjectMap}
 use Rattle.view_types.specs.declared.message.Message.{Message}
 use Rattle.watch_events.specs.declared.line.Line.{Line}
 use Rattle.watch_events.specs.declared.line.Line.TheVariants as lines
-use Rattle.watch_events.specs.declared.line.LineFault.{LineFault}
 use Rattle.request_rules.specs.Verdicts.{verdict}
 use Rattle.feed_history.specs.Drains.{frames_of, too_long}
 use Rattle.feed_history.specs.History.{Asked, State, after, asked_at, messages_due, refusal_after, row_refusal}
@@ -47,7 +46,7 @@ end_lines program now = flat_map (sub_lines program now.objects) now.subs
 -- ---- the output for rows
 
 -- the output of an accepted line with this number
-abbrev pub line_text : Program → ℕ → State → Result Line LineFault → List ℕ
+abbrev pub line_text : Program → ℕ → State → Result Line Refusal → List ℕ
 line_text program number now (Ok (lines.Drain id)) = drain_lines program now id.0
 line_text program number now (Ok (lines.Subscribe id query)) = []
 line_text program number now (Ok (lines.Cancel id)) = []
@@ -63,7 +62,7 @@ row_piece number None text = text
 row_piece number (Some refusal) text = refused_line number refusal
 
 abbrev pub piece_at : Program → ℕ → State → MarkedRow → List ℕ
-piece_at program number now row = row_piece number (row_refusal program now row) (line_text program number now (reading program row))
+piece_at program number now row = row_piece number (row_refusal program now row) (line_text program number now (reading program now.objects row))
 
 abbrev pub piece_of : Program → List MarkedRow → MarkedRow → List ℕ
 piece_of program past row = piece_at program (length past + 1) (after program past) row

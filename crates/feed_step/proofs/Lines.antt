@@ -22,7 +22,7 @@ use Rattle.feed_history.specs.History.{Asked, State, after_line, asked_at, hub_r
 use Rattle.mesh_hub.specs.Hub.{HubState, applied, apply_refusal, cancelled, new_refusal, sub_at, subscribed}
 use Rattle.feed_history.specs.Ids.{ended, in_place, unknown_refusal, unless_refused}
 use Rattle.feed_history.specs.Output.{drain_lines, lines_if_live, message_lines, row_piece}
-use Rattle.feed_history.specs.Program.{Program, replay_of}
+use Rattle.feed_history.specs.Program.{Program, refused_unread, replay_of}
 use Rattle.mesh_hub.specs.HubAfter.{seen, seen_sub}
 use Rattle.mesh_hub.specs.declared.machine.Reply.{Reply}
 use Rattle.mesh_hub.specs.declared.machine.Reply.TheVariants as replies
@@ -60,7 +60,7 @@ length_here program now None fits = tt
 length_here program now (Some asked) fits = fits
 
 -- a refused line tells none
-length_unless : (program : Program) (now : State) (line : Result Line LineFault) (refusal : Option Refusal) → RowHasLength program now None line → RowHasLength program now refusal line
+length_unless : (program : Program) (now : State) (line : Result Line Refusal) (refusal : Option Refusal) → RowHasLength program now None line → RowHasLength program now refusal line
 length_unless program now line None fits = fits
 length_unless program now line (Some refused) fits = tt
 
@@ -80,7 +80,7 @@ module _ (config : Config) (limits : Limits) (pat : Pat) (tells : Option Pat) (r
   stop_from live out state now here lives =
       record { met = None; counted = none_more count; may_meet = tt; refusal_is = refl; fits = tt; state = here; live_ids = lives; text = λ told. sym (append-nil out) }
 
-  pub unread_from : (fault : LineFault) (live out : List ℕ) (state : HubState) → TakesFrom program still number (Err fault) (Some (refusals.Line fault)) live live out out state state
+  pub unread_from : (fault : LineFault) (live out : List ℕ) (state : HubState) → TakesFrom program still number (Err (refusals.Line fault)) (Some (refusals.Line fault)) live live out out state state
   unread_from fault live out state now here lives =
       record { met = None; counted = none_more count; may_meet = tt; refusal_is = refl; fits = tt; state = here; live_ids = lives; text = λ told. sym (append-nil out) }
 
@@ -359,13 +359,13 @@ read_is (faults.BadQuery path) read told fails = fails
 
 module _ (fault : LineFault) (read : Result Line LineFault) (refusal : Option Refusal) (number : ℕ) where
   pub unread_stays : (config : Config) (limits : Limits) (pat : Pat) (tells : Option Pat) (refuses : Option (List ℕ → Bool)) (count : ℕ) (live out : List ℕ) (state : Option HubState) → IsUnread fault refusal → Fails fault read
-      → Becomes state state (TakesFrom (replay_of config limits pat) (known_of tells refuses count count) number read refusal live live out out)
+      → Becomes state state (TakesFrom (replay_of config limits pat) (known_of tells refuses count count) number (refused_unread read) refusal live live out out)
   unread_stays config limits pat tells refuses count live out state unread fails =
       let program = replay_of config limits pat in
       let still = known_of tells refuses count count in
-      subst (λ (r : Result Line LineFault). Becomes state state (TakesFrom program still number r refusal live live out out)) (sym (read_is fault read unread.told fails))
-      (subst (λ (r : Option Refusal). Becomes state state (TakesFrom program still number (Err fault) r live live out out)) (sym unread.refuses)
-      (Becomes-same state (TakesFrom program still number (Err fault) (Some (refusals.Line fault)) live live out out)
+      subst (λ (r : Result Line LineFault). Becomes state state (TakesFrom program still number (refused_unread r) refusal live live out out)) (sym (read_is fault read unread.told fails))
+      (subst (λ (r : Option Refusal). Becomes state state (TakesFrom program still number (Err (refusals.Line fault)) r live live out out)) (sym unread.refuses)
+      (Becomes-same state (TakesFrom program still number (Err (refusals.Line fault)) (Some (refusals.Line fault)) live live out out)
       (λ s. unread_from config limits pat tells refuses count number fault live out s)))
 
   pub unread_said : (out : List ℕ) (told : Option (List Reply)) → IsUnread fault refusal → Fails fault read → Becomes told told (TakesByReplies number read refusal out out)

@@ -153,12 +153,12 @@ pub record IsUnread (fault : LineFault) (refusal : Option Refusal) : Type 0 wher
   pub told : IsTold fault
 
 -- the state after a line that was refused or accepted
-abbrev pub led_to : Program → State → Option Refusal → Result Line LineFault → State
+abbrev pub led_to : Program → State → Option Refusal → Result Line Refusal → State
 led_to program now refusal line = unless_refused {A = Refusal} refusal now (after_line program now line)
 
 -- The line with this number was refused, for its cause, or accepted; its text was appended, and the machine's state is that after the
 -- line. A length in the text fits its type.
-pub record TakesByState (program : Program) (known : PatternsNow) (number : ℕ) (line : Result Line LineFault) (refusal : Option Refusal) (live_new : List ℕ) (out out_new : List ℕ) (now : State) (new : HubState) : Type 0 where
+pub record TakesByState (program : Program) (known : PatternsNow) (number : ℕ) (line : Result Line Refusal) (refusal : Option Refusal) (live_new : List ℕ) (out out_new : List ℕ) (now : State) (new : HubState) : Type 0 where
   pub met : Option SimFault
   pub counted : min (mark met + known.before) (2 ^ 64 - 1) ≤ known.now
   pub may_meet : MayMeetBy now (facts_in known) line met
@@ -169,7 +169,7 @@ pub record TakesByState (program : Program) (known : PatternsNow) (number : ℕ)
   pub text : IsToldFor program known.tells line → out_new ≡ out ++ text_unless refusal (line_text program number now line)
 
 -- The same for any history whose state the machine had.
-abbrev pub TakesFrom : Program → PatternsNow → ℕ → Result Line LineFault → Option Refusal → List ℕ → List ℕ → List ℕ → List ℕ → HubState → HubState → Type 0
+abbrev pub TakesFrom : Program → PatternsNow → ℕ → Result Line Refusal → Option Refusal → List ℕ → List ℕ → List ℕ → List ℕ → HubState → HubState → Type 0
 TakesFrom program known number line refusal live live_new out out_new old new =
     (now : State) → old ≡ seen program now → live ≡ ids_of now.subs → TakesByState program known number line refusal live_new out out_new now new
 

@@ -8,7 +8,7 @@ ghost use Rattle.route_match.specs.Matching.{Pat};
 ghost use Rattle.mesh_hub.specs.Hub.{applied, apply_refusal, cancelled, new_refusal, sub_at, subscribed};
 ghost use Rattle.feed_history.specs.Ids.{ended, in_place, unknown_refusal};
 ghost use Rattle.feed_history.specs.Optional.{Becomes, Extends};
-ghost use Rattle.feed_history.specs.Program.{replay_of};
+ghost use Rattle.feed_history.specs.Program.{refused_unread, replay_of};
 ghost use Rattle.feed_step.specs.Transcript.{reply_text, sim_text};
 ghost use Rattle.feed_history.specs.KnownPatterns.{GoOver, known_over};
 ghost use Rattle.feed_step.specs.LineStep.{IsRefusalBy, IsRefusalFor, IsSimulated, IsUnread, Makes, Replied, TakesByReplies, TakesFrom, Unreplied, drain_refusal, live_drained, live_unless};
@@ -236,8 +236,9 @@ pub fn take_row<H: Machine, P: Patterns, L>(
     ensures state { IfOk result (λ refusal.
         (limits : Limits) (pat : Pat) → Becomes (H.state hub.old) (H.state hub.new)
         (TakesFrom (replay_of config.now limits pat)
-        (known_over P.Patterns patterns.old patterns.new) number (row_says (text_line config.now)
-        (option_copied row.entry)) refusal live.old live.new out.old.items out.new.items)) }
+        (known_over P.Patterns patterns.old patterns.new) number
+        (refused_unread (row_says (text_line config.now) (option_copied row.entry))) refusal
+        live.old live.new out.old.items out.new.items)) }
     ensures replies { IfOk result (λ refusal. Becomes (H.replies hub.old) (H.replies hub.new)
         (TakesByReplies number (row_says (text_line config.now) (option_copied row.entry)) refusal
         out.old.items out.new.items)) }

@@ -15,12 +15,11 @@ use Rattle.watch_events.specs.declared.event.Event.{Event}
 use Rattle.watch_events.specs.declared.event.Event.TheVariants.{Set, Delete, Relist, Bookmark}
 use Rattle.watch_events.specs.declared.line.Line.{Line}
 use Rattle.watch_events.specs.declared.line.Line.TheVariants as lines
-use Rattle.watch_events.specs.declared.line.LineFault.{LineFault}
 use Rattle.feed_history.specs.Events.{objects_after}
-use Rattle.feed_history.specs.History.{State, after, after_line, refusal_after}
+use Rattle.feed_history.specs.History.{State, after, after_line, reading_after, refusal_after}
 use Rattle.feed_history.specs.Ids.{unless_refused}
 use Rattle.feed_history.specs.Lawful.{HeldAtKeys}
-use Rattle.feed_history.specs.Program.{Program, reading}
+use Rattle.feed_history.specs.Program.{Program}
 use Rattle.feed_history.specs.declared.refusal.Refusal.{Refusal}
 
 -- ---- events
@@ -58,7 +57,7 @@ event_at held at_keys Bookmark = at_keys
 
 -- ---- rows
 
-line_at : (program : Program) (now : State) → AtKeys now.objects → (line : Result Line LineFault) → AtKeys (after_line program now line).objects
+line_at : (program : Program) (now : State) → AtKeys now.objects → (line : Result Line Refusal) → AtKeys (after_line program now line).objects
 line_at program now at_keys (Err fault) = at_keys
 line_at program now at_keys (Ok lines.Blank) = at_keys
 line_at program now at_keys (Ok (lines.Event event)) = event_at now.objects at_keys event
@@ -75,5 +74,5 @@ row_at (Some refusal) now then before at_keys = before
 pub held_at_keys : (program : Program) → HeldAtKeys program
 held_at_keys program [] key object is = absurd (cc (sym (get-empty key_cmp key) ∙ is))
 held_at_keys program (row ∷ past) key object is =
-    row_at (refusal_after program past row) (after program past) (after_line program (after program past) (reading program row)) (held_at_keys program past)
-    (line_at program (after program past) (held_at_keys program past) (reading program row)) key object is
+    row_at (refusal_after program past row) (after program past) (after_line program (after program past) (reading_after program past row)) (held_at_keys program past)
+    (line_at program (after program past) (held_at_keys program past) (reading_after program past row)) key object is

@@ -13,14 +13,13 @@ use Rattle.view_rules.specs.Views.{view_before, view_of}
 use Rattle.batch_laws.specs.Laws.{MessagesFold, WereAtKeys}
 use Rattle.watch_events.specs.declared.line.Line.{Line}
 use Rattle.watch_events.specs.declared.line.Line.TheVariants as lines
-use Rattle.watch_events.specs.declared.line.LineFault.{LineFault}
 use Rattle.request_sim.specs.declared.fault.SimFault.{SimFault}
 use Rattle.feed_history.specs.declared.refusal.Refusal.{Refusal}
-use Rattle.feed_history.specs.History.{Asked, State, after, after_line, asked_at, id_of, messages_due, refusal_after, refusal_of, told_now, too_long_for}
+use Rattle.feed_history.specs.History.{Asked, State, after, after_line, asked_at, id_of, messages_due, reading_after, refusal_after, refusal_of, told_now, too_long_for}
 use Rattle.feed_history.specs.Ids.{ended, in_place, unless_refused}
 use Rattle.feed_history.specs.Output.{line_text, lines_if_live, lines_unless, row_piece, sub_lines}
 use Rattle.feed_history.specs.Marks.{MarkedRow}
-use Rattle.feed_history.specs.Program.{Program, reading}
+use Rattle.feed_history.specs.Program.{Program}
 use Rattle.feed_history.specs.Deliveries.{DrainWritesWhatIsSent, EndFoldsToView, EndWritesWhatIsSent, FoldsToLastShown, FoldsToView, FoldsToWhatWasShown, SameObjectsSameView, frame_lines, last_shown, sent_by, sent_if_live, sent_now, sent_to, sent_unless, shown_by, shown_if_live, shown_unless}
 use Rattle.feed_history.specs.LastDrain.{last_drain}
 use Rattle.feed_history.specs.Lawful.{HeldAtKeys}
@@ -125,7 +124,7 @@ module _ (program : Program) (at_keys : HeldAtKeys program) (folds : MessagesFol
             ∙ ap (λ (one : Asked). view_before program.config one.query one.told) (sym drain.left_is)
         by_id asked false is = ap fold (append-nil sent) ∙ so_far.shown asked is
 
-  shown_step : (now : State) → StandsAtKeys now → (met : Option SimFault) (line : Result Line LineFault) (refusal : Option Refusal) (id : ℕ) (sent : List Message) → refusal_of program now met line ≡ refusal → IsOrdered now → IsShown now id sent
+  shown_step : (now : State) → StandsAtKeys now → (met : Option SimFault) (line : Result Line Refusal) (refusal : Option Refusal) (id : ℕ) (sent : List Message) → refusal_of program now met line ≡ refusal → IsOrdered now → IsShown now id sent
       → IsShown (unless_refused refusal now (after_line program now line)) id (sent ++ sent_by program now refusal line id)
   shown_step now keys met line (Some refusal) id sent is ordered so_far = still now id sent so_far
   shown_step now keys met (Err fault) None id sent is ordered so_far = still now id sent so_far
@@ -143,7 +142,7 @@ module _ (program : Program) (at_keys : HeldAtKeys program) (folds : MessagesFol
 
   all_shown : (past : List MarkedRow) (id : ℕ) → IsShown (after program past) id (sent_to program past id)
   all_shown [] id = record { shown = λ asked found. absurd (cc found); unsent = λ above. refl }
-  all_shown (row ∷ past) id = shown_step (after program past) (stands_at_keys program at_keys past) row.1 (reading program row) (refusal_after program past row) id (sent_to program past id) refl (ordered program past) (all_shown past id)
+  all_shown (row ∷ past) id = shown_step (after program past) (stands_at_keys program at_keys past) row.1 (reading_after program past row) (refusal_after program past row) id (sent_to program past id) refl (ordered program past) (all_shown past id)
 
   -- ---- what the last drain showed
 
@@ -161,7 +160,7 @@ module _ (program : Program) (at_keys : HeldAtKeys program) (folds : MessagesFol
         by_length None = sees_now now.objects asked sent (keys.told id asked is) keys.held (sees asked is)
         by_length (Some n) = unchanged
 
-    shows : (line : Result Line LineFault) (refusal : Option Refusal)
+    shows : (line : Result Line Refusal) (refusal : Option Refusal)
         → fold (sent ++ sent_by program now refusal line id) ≡ last_told refusal (option_map Some (shown_by program now line id)) before
     shows line (Some refusal) = unchanged
     shows (Err fault) None = unchanged
@@ -181,7 +180,7 @@ module _ (program : Program) (at_keys : HeldAtKeys program) (folds : MessagesFol
   last_shown_is : (past : List MarkedRow) (id : ℕ) → fold (sent_to program past id) ≡ last_shown program past id
   last_shown_is [] id = refl
   last_shown_is (row ∷ past) id =
-      shows (after program past) (stands_at_keys program at_keys past) id (sent_to program past id) (last_shown program past id) (last_shown_is past id) (all_shown past id).shown (reading program row) (refusal_after program past row)
+      shows (after program past) (stands_at_keys program at_keys past) id (sent_to program past id) (last_shown program past id) (last_shown_is past id) (all_shown past id).shown (reading_after program past row) (refusal_after program past row)
 
 pub folds_to_what_was_shown : (program : Program) → HeldAtKeys program → MessagesFold → FoldsToWhatWasShown program
 folds_to_what_was_shown program at_keys folds one = last_shown_is program at_keys folds one
@@ -219,9 +218,9 @@ pub drain_writes_what_is_sent : (program : Program) → DrainWritesWhatIsSent pr
 drain_writes_what_is_sent program past row asked accepted reads drained =
     let now = after program past in
     let id = asked.id.0 in
-    ap (λ (refusal : Option Refusal). row_piece (length past + 1) refusal (line_text program (length past + 1) now (reading program row))) accepted
+    ap (λ (refusal : Option Refusal). row_piece (length past + 1) refusal (line_text program (length past + 1) now (reading_after program past row))) accepted
     ∙ ap (line_text program (length past + 1) now) reads
     ∙ ap (lines_if_live program now.objects) drained.0
     ∙ end_writes_what_is_sent program past asked drained
     ∙ ap (λ (b : Bool). frame_lines id (cond b (sent_now program now id) [])) (sym (same_id id id refl))
-    ∙ ap (λ (line : Result Line LineFault). frame_lines id (sent_by program now None line id)) (sym reads)
+    ∙ ap (λ (line : Result Line Refusal). frame_lines id (sent_by program now None line id)) (sym reads)

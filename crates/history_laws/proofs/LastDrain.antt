@@ -4,14 +4,13 @@ use Rattle.std.specs.Prelude.{Result, Ok, Err, ◌==◌, option_map, if◌then�
 use Rattle.view_types.specs.Objects.{ObjectMap}
 use Rattle.watch_events.specs.declared.line.Line.{Line}
 use Rattle.watch_events.specs.declared.line.Line.TheVariants as lines
-use Rattle.watch_events.specs.declared.line.LineFault.{LineFault}
 use Rattle.request_sim.specs.declared.fault.SimFault.{SimFault}
 use Rattle.feed_history.specs.declared.refusal.Refusal.{Refusal}
-use Rattle.feed_history.specs.History.{Asked, State, after, after_line, asked_at, id_of, refusal_after, refusal_of, told_now}
+use Rattle.feed_history.specs.History.{Asked, State, after, after_line, asked_at, id_of, reading_after, refusal_after, refusal_of, told_now}
 use Rattle.feed_history.specs.Ids.{ended, in_place, unless_refused}
 use Rattle.feed_history.specs.LookBack.{last_told}
 use Rattle.feed_history.specs.Marks.{MarkedRow}
-use Rattle.feed_history.specs.Program.{Program, reading}
+use Rattle.feed_history.specs.Program.{Program}
 use Rattle.feed_history.specs.LastDrain.{LastDrainDecidesShown, drain_in, last_drain}
 use Rattle.feed_history.proofs.AscendingIds.{IsAbove, found_new}
 use Rattle.feed_history.proofs.EntriesById.{ended_keeps, found_in_place, gone, then_at}
@@ -50,7 +49,7 @@ module _ (program : Program) (now : State) (id : ℕ) (last : Option (List Marke
       by_id true is = let drain = was_told program now.objects (asked_at id now.subs) asked is in ap (λ (one : Asked). one.told) drain.left_is ∙ ap Some (sym here)
       by_id false is = so_far asked is
 
-told_step : (program : Program) (now : State) (met : Option SimFault) (line : Result Line LineFault) (refusal : Option Refusal) (rows : List MarkedRow) (id : ℕ) (last : Option (List MarkedRow)) → refusal_of program now met line ≡ refusal
+told_step : (program : Program) (now : State) (met : Option SimFault) (line : Result Line Refusal) (refusal : Option Refusal) (rows : List MarkedRow) (id : ℕ) (last : Option (List MarkedRow)) → refusal_of program now met line ≡ refusal
     → after program rows ≡ unless_refused refusal now (after_line program now line) → IsOrdered now → IsToldAt program now.subs id last
     → IsToldAt program (unless_refused refusal now (after_line program now line)).subs id (last_told refusal (drain_in rows line id) last)
 told_step program now met line (Some refusal) rows id last is here ordered so_far = so_far
@@ -68,4 +67,4 @@ told_step program now met (Ok (lines.Drain asked)) None rows id last is here ord
 pub told_at_last_drain : (program : Program) → LastDrainDecidesShown program
 told_at_last_drain program [] id asked found = absurd (cc found)
 told_at_last_drain program (row ∷ past) id asked found =
-    told_step program (after program past) row.1 (reading program row) (refusal_after program past row) (row ∷ past) id (last_drain program past id) refl refl (ordered program past) (told_at_last_drain program past id) asked found
+    told_step program (after program past) row.1 (reading_after program past row) (refusal_after program past row) (row ∷ past) id (last_drain program past id) refl refl (ordered program past) (told_at_last_drain program past id) asked found

@@ -4,19 +4,18 @@ use Rattle.std.specs.Prelude.{Result, Ok, Err, is_some, length, ◌==◌, ◌&&�
 use Rattle.view_types.specs.declared.query.Query.{Query}
 use Rattle.watch_events.specs.declared.line.Line.{Line}
 use Rattle.watch_events.specs.declared.line.Line.TheVariants as lines
-use Rattle.watch_events.specs.declared.line.LineFault.{LineFault}
 use Rattle.mesh_base.specs.declared.sub_id.SubId.{SubId}
 use Rattle.request_sim.specs.declared.fault.SimFault.{SimFault}
 use Rattle.feed_history.specs.declared.refusal.HubFault.{HubFault}
 use Rattle.feed_history.specs.declared.refusal.Refusal.{Refusal}
 use Rattle.feed_history.specs.declared.refusal.Refusal.TheVariants as refusals
 use Rattle.feed_history.specs.Drains.{unless_too_long}
-use Rattle.feed_history.specs.History.{Asked, State, after, after_line, asked_at, hub_refusal, id_of, refusal_after, refusal_of, told_now, too_long_for}
+use Rattle.feed_history.specs.History.{Asked, State, after, after_line, asked_at, hub_refusal, id_of, reading_after, refusal_after, refusal_of, told_now, too_long_for}
 use Rattle.feed_history.specs.Ids.{ended, in_place, unless_refused}
 use Rattle.feed_history.specs.Live.{LastIsGreatest, LastLineDecidesLive, LiveIdsAscend, accepted_ids, asked_by, greatest, id_accepted, max_with, meets_too_long, query_at}
 use Rattle.feed_history.specs.LookBack.{last_told}
 use Rattle.feed_history.specs.Marks.{MarkedRow}
-use Rattle.feed_history.specs.Program.{Program, reading}
+use Rattle.feed_history.specs.Program.{Program}
 use Rattle.feed_history.proofs.AscendingIds.{AreOrdered, IsAbove, accepted_is_above, found_new, none_ordered, ordered_in_place, ordered_more}
 use Rattle.feed_history.proofs.EntriesById.{ended_keeps, first_of, found_in_place, then_at}
 use Rattle.history_laws.proofs.Told.{told_keeps}
@@ -40,7 +39,7 @@ above_last program now met id query is =
 
 -- ---- what rows keep
 
-ordered_step : (program : Program) (now : State) (met : Option SimFault) (line : Result Line LineFault) (refusal : Option Refusal) → refusal_of program now met line ≡ refusal → IsOrdered now
+ordered_step : (program : Program) (now : State) (met : Option SimFault) (line : Result Line Refusal) (refusal : Option Refusal) → refusal_of program now met line ≡ refusal → IsOrdered now
     → IsOrdered (unless_refused refusal now (after_line program now line))
 ordered_step program now met line (Some refusal) is ordered = ordered
 ordered_step program now met (Err fault) None is ordered = ordered
@@ -54,7 +53,7 @@ ordered_step program now met (Ok (lines.Drain id)) None is ordered = ordered_in_
 
 pub ordered : (program : Program) (past : List MarkedRow) → IsOrdered (after program past)
 ordered program [] = none_ordered id_of
-ordered program (row ∷ past) = ordered_step program (after program past) row.1 (reading program row) (refusal_after program past row) refl (ordered program past)
+ordered program (row ∷ past) = ordered_step program (after program past) row.1 (reading_after program past row) (refusal_after program past row) refl (ordered program past)
 
 pub live_ids_ascend : (program : Program) → LiveIdsAscend program
 live_ids_ascend program past = (ordered program past).ascend
@@ -95,7 +94,7 @@ drained_query program now drained id ordered =
     by_id true (Some asked) = by_length asked (too_long_for program now.objects asked)
     by_id false found = refl
 
-asked_step : (program : Program) (now : State) (met : Option SimFault) (line : Result Line LineFault) (refusal : Option Refusal) (id : ℕ) → refusal_of program now met line ≡ refusal → IsOrdered now
+asked_step : (program : Program) (now : State) (met : Option SimFault) (line : Result Line Refusal) (refusal : Option Refusal) (id : ℕ) → refusal_of program now met line ≡ refusal → IsOrdered now
     → query_at id (unless_refused refusal now (after_line program now line)).subs ≡ last_told refusal (asked_by program now line id) (query_at id now.subs)
 asked_step program now met line (Some refusal) id is ordered = refl
 asked_step program now met (Err fault) None id is ordered = refl
@@ -112,11 +111,11 @@ live_by_the_last program [] id = refl
 live_by_the_last program (row ∷ past) id =
     let now = after program past in
     let refusal = refusal_after program past row in
-    asked_step program now row.1 (reading program row) refusal id refl (ordered program past) ∙ ap (last_told refusal (asked_by program now (reading program row) id)) (live_by_the_last program past id)
+    asked_step program now row.1 (reading_after program past row) refusal id refl (ordered program past) ∙ ap (last_told refusal (asked_by program now (reading_after program past row) id)) (live_by_the_last program past id)
 
 -- ---- the greatest accepted id
 
-last_step : (program : Program) (now : State) (met : Option SimFault) (line : Result Line LineFault) (refusal : Option Refusal) (ids : List ℕ) → refusal_of program now met line ≡ refusal → now.last ≡ greatest ids
+last_step : (program : Program) (now : State) (met : Option SimFault) (line : Result Line Refusal) (refusal : Option Refusal) (ids : List ℕ) → refusal_of program now met line ≡ refusal → now.last ≡ greatest ids
     → (unless_refused refusal now (after_line program now line)).last ≡ greatest (id_accepted refusal line ++ ids)
 last_step program now met line (Some refusal) ids is so_far = so_far
 last_step program now met (Err fault) None ids is so_far = so_far
@@ -136,4 +135,4 @@ last_step program now met (Ok (lines.Subscribe asked query)) None ids is so_far 
 pub last_is_greatest : (program : Program) → LastIsGreatest program
 last_is_greatest program [] = refl
 last_is_greatest program (row ∷ past) =
-    last_step program (after program past) row.1 (reading program row) (refusal_after program past row) (accepted_ids program past) refl (last_is_greatest program past)
+    last_step program (after program past) row.1 (reading_after program past row) (refusal_after program past row) (accepted_ids program past) refl (last_is_greatest program past)

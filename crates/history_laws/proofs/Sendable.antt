@@ -32,7 +32,7 @@ use Rattle.proxy_proto.specs.Sendable.{AreSendableParts, IsSendable, IsSendableA
 use Rattle.message_laws.proofs.Round.{message_back}
 use Rattle.feed_history.specs.Drains.{too_long}
 use Rattle.feed_history.specs.History.{Asked, State, after, asked_at, messages_due, too_long_for}
-use Rattle.feed_history.specs.Lawful.{HeldAreLawful, QueriesAreLawful}
+use Rattle.feed_history.specs.Lawful.{AreLawfulHeld, HeldAreLawful, QueriesAreLawful}
 use Rattle.feed_history.specs.Marks.{MarkedRow}
 use Rattle.feed_history.specs.Program.{Program}
 use Rattle.feed_history.specs.Sendable.{HasLimit, IsLawfulConfig, MessagesAreSendable, MessagesReadBack}
@@ -49,7 +49,7 @@ use Rattle.watch_events.specs.Lawful.{IsLawfulQuery}
 use Rattle.history_laws.proofs.SendableInbound.{inbound_is_sendable}
 use Rattle.history_laws.proofs.SendableOutbound.{outbound_is_sendable}
 use Rattle.history_laws.proofs.SendableProfiles.{profile_is_sendable}
-use Rattle.history_laws.proofs.SendableRows.{AreLawfulHeld, shown_are_sendable}
+use Rattle.history_laws.proofs.SendableRows.{shown_are_sendable}
 
 -- ---- messages
 

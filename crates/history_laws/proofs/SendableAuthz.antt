@@ -29,7 +29,8 @@ use Rattle.proxy_proto.specs.Sendable.{IsSendableAuthn, IsSendableAuthz}
 use Rattle.feed_history.specs.Sendable.{IsLawfulConfig}
 use Rattle.feed_history.proofs.Lists.{all_given, all_kept, found_is}
 use Rattle.history_laws.proofs.Ordered.{all_in_order}
-use Rattle.history_laws.proofs.SendableRows.{AreLawfulHeld, identity_is_text, of_found, values_are_lawful}
+use Rattle.feed_history.specs.Lawful.{AreLawfulHeld}
+use Rattle.history_laws.proofs.SendableRows.{identity_is_text, of_found, values_are_lawful}
 
 -- ---- clients
 

@@ -24,7 +24,8 @@ use Rattle.feed_history.proofs.Lists.{all_given, all_made, all_mapped}
 use Rattle.history_laws.proofs.Ordered.{all_in_order}
 use Rattle.history_laws.proofs.SendableAuthz.{authz_is_sendable}
 use Rattle.history_laws.proofs.SendableRoutes.{IsOfGroup, attached_are_lawful, route_is_sendable}
-use Rattle.history_laws.proofs.SendableRows.{AreLawfulHeld, of_first, pod_is_lawful}
+use Rattle.feed_history.specs.Lawful.{AreLawfulHeld}
+use Rattle.history_laws.proofs.SendableRows.{of_first, pod_is_lawful}
 
 server_of_object : (o : Object) → IsLawful o → IfSome (as_server o) IsLawfulServer
 server_of_object (objects.Server server) is = is

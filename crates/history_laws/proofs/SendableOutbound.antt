@@ -27,7 +27,8 @@ use Rattle.feed_history.specs.Sendable.{IsLawfulConfig}
 use Rattle.feed_history.proofs.Lists.{all_mapped}
 use Rattle.history_laws.proofs.SendableProfiles.{service_at_is_lawful}
 use Rattle.history_laws.proofs.SendableRoutes.{IsOfGroup, attached_are_lawful, route_is_sendable}
-use Rattle.history_laws.proofs.SendableRows.{AreLawfulHeld, pod_at_is_lawful, row_is_sendable}
+use Rattle.feed_history.specs.Lawful.{AreLawfulHeld}
+use Rattle.history_laws.proofs.SendableRows.{pod_at_is_lawful, row_is_sendable}
 
 port_fits : (port : Option ℕ) → IsSomePort port → unwrap_or port 0 < 65536
 port_fits None is = lit< tt

@@ -26,7 +26,8 @@ use Rattle.view_rules.specs.Endpoints.{as_service, service_found}
 use Rattle.view_rules.specs.Profiles.{address_profile, as_profile, is_service_with, overrides_in, pod_at, pod_profile, profile, profile_for, profile_found, profile_held, profile_key, routes_in, service_at, service_profile}
 use Rattle.proxy_proto.specs.Sendable.{IsSendableProfile}
 use Rattle.feed_history.specs.Sendable.{IsLawfulConfig}
-use Rattle.history_laws.proofs.SendableRows.{AreLawfulHeld, dot_and, of_first, of_found, pod_at_is_lawful, row_is_sendable}
+use Rattle.feed_history.specs.Lawful.{AreLawfulHeld}
+use Rattle.history_laws.proofs.SendableRows.{dot_and, of_first, of_found, pod_at_is_lawful, row_is_sendable}
 
 -- ---- what is found
 

@@ -18,7 +18,8 @@ use Rattle.view_rules.specs.Routes.{as_route, attached_routes, has_parent, place
 use Rattle.proxy_proto.specs.Sendable.{IsRouteKind, IsSendableAuthz, IsSendableRoute, IsSendableRule}
 use Rattle.feed_history.proofs.Lists.{all_given, all_kept, all_mapped}
 use Rattle.history_laws.proofs.Ordered.{all_in_order}
-use Rattle.history_laws.proofs.SendableRows.{AreLawfulHeld, values_are_lawful}
+use Rattle.feed_history.specs.Lawful.{AreLawfulHeld}
+use Rattle.history_laws.proofs.SendableRows.{values_are_lawful}
 
 -- a lawful route of either group
 abbrev pub IsOfGroup : Route → Type 0

@@ -32,6 +32,7 @@ use Rattle.view_rules.proofs.Given.{slice_is}
 use Rattle.view_rules.proofs.Entries.{held_somewhere}
 use Rattle.view_rules.proofs.Pairs.{pairs_total}
 use Rattle.proxy_proto.specs.Sendable.{IsSendableLabel, IsSendableRow}
+use Rattle.feed_history.specs.Lawful.{AreLawfulHeld}
 use Rattle.feed_history.specs.Sendable.{IsLawfulConfig}
 use Rattle.feed_history.proofs.Lists.{all_among, all_flat, all_if, found_is}
 use Rattle.history_laws.proofs.Ordered.{all_in_order}
@@ -46,10 +47,6 @@ no_labels : entries (empty {X = List ℕ} {R = slice_cmp nat_cmp}) ≡ []
 no_labels = none_long _ (sym (len-entries (empty {X = List ℕ} {R = slice_cmp nat_cmp})) ∙ len-empty (slice_cmp nat_cmp) (List ℕ))
 
 -- ---- what is held
-
--- all that is held is lawful
-abbrev pub AreLawfulHeld : ObjectMap → Type 0
-AreLawfulHeld held = (key : ObjKey) (object : Object) → get held key ≡ Some object → IsLawful object
 
 pub values_are_lawful : (held : ObjectMap) → AreLawfulHeld held → AllByRecursion IsLawful (values held)
 values_are_lawful held lawful = all_among IsLawful (values held) (λ object at. let place = held_somewhere keys_total held object at in lawful place.0 object place.1)

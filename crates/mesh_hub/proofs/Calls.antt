@@ -1,5 +1,5 @@
 -- The calls on a new hub as a history: the row of a call is its number, and the program reads it as the call.
-use Rattle.std.proofs.Common.{◌≡◌, ◌<◌, ℕ, suc, Bool, true, false, cond, eqb, List, [], ◌∷◌, length, Option, Some, None, refl, sym, ap, ◌∙◌, subst, arith, inl, inr}
+use Rattle.std.proofs.Common.{◌≡◌, ◌<◌, ℕ, suc, Bool, true, false, cond, eqb, List, [], ◌∷◌, length, map, Option, Some, None, refl, sym, ap, ◌∙◌, subst, arith, inl, inr}
 use Rattle.std.specs.Prelude.{Result, Ok, Err, ◌==◌, if◌then◌else◌, option_map}
 use Rattle.std.specs.List.{AllByRecursion}
 use Rattle.std.proofs.lemmas.Bool.Decides.{eqb_tells}
@@ -8,16 +8,14 @@ use Rattle.view_types.specs.declared.config.Config.{Config}
 use Rattle.route_match.specs.Matching.{Pat}
 use Rattle.request_sim.specs.declared.fault.SimFault.{SimFault}
 use Rattle.watch_events.specs.Lawful.{IsLawfulLine}
-use Rattle.watch_events.specs.Lines.{row_says}
 use Rattle.watch_events.specs.declared.line.Line.{Line}
 use Rattle.watch_events.specs.declared.line.Line.TheVariants as lines
-use Rattle.watch_events.specs.declared.line.LineFault.{LineFault}
-use Rattle.watch_events.specs.declared.line.LineFault.TheVariants as line_faults
 use Rattle.feed_history.specs.History.{State, after, after_line, hub_refusal, refusal_of, step}
 use Rattle.feed_history.specs.Ids.{unless_refused}
 use Rattle.feed_history.specs.Marks.{MarkedRow}
 use Rattle.feed_history.specs.Program.{Program}
 use Rattle.feed_history.specs.declared.refusal.HubFault.{HubFault}
+use Rattle.feed_history.specs.declared.refusal.Refusal.{Refusal}
 use Rattle.feed_history.specs.declared.refusal.Refusal.TheVariants as refusals
 use Rattle.mesh_hub.specs.Calls.{CallsAreHistories, IsHistory, called, called_all}
 use Rattle.mesh_hub.specs.Hub.{HubState}
@@ -29,12 +27,13 @@ number_in [] = 0
 number_in (n ∷ ns) = n
 
 -- the call of a number, counted from the oldest
-abbrev numbered : List Line → ℕ → Result Line LineFault
-numbered [] n = Err line_faults.NotJson
+abbrev numbered : List Line → ℕ → Result Line Refusal
+numbered [] n = Err refusals.NotHere
 numbered (call ∷ past) n = if n == length past then Ok call else numbered past n
 
-abbrev pub reads_of : List Line → List ℕ → Result Line LineFault
-reads_of calls bytes = numbered calls (number_in bytes)
+abbrev pub reads_of : List Line → Option (List ℕ) → Result Line Refusal
+reads_of calls None = Err refusals.NotHere
+reads_of calls (Some bytes) = numbered calls (number_in bytes)
 
 abbrev pub rows_of : List Line → List MarkedRow
 rows_of [] = []
@@ -63,12 +62,12 @@ not_last : (n count : ℕ) → n < count → eqb n count ≡ false
 not_last n count lt = elim (eqb_tells n count) [ inl same ↦ absurd (let is = same.1 in omega (arith, lt, is)) | inr apart ↦ apart.0 ]
 
 pub read_alike : (call : Line) (past : List Line) (rows : List MarkedRow) → AllByRecursion (IsOlder (length past)) rows
-    → AllByRecursion (λ (row : MarkedRow). row_says (reads_of past) row.0 ≡ row_says (reads_of (call ∷ past)) row.0) rows
+    → AllByRecursion (λ (row : MarkedRow). reads_of past row.0 ≡ reads_of (call ∷ past) row.0) rows
 read_alike call past [] older = tt
 read_alike call past (row ∷ rows) older = (
-  ap (row_says (reads_of past)) older.0.1
+  ap (reads_of past) older.0.1
       ∙ ap (λ (b : Bool). cond b (Ok call) (numbered past older.0.0)) (sym (not_last older.0.0 (length past) older.0.2))
-      ∙ ap (row_says (reads_of (call ∷ past))) (sym older.0.1),
+      ∙ ap (reads_of (call ∷ past)) (sym older.0.1),
   read_alike call past rows older.1,
 )
 
@@ -80,11 +79,11 @@ module _ (config : Config) (limits : Limits) where
   abbrev matches : Pat
   matches pattern text = false
 
-  abbrev pub program : (List ℕ → Result Line LineFault) → Program
-  program reads = record { config = config; reads = reads; has_place = λ line. true; limits = limits; matches = matches }
+  abbrev pub program : (Option (List ℕ) → Result Line Refusal) → Program
+  program reads = record { config = config; reads = λ held row. reads row; has_place = λ line. true; limits = limits; matches = matches }
 
   -- what a line leads to depends on what it says alone
-  line_alike : (one other : List ℕ → Result Line LineFault) (now : State) (met : Option SimFault) (line : Result Line LineFault)
+  line_alike : (one other : Option (List ℕ) → Result Line Refusal) (now : State) (met : Option SimFault) (line : Result Line Refusal)
       → unless_refused (refusal_of (program one) now met line) now (after_line (program one) now line) ≡ unless_refused (refusal_of (program other) now met line) now (after_line (program other) now line)
   line_alike one other now met (Err fault) = refl
   line_alike one other now met (Ok lines.Blank) = refl
@@ -95,18 +94,18 @@ module _ (config : Config) (limits : Limits) where
   line_alike one other now met (Ok (lines.Drain id)) = refl
   line_alike one other now met (Ok (lines.Simulate request)) = refl
 
-  step_alike : (one other : List ℕ → Result Line LineFault) (now : State) (row : MarkedRow) → row_says one row.0 ≡ row_says other row.0 → step (program one) now row ≡ step (program other) now row
+  step_alike : (one other : Option (List ℕ) → Result Line Refusal) (now : State) (row : MarkedRow) → one row.0 ≡ other row.0 → step (program one) now row ≡ step (program other) now row
   step_alike one other now row same =
-      line_alike one other now row.1 (row_says one row.0)
-      ∙ ap (λ (line : Result Line LineFault). unless_refused (refusal_of (program other) now row.1 line) now (after_line (program other) now line)) same
+      line_alike one other now row.1 (one row.0)
+      ∙ ap (λ (line : Result Line Refusal). unless_refused (refusal_of (program other) now row.1 line) now (after_line (program other) now line)) same
 
-  pub after_alike : (one other : List ℕ → Result Line LineFault) (rows : List MarkedRow) → AllByRecursion (λ (row : MarkedRow). row_says one row.0 ≡ row_says other row.0) rows
+  pub after_alike : (one other : Option (List ℕ) → Result Line Refusal) (rows : List MarkedRow) → AllByRecursion (λ (row : MarkedRow). one row.0 ≡ other row.0) rows
       → after (program one) rows ≡ after (program other) rows
   after_alike one other [] same = refl
   after_alike one other (row ∷ past) same = ap (λ (now : State). step (program one) now row) (after_alike one other past same.1) ∙ step_alike one other (after (program other) past) row same.0
 
   -- a call leads where its line leads
-  call_leads : (reads : List ℕ → Result Line LineFault) (now : State) (call : Line)
+  call_leads : (reads : Option (List ℕ) → Result Line Refusal) (now : State) (call : Line)
       → called (seen (program reads) now) call ≡ seen (program reads) (unless_refused (refusal_of (program reads) now None (Ok call)) now (after_line (program reads) now (Ok call)))
   call_leads reads now lines.Blank = refl
   call_leads reads now lines.Stop = refl
@@ -132,7 +131,7 @@ module _ (config : Config) (limits : Limits) where
       let line = cond b (Ok call) (numbered past (length past)) in
       seen (program reads) (unless_refused (refusal_of (program reads) now None line) now (after_line (program reads) now line))) (sym (same_number (length past)))
 
-pub reads_lawfully : (calls : List Line) → AllByRecursion IsLawfulLine calls → (n : ℕ) (line : Line) → numbered calls n ≡ Ok line → IsLawfulLine line
+reads_lawfully : (calls : List Line) → AllByRecursion IsLawfulLine calls → (n : ℕ) (line : Line) → numbered calls n ≡ Ok line → IsLawfulLine line
 reads_lawfully [] lawful n line is = absurd (cc is)
 reads_lawfully (call ∷ past) lawful n line is = by_test (eqb n (length past)) (reads_lawfully past lawful.1 n line) is
   where
@@ -140,22 +139,26 @@ reads_lawfully (call ∷ past) lawful n line is = by_test (eqb n (length past)) 
     by_test true earlier is = let same : call ≡ line = cc is in subst IsLawfulLine same lawful.0
     by_test false earlier is = earlier is
 
+pub rows_lawfully : (calls : List Line) → AllByRecursion IsLawfulLine calls → (row : Option (List ℕ)) (line : Line) → reads_of calls row ≡ Ok line → IsLawfulLine line
+rows_lawfully calls lawful None line is = absurd (cc is)
+rows_lawfully calls lawful (Some bytes) line is = reads_lawfully calls lawful (number_in bytes) line is
+
 -- ---- each row reads as its call
 
-same_said : (one other : List ℕ → Result Line LineFault) (rows : List MarkedRow) → AllByRecursion (λ (row : MarkedRow). row_says one row.0 ≡ row_says other row.0) rows
-    → map (λ (row : MarkedRow). row_says one row.0) rows ≡ map (λ (row : MarkedRow). row_says other row.0) rows
+same_said : (one other : Option (List ℕ) → Result Line Refusal) (rows : List MarkedRow) → AllByRecursion (λ (row : MarkedRow). one row.0 ≡ other row.0) rows
+    → map (λ (row : MarkedRow). one row.0) rows ≡ map (λ (row : MarkedRow). other row.0) rows
 same_said one other [] same = refl
 same_said one other (row ∷ rows) same = λ i. same.0 i ∷ same_said one other rows same.1 i
 
-said : (calls : List Line) → map (λ (row : MarkedRow). row_says (reads_of calls) row.0) (rows_of calls) ≡ map Ok calls
+pub said : (calls : List Line) → map (λ (row : MarkedRow). reads_of calls row.0) (rows_of calls) ≡ map Ok calls
 said [] = refl
 said (call ∷ past) =
     let reads = reads_of (call ∷ past) in
-    let here : reads (length past ∷ []) ≡ Ok call = ap (λ (b : Bool). cond b (Ok call) (numbered past (length past))) (same_number (length past)) in
+    let here : reads (Some (length past ∷ [])) ≡ Ok call = ap (λ (b : Bool). cond b (Ok call) (numbered past (length past))) (same_number (length past)) in
     let before = sym (same_said (reads_of past) reads (rows_of past) (read_alike call past (rows_of past) (are_older past))) ∙ said past in
     λ i. here i ∷ before i
 
-none_marked : (calls : List Line) → AllByRecursion (λ (row : MarkedRow). row.1 ≡ None) (rows_of calls)
+pub none_marked : (calls : List Line) → AllByRecursion (λ (row : MarkedRow). row.1 ≡ None) (rows_of calls)
 none_marked [] = tt
 none_marked (call ∷ past) = (refl, none_marked past)
 
@@ -165,8 +168,8 @@ history_of config limits calls lawful = record {
   past = rows_of calls;
   same_config = refl;
   same_limits = refl;
-  lawfully = λ bytes line is. reads_lawfully calls lawful (number_in bytes) line is;
-  reads = said calls;
+  lawfully = λ held held_lawful at_keys. rows_lawfully calls lawful;
+  reads = λ held. said calls;
   unmarked = none_marked calls;
   leads = leads_here config limits calls;
 }

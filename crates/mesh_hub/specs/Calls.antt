@@ -3,6 +3,7 @@
 use Rattle.std.specs.Prelude.{◌≡◌, List, [], ◌∷◌, None, Ok, map}
 use Rattle.std.specs.List.{AllByRecursion}
 use Rattle.mesh_base.specs.declared.limits.Limits.{Limits}
+use Rattle.view_types.specs.Objects.{ObjectMap}
 use Rattle.view_types.specs.declared.config.Config.{Config}
 use Rattle.watch_events.specs.Lawful.{IsLawfulLine}
 use Rattle.watch_events.specs.declared.line.Line.{Line}
@@ -29,15 +30,15 @@ called_all config limits [] = fresh config limits
 called_all config limits (call ∷ past) = called (called_all config limits past) call
 
 -- For some program with this configuration and these limits, whose rows are read lawfully, there is
--- a row for each call, in the same order, that reads as the call and met no refused pattern. The
--- calls lead to the state after these rows.
+-- a row for each call, in the same order, that reads as the call, whatever is held, and met no
+-- refused pattern. The calls lead to the state after these rows.
 pub record IsHistory (config : Config) (limits : Limits) (calls : List Line) : Type 0 where
   pub program : Program
   pub past : List MarkedRow
   pub same_config : program.config ≡ config
   pub same_limits : program.limits ≡ limits
   pub lawfully : ReadsLawfully program
-  pub reads : map (reading program) past ≡ map Ok calls
+  pub reads : (held : ObjectMap) → map (reading program held) past ≡ map Ok calls
   pub unmarked : AllByRecursion (λ (row : MarkedRow). row.1 ≡ None) past
   pub leads : called_all config limits calls ≡ seen program (after program past)
 

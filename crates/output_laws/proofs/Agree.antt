@@ -4,6 +4,7 @@ use Rattle.std.specs.List.{AllByRecursion}
 use Rattle.proxy_proto.specs.Messages.{canonical}
 use Rattle.proxy_proto.specs.MessageReading.{message_of}
 use Rattle.proxy_proto.specs.Sendable.{IsSendable, method_of}
+use Rattle.view_types.specs.Objects.{ObjectMap}
 use Rattle.view_types.specs.declared.message.Message.{Message}
 use Rattle.view_types.specs.declared.query.Method.{Method}
 use Rattle.feed_history.specs.History.{after}
@@ -18,7 +19,7 @@ use Rattle.output_laws.specs.Agreement.{FoldAgrees, method_for}
 use Rattle.output_laws.proofs.BytesOfMessages.{sendable_in_bytes}
 use Rattle.output_laws.proofs.Frames.{IsReadable}
 use Rattle.output_laws.proofs.Messages.{IsShort, all_answer, all_sent, drains_are_short}
-use Rattle.output_laws.proofs.PlainFaults.{IsPlainLine}
+use Rattle.output_laws.proofs.PlainFaults.{IsPlainReading}
 use Rattle.output_laws.proofs.Tells.{folds}
 use Rattle.output_laws.proofs.Written.{HasSmallIds, output_tells}
 
@@ -39,7 +40,7 @@ readable method limit small (m ∷ ms) back answers sendable short = (
     below n low = omega (arith, low, small)
 
 pub fold_agrees : (program : Program) → EndFoldsToView program → MessagesReadBack program → MessagesAreSendable program → HeldAreLawful program → HeldAtKeys program
-    → ((past : List MarkedRow) → HasSmallIds (after program past).subs) → ((row : MarkedRow) → IsPlainLine (reading program row)) → FoldAgrees program
+    → ((past : List MarkedRow) → HasSmallIds (after program past).subs) → ((held : ObjectMap) (row : MarkedRow) → IsPlainReading (reading program held row)) → FoldAgrees program
 fold_agrees program folds_to reads_back are_sendable lawful at_keys small reads one usual limit facts past few fair fits id asked drained within =
     let method = method_for asked.query in
     let messages = sent_in_all program past id in

@@ -5,25 +5,25 @@ use Rattle.line_run.specs.Rows.{Row, past_of}
 use Rattle.mesh_base.specs.declared.limits.Limits.{Limits}
 use Rattle.route_match.specs.Matching.{Pat}
 use Rattle.view_types.specs.declared.config.Config.{Config}
-use Rattle.watch_events.specs.Lines.{text_line}
+use Rattle.watch_events.specs.Lines.{row_says, text_line}
 use Rattle.watch_events.specs.declared.line.Line.{Line}
 use Rattle.watch_events.specs.declared.line.Line.TheVariants as lines
 use Rattle.watch_events.specs.declared.line.LineFault.{LineFault}
 use Rattle.feed_history.specs.History.{Asked, State, after, asked_at, too_long_for}
 use Rattle.feed_history.specs.Marks.{MarkedRow, rows_in, unmarked}
 use Rattle.feed_history.specs.Output.{written_after}
-use Rattle.feed_history.specs.Program.{Program, has_place_in_replay, replay_of}
+use Rattle.feed_history.specs.Program.{Program, has_place_in_replay, refused_unread, replay_of}
 use Rattle.feed_history.specs.Deliveries.{IsDrained}
 use Rattle.feed_history.specs.Simulating.{MarksChangeNothing}
 use Rattle.output_fold.specs.Folded.{folded_of}
 use Rattle.diagnosis.specs.Diagnosed.{diagnosis_of, if_read}
 use Rattle.output_laws.specs.Agreement.{FoldAgrees, LinesAreWithin, method_for}
 use Rattle.output_laws.specs.Diagnoses.{FoldAgreesWithDiagnosis, ReplayAgreesWithDiagnosis}
-use Rattle.output_laws.specs.SameObjects.{TakeSameEvents, event_in, event_of}
+use Rattle.output_laws.specs.SameObjects.{TakeSameEvents, event_in}
 use Rattle.output_laws.proofs.SameObjects.{agrees_with}
 use Rattle.feed_history.specs.KnownPatterns.{facts_in}
 
-same_event : (line : Result Line LineFault) → event_in has_place_in_replay line ≡ event_in has_place_in_replay (if_read line)
+same_event : (line : Result Line LineFault) → event_in has_place_in_replay (refused_unread line) ≡ event_in has_place_in_replay (refused_unread (if_read line))
 same_event (Err fault) = refl
 same_event (Ok lines.Blank) = refl
 same_event (Ok lines.Stop) = refl
@@ -34,11 +34,7 @@ same_event (Ok (lines.Drain id)) = refl
 same_event (Ok (lines.Simulate request)) = refl
 
 takes_same : (config : Config) (limits : Limits) (pat : Pat) → TakeSameEvents (replay_of config limits pat) (diagnosis_of config limits)
-takes_same config limits pat = record { events = by_row; limits = refl; config = refl }
-  where
-    by_row : (row : Row) → event_of (replay_of config limits pat) row ≡ event_of (diagnosis_of config limits) row
-    by_row None = refl
-    by_row (Some bytes) = same_event (text_line config bytes)
+takes_same config limits pat = record { events = λ held row. same_event (row_says (text_line config) row); limits = refl; config = refl }
 
 pub agrees_with_diagnosis : (config : Config) (limits : Limits) (pat : Pat) → FoldAgrees (replay_of config limits pat) → FoldAgreesWithDiagnosis config limits pat
 agrees_with_diagnosis config limits pat agrees = agrees_with (replay_of config limits pat) (diagnosis_of config limits) agrees (takes_same config limits pat)

@@ -34,12 +34,11 @@ use Rattle.view_types.specs.declared.server_view.ServerView.{ServerView}
 use Rattle.view_types.specs.declared.view.View.{View}
 use Rattle.watch_events.specs.declared.line.Line.{Line}
 use Rattle.watch_events.specs.declared.line.Line.TheVariants as lines
-use Rattle.watch_events.specs.declared.line.LineFault.{LineFault}
 use Rattle.feed_history.specs.Drains.{too_long}
-use Rattle.feed_history.specs.History.{Asked, State, after, after_line, asked_at, id_of, messages_due, refusal_after, refusal_of, told_now, too_long_for}
+use Rattle.feed_history.specs.History.{Asked, State, after, after_line, asked_at, id_of, messages_due, reading_after, refusal_after, refusal_of, told_now, too_long_for}
 use Rattle.feed_history.specs.Ids.{ended, in_place, unless_refused}
 use Rattle.feed_history.specs.Marks.{MarkedRow}
-use Rattle.feed_history.specs.Program.{Program, reading}
+use Rattle.feed_history.specs.Program.{Program}
 use Rattle.feed_history.specs.Deliveries.{sent_by, sent_if_live, sent_in_all, sent_now, sent_to, sent_unless}
 use Rattle.feed_history.specs.declared.refusal.Refusal.{Refusal}
 use Rattle.feed_history.proofs.Lists.{all_if, all_joined, all_made}
@@ -56,7 +55,7 @@ all_parts P (x ∷ xs) ys all = let more = all_parts P xs ys all.1 in ((all.0, m
 -- ---- whatever every drain sends
 
 module _ (program : Program) (P : Message → Type 0) (each : (past : List MarkedRow) (id : ℕ) → AllByRecursion P (sent_now program (after program past) id)) where
-  by_row : (past : List MarkedRow) (id : ℕ) (refusal : Option Refusal) (line : Result Line LineFault) → AllByRecursion P (sent_by program (after program past) refusal line id)
+  by_row : (past : List MarkedRow) (id : ℕ) (refusal : Option Refusal) (line : Result Line Refusal) → AllByRecursion P (sent_by program (after program past) refusal line id)
   by_row past id (Some refusal) line = tt
   by_row past id None (Err fault) = tt
   by_row past id None (Ok lines.Blank) = tt
@@ -69,8 +68,8 @@ module _ (program : Program) (P : Message → Type 0) (each : (past : List Marke
 
   all_to : (past : List MarkedRow) (id : ℕ) → AllByRecursion P (sent_to program past id)
   all_to [] id = tt
-  all_to (row ∷ past) id = all_joined P (sent_to program past id) (sent_by program (after program past) (refusal_after program past row) (reading program row) id) (all_to past id)
-      (by_row past id (refusal_after program past row) (reading program row))
+  all_to (row ∷ past) id = all_joined P (sent_to program past id) (sent_by program (after program past) (refusal_after program past row) (reading_after program past row) id) (all_to past id)
+      (by_row past id (refusal_after program past row) (reading_after program past row))
 
   pub all_sent : (past : List MarkedRow) (id : ℕ) → AllByRecursion P (sent_in_all program past id)
   all_sent past id = all_joined P (sent_to program past id) (sent_now program (after program past) id) (all_to past id) (each past id)
@@ -199,7 +198,7 @@ module _ (program : Program) where
             (all_joined (Answers drain.sub.query) sent (sent_now program now id) (so_far.answers drain.sub drain.there) (sent_answers now id drain.sub drain.there))
         by_id asked false is = subst (AllByRecursion (Answers asked.query)) (sym (append-nil sent)) (so_far.answers asked is)
 
-  step : (now : State) (met : Option SimFault) (line : Result Line LineFault) (refusal : Option Refusal) (id : ℕ) (sent : List Message) → refusal_of program now met line ≡ refusal → IsOrdered now → IsAnswered now id sent
+  step : (now : State) (met : Option SimFault) (line : Result Line Refusal) (refusal : Option Refusal) (id : ℕ) (sent : List Message) → refusal_of program now met line ≡ refusal → IsOrdered now → IsAnswered now id sent
       → IsAnswered (unless_refused refusal now (after_line program now line)) id (sent ++ sent_by program now refusal line id)
   step now met line (Some refusal) id sent is in_order so_far = still now id sent so_far
   step now met (Err fault) None id sent is in_order so_far = still now id sent so_far
@@ -216,7 +215,7 @@ module _ (program : Program) where
 
   all_answered : (past : List MarkedRow) (id : ℕ) → IsAnswered (after program past) id (sent_to program past id)
   all_answered [] id = record { answers = λ asked found. absurd (cc found); unsent = λ above. refl }
-  all_answered (row ∷ past) id = step (after program past) row.1 (reading program row) (refusal_after program past row) id (sent_to program past id) refl (ordered program past) (all_answered past id)
+  all_answered (row ∷ past) id = step (after program past) row.1 (reading_after program past row) (refusal_after program past row) id (sent_to program past id) refl (ordered program past) (all_answered past id)
 
   -- all that a live subscriber was sent answers its query
   pub all_answer : (past : List MarkedRow) (id : ℕ) (asked : Asked) → asked_at id (after program past).subs ≡ Some asked → AllByRecursion (Answers asked.query) (sent_in_all program past id)

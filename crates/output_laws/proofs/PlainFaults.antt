@@ -10,7 +10,7 @@ use Rattle.watch_events.specs.declared.line.Line.TheVariants as lines
 use Rattle.watch_events.specs.declared.line.LineFault.{LineFault}
 use Rattle.watch_events.specs.declared.line.LineFault.TheVariants as faults
 use Rattle.feed_history.specs.History.{State, hub_refusal, line_refusal, refusal_of}
-use Rattle.feed_history.specs.Program.{Program}
+use Rattle.feed_history.specs.Program.{Program, refused_unread}
 use Rattle.feed_history.specs.declared.refusal.HubFault.{HubFault}
 use Rattle.feed_history.specs.declared.refusal.Refusal.{Refusal}
 use Rattle.feed_history.specs.declared.refusal.Refusal.TheVariants as refusals
@@ -47,6 +47,15 @@ HasPlainFault (Some (refusals.Sim fault)) = HasPlainRoute fault
 HasPlainFault (Some (refusals.Profile place)) = Unit {0}
 HasPlainFault None = Unit {0}
 
+-- no refusal, or one without an LF
+abbrev pub IsPlainReading : Result Line Refusal → Type 0
+IsPlainReading (Ok line) = Unit {0}
+IsPlainReading (Err refusal) = HasPlainFault (Some refusal)
+
+pub unread_plainly : (read : Result Line LineFault) → IsPlainLine read → IsPlainReading (refused_unread read)
+unread_plainly (Ok line) plain = tt
+unread_plainly (Err fault) plain = plain
+
 hub_refused : (fault : Option HubFault) → HasPlainFault (option_map refusals.Hub fault)
 hub_refused None = tt
 hub_refused (Some fault) = tt
@@ -64,7 +73,7 @@ line_refused program now met (lines.Subscribe id query) plain = hub_refused (hub
 line_refused program now met (lines.Cancel id) plain = hub_refused (hub_refusal program now (lines.Cancel id))
 line_refused program now met (lines.Drain id) plain = hub_refused (hub_refusal program now (lines.Drain id))
 
-pub refused_plainly : (program : Program) (now : State) (met : Option SimFault) (line : Result Line LineFault) → IfSome met HasPlainRoute → IsPlainLine line → HasPlainFault (refusal_of program now met line)
+pub refused_plainly : (program : Program) (now : State) (met : Option SimFault) (line : Result Line Refusal) → IfSome met HasPlainRoute → IsPlainReading line → HasPlainFault (refusal_of program now met line)
 refused_plainly program now met (Err fault) route plain = plain
 refused_plainly program now met (Ok line) route plain = elim (program.has_place line) as (λ b. HasPlainFault (if b then line_refusal program now met line else Some refusals.NotHere)) [
   | true ↦ line_refused program now met line route

@@ -38,7 +38,8 @@ use Rattle.watch_events.specs.declared.line.Line.TheVariants as lines
 use Rattle.watch_events.specs.declared.line.LineFault.{LineFault}
 use Rattle.watch_events.specs.declared.line.LineFault.TheVariants as faults
 use Rattle.output_laws.proofs.PlainControls.{get_at_plain, policy_at_plain, profile_at_plain, request_at_plain, traffic_at_plain}
-use Rattle.output_laws.proofs.PlainFaults.{IsPlainLine}
+use Rattle.feed_history.specs.Program.{refused_unread}
+use Rattle.output_laws.proofs.PlainFaults.{IsPlainLine, IsPlainReading, unread_plainly}
 use Rattle.output_laws.proofs.PlainObjects.{key_at_plain, object_at_plain}
 use Rattle.output_laws.proofs.PlainReads.{IsPlainRead, at_member, choice_plain, each_plain, number_reads, required_plain}
 
@@ -200,6 +201,6 @@ text_plain config bytes = cases (is_blank bytes)
     cases true = tt
     cases false = json_plain config (json_of bytes)
 
-pub row_plain : (config : Config) (row : Row) → IsPlainLine (row_says (text_line config) row)
+pub row_plain : (config : Config) (row : Row) → IsPlainReading (refused_unread (row_says (text_line config) row))
 row_plain config None = tt
-row_plain config (Some bytes) = text_plain config bytes
+row_plain config (Some bytes) = unread_plainly (text_line config bytes) (text_plain config bytes)

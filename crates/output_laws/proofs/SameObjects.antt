@@ -10,13 +10,12 @@ use Rattle.view_types.specs.declared.config.Config.{Config}
 use Rattle.watch_events.specs.declared.event.Event.{Event}
 use Rattle.watch_events.specs.declared.line.Line.{Line}
 use Rattle.watch_events.specs.declared.line.Line.TheVariants as lines
-use Rattle.watch_events.specs.declared.line.LineFault.{LineFault}
 use Rattle.feed_history.specs.Events.{event_refusal, objects_after}
-use Rattle.feed_history.specs.History.{State, after, after_line, line_refusal, refusal_of}
+use Rattle.feed_history.specs.History.{State, after, after_line, line_refusal, reading_after, refusal_of}
 use Rattle.feed_history.specs.Ids.{unless_refused}
 use Rattle.feed_history.specs.Marks.{MarkedRow, rows_in, unmarked}
 use Rattle.feed_history.specs.Output.{written_after}
-use Rattle.feed_history.specs.Program.{Program, reading}
+use Rattle.feed_history.specs.Program.{Program}
 use Rattle.feed_history.specs.declared.refusal.HubFault.{HubFault}
 use Rattle.feed_history.specs.declared.refusal.Refusal.{Refusal}
 use Rattle.feed_history.specs.declared.refusal.Refusal.TheVariants as refusals
@@ -33,7 +32,7 @@ held_with limit held (Some event) = unless_refused (event_refusal limit held eve
 
 held_by : Program → List Row → ObjectMap
 held_by program [] = (after program []).objects
-held_by program (row ∷ rows) = held_with program.limits.objects (held_by program rows) (event_of program row)
+held_by program (row ∷ rows) = held_with program.limits.objects (held_by program rows) (event_of program (held_by program rows) row)
 
 -- what holds the same objects, refused or not
 kept : (refusal : Option Refusal) (now next : State) → next.objects ≡ now.objects → (unless_refused refusal now next).objects ≡ now.objects
@@ -44,7 +43,7 @@ took : (now next : State) (held : ObjectMap) (fault : Option HubFault) → next.
 took now next held None same = same
 took now next held (Some fault) same = refl
 
-line_step : (program : Program) (now : State) (met : Option SimFault) (line : Result Line LineFault)
+line_step : (program : Program) (now : State) (met : Option SimFault) (line : Result Line Refusal)
     → (unless_refused (refusal_of program now met line) now (after_line program now line)).objects ≡ held_with program.limits.objects now.objects (event_in program.has_place line)
 line_step program now met (Err fault) = refl
 line_step program now met (Ok lines.Blank) = kept (refusal_of program now met (Ok lines.Blank)) now now refl
@@ -67,16 +66,16 @@ held_is : (program : Program) (past : List MarkedRow) → (after program past).o
 unfolding held_by
 held_is program [] = refl
 held_is program (row ∷ past) =
-    line_step program (after program past) row.1 (reading program row)
-    ∙ ap (λ (held : ObjectMap). held_with program.limits.objects held (event_of program row.0)) (held_is program past)
+    line_step program (after program past) row.1 (reading_after program past row)
+    ∙ ap (λ (held : ObjectMap). held_with program.limits.objects held (event_of program held row.0)) (held_is program past)
 
 held_same : (one other : Program) → TakeSameEvents one other → (rows : List Row) → held_by one rows ≡ held_by other rows
 unfolding held_by
 held_same one other same [] = refl
 held_same one other same (row ∷ rows) =
-    ap (λ (limits : Limits). held_with limits.objects (held_by one rows) (event_of one row)) same.limits
-    ∙ ap (λ (held : ObjectMap). held_with other.limits.objects held (event_of one row)) (held_same one other same rows)
-    ∙ ap (held_with other.limits.objects (held_by other rows)) (same.events row)
+    ap (λ (limits : Limits). held_with limits.objects (held_by one rows) (event_of one (held_by one rows) row)) same.limits
+    ∙ ap (λ (held : ObjectMap). held_with other.limits.objects held (event_of one held row)) (held_same one other same rows)
+    ∙ ap (held_with other.limits.objects (held_by other rows)) (same.events (held_by other rows) row)
 
 pub same_objects : (one other : Program) → SameEventsSameObjects one other
 same_objects one other same past other_past rows = held_is one past ∙ held_same one other same (rows_in past) ∙ ap (held_by other) rows ∙ sym (held_is other other_past)

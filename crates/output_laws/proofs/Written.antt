@@ -14,9 +14,8 @@ use Rattle.view_types.specs.declared.query.Method.{Method}
 use Rattle.view_types.specs.declared.request.Request.{Request}
 use Rattle.watch_events.specs.declared.line.Line.{Line}
 use Rattle.watch_events.specs.declared.line.Line.TheVariants as lines
-use Rattle.watch_events.specs.declared.line.LineFault.{LineFault}
 use Rattle.feed_history.specs.MarkCauses.{AreFair}
-use Rattle.feed_history.specs.History.{Asked, State, after, asked_at, id_of, messages_due, refusal_after, too_long_for}
+use Rattle.feed_history.specs.History.{Asked, State, after, asked_at, id_of, messages_due, reading_after, refusal_after, too_long_for}
 use Rattle.feed_history.specs.Output.{drain_lines, end_lines, line_text, lines_if_live, lines_unless, output_after, piece_of, row_piece, sub_lines, written_after}
 use Rattle.feed_history.specs.Lawful.{HeldAreLawful, HeldAtKeys}
 use Rattle.feed_history.specs.Live.{Ascend}
@@ -36,7 +35,7 @@ use Rattle.output_laws.proofs.Decimals.{decimal_without}
 use Rattle.output_laws.proofs.Forms.{line_ended, line_in, line_unbroken, other_frame, oversize_passed, own_frame, passed, read, refused_passed, verdict_passed}
 use Rattle.output_laws.proofs.Frames.{IsReadable, frame_told}
 use Rattle.output_laws.proofs.Messages.{all_parts}
-use Rattle.output_laws.proofs.PlainFaults.{HasPlainFault, IsPlainLine, refused_plainly}
+use Rattle.output_laws.proofs.PlainFaults.{HasPlainFault, IsPlainReading, refused_plainly}
 use Rattle.output_laws.proofs.PlainNames.{IsPlainVerdict, mark_plain, verdict_plain}
 use Rattle.output_laws.proofs.PlainTexts.{plain_refusal, plain_verdict}
 use Rattle.output_laws.proofs.Tells.{Tells, tells_both, tells_line, tells_none}
@@ -172,7 +171,7 @@ module _ (method : Method) (id : ℕ) where
 
     -- ---- rows
 
-    row_tells : (now : State) (number : ℕ) (refusal : Option Refusal) (line : Result Line LineFault) → number < 2 ^ 64 → HasSmallIds now.subs
+    row_tells : (now : State) (number : ℕ) (refusal : Option Refusal) (line : Result Line Refusal) → number < 2 ^ 64 → HasSmallIds now.subs
         → ((request : Request) → IsPlainVerdict request.ns (verdict program.config now.objects program.matches request)) → HasPlainFault refusal → RowHasLength program now refusal line
         → AllByRecursion (IsReadable method) (sent_by program now refusal line id) → Tells method id (row_piece number refusal (line_text program number now line)) (sent_by program now refusal line id)
     row_tells now number (Some refusal) line few small plain fault fits good = refused_tells number (refusal_text refusal) few (plain_refusal refusal fault)
@@ -186,18 +185,18 @@ module _ (method : Method) (id : ℕ) where
     row_tells now number None (Ok (lines.Simulate request)) few small plain none fits good =
         let found = verdict program.config now.objects program.matches request in verdict_tells number (verdict_text request.ns found) few (plain_verdict request.ns found (plain request))
 
-    module _ (small : (past : List MarkedRow) → HasSmallIds (after program past).subs) (reads : (row : MarkedRow) → IsPlainLine (reading program row)) where
+    module _ (small : (past : List MarkedRow) → HasSmallIds (after program past).subs) (reads : (held : ObjectMap) (row : MarkedRow) → IsPlainReading (reading program held row)) where
       module _ (lawful : HeldAreLawful program) (at_keys : HeldAtKeys program) (facts : PatternFacts) where
         written_tells : (past : List MarkedRow) → length past < 2 ^ 64 → AreFair program facts past → RowsHaveLengths program past → AllByRecursion (IsReadable method) (sent_to program past id)
             → Tells method id (written_after program past) (sent_to program past id)
         written_tells [] few fair fits good = tells_none method id
         written_tells (row ∷ past) few fair fits good =
             let now = after program past in
-            let line = reading program row in
+            let line = reading_after program past row in
             let refusal = refusal_after program past row in
             let parts = all_parts (IsReadable method) (sent_to program past id) (sent_by program now refusal line id) good in
             let names = λ (request : Request). verdict_plain program.config now.objects (lawful past) program.matches request (at_keys past) in
-            let fault = refused_plainly program now row.1 line (mark_plain program now (lawful past) facts row row.1 fair.0) (reads row) in
+            let fault = refused_plainly program now row.1 line (mark_plain program now (lawful past) facts row row.1 fair.0) (reads now.objects row) in
             tells_both method id (written_after program past) (piece_of program past row) (sent_to program past id) (sent_by program now refusal line id)
             (written_tells past (omega (arith, few)) fair.1 fits.1 parts.0) (row_tells now (length past + 1) refusal line (omega (arith, few)) (small past) names fault fits.0 parts.1)
 

@@ -2,17 +2,17 @@
 use Rattle.std.specs.Prelude.{◌≡◌, ◌≤◌, ◌<◌, ◌^◌, ◌++◌, length, ℕ, List, Bool, Option, Some, None, Result, Ok, Err, if◌then◌else◌}
 use Rattle.line_run.specs.Rows.{Row, past_of}
 use Rattle.view_rules.specs.Views.{view_of}
+use Rattle.view_types.specs.Objects.{ObjectMap}
 use Rattle.view_types.specs.declared.query.Query.{Query}
-use Rattle.watch_events.specs.Lines.{row_says}
 use Rattle.watch_events.specs.declared.event.Event.{Event}
 use Rattle.watch_events.specs.declared.line.Line.{Line}
 use Rattle.watch_events.specs.declared.line.Line.TheVariants as lines
-use Rattle.watch_events.specs.declared.line.LineFault.{LineFault}
 use Rattle.feed_history.specs.MarkCauses.{AreFair}
 use Rattle.feed_history.specs.History.{Asked, after}
 use Rattle.feed_history.specs.Marks.{MarkedRow, rows_in, unmarked}
 use Rattle.feed_history.specs.Output.{output_after, written_after}
 use Rattle.feed_history.specs.Program.{Program}
+use Rattle.feed_history.specs.declared.refusal.Refusal.{Refusal}
 use Rattle.feed_history.specs.Sendable.{HasLimit, IsLawfulConfig}
 use Rattle.feed_history.specs.Deliveries.{IsDrained}
 use Rattle.feed_history.specs.Lengths.{LengthsFit}
@@ -21,7 +21,7 @@ use Rattle.output_laws.specs.Agreement.{LinesAreWithin, method_for}
 use Rattle.route_match.specs.Asking.{PatternFacts}
 
 -- the event of a line, if the line has a place
-abbrev pub event_in : (Line → Bool) → Result Line LineFault → Option Event
+abbrev pub event_in : (Line → Bool) → Result Line Refusal → Option Event
 event_in has_place (Ok (lines.Event event)) = if has_place (lines.Event event) then Some event else None
 event_in has_place (Ok (lines.Subscribe id query)) = None
 event_in has_place (Ok (lines.Cancel id)) = None
@@ -31,12 +31,13 @@ event_in has_place (Ok lines.Blank) = None
 event_in has_place (Ok lines.Stop) = None
 event_in has_place (Err fault) = None
 
-abbrev pub event_of : Program → Row → Option Event
-event_of program row = event_in program.has_place (row_says program.reads row)
+abbrev pub event_of : Program → ObjectMap → Row → Option Event
+event_of program held row = event_in program.has_place (program.reads held row)
 
--- Two programs apply the same events of the same rows, under the same limit on objects, and show the same views.
+-- Two programs apply the same events of the same rows over the same objects, under the same limit
+-- on objects, and show the same views.
 pub record TakeSameEvents (one other : Program) : Type 0 where
-  pub events : (row : Row) → event_of one row ≡ event_of other row
+  pub events : (held : ObjectMap) (row : Row) → event_of one held row ≡ event_of other held row
   pub limits : one.limits ≡ other.limits
   pub config : one.config ≡ other.config
 

@@ -9,14 +9,13 @@ use Rattle.view_types.specs.declared.config.Config.{Config}
 use Rattle.route_match.specs.Matching.{Pat}
 use Rattle.watch_events.specs.Lines.{row_says, text_line}
 use Rattle.watch_events.specs.declared.line.Line.{Line}
-use Rattle.watch_events.specs.declared.line.LineFault.{LineFault}
-use Rattle.feed_history.specs.MarkCauses.{IsTold}
+use Rattle.feed_history.specs.MarkCauses.{IsTold, IsToldFor}
 use Rattle.feed_history.specs.History.{State, after, ids_of}
 use Rattle.mesh_hub.specs.Hub.{HubState}
 use Rattle.feed_history.specs.Marks.{MarkedRow, unmarked}
 use Rattle.feed_history.specs.Optional.{Becomes}
 use Rattle.feed_history.specs.Output.{line_text, refused_after, row_piece, written_after}
-use Rattle.feed_history.specs.Program.{Program, replay_of}
+use Rattle.feed_history.specs.Program.{Program, refused_unread, replay_of}
 use Rattle.mesh_hub.specs.HubAfter.{seen}
 use Rattle.feed_history.specs.Text.{refused_line}
 use Rattle.mesh_hub.specs.declared.machine.Reply.{Reply}
@@ -28,6 +27,7 @@ use Rattle.replay_core.specs.Stand.{FromNew, IsOfRun, Stands, StandsByReplies, S
 use Rattle.feed_step.specs.LineStep.{TakesByReplies, TakesByState, TakesFrom, led_to, text_unless}
 use Rattle.feed_history.proofs.Marks.{as_long, few_more, may_be_marked, none_more, told_before, told_here}
 use Rattle.feed_history.specs.KnownPatterns.{AreMarked, GoOn, facts_in, known_of}
+use Rattle.history_laws.proofs.Simulating.{marks_change_nothing}
 
 -- ---- the text of a row
 
@@ -55,7 +55,7 @@ row_next row past rows = ap (λ (xs : List Row). xs ++ rows) (reverse_onto past 
 
 module _ (program : Program) (tells : Option Pat) (refuses : Option (List ℕ → Bool)) (before at now : ℕ) (row : Row) (past : List Row) (refusal : Option Refusal) (live live_new out mid text text_new : List ℕ) (was : Bool) (old new : HubState)
     (stood : StandsByState program (known_of tells refuses before at) live past text was old)
-    (takes : TakesByState program (known_of tells refuses at now) (length past + 1) (row_says program.reads row) refusal live_new out mid (after program stood.marked) new)
+    (takes : TakesByState program (known_of tells refuses at now) (length past + 1) (program.reads (after program stood.marked).objects row) refusal live_new out mid (after program stood.marked) new)
     (joins : (written : List ℕ) → mid ≡ out ++ text_unless refusal written → text_new ≡ text ++ row_piece (length past + 1) refusal written) where
   abbrev marked : List MarkedRow
   marked = stood.marked
@@ -63,8 +63,8 @@ module _ (program : Program) (tells : Option Pat) (refuses : Option (List ℕ �
   abbrev here : State
   here = after program marked
 
-  abbrev line : Result Line LineFault
-  line = row_says program.reads row
+  abbrev line : Result Line Refusal
+  line = program.reads here.objects row
 
   -- the piece of a row of this number
   abbrev piece : ℕ → Option Refusal → List ℕ
@@ -77,9 +77,15 @@ module _ (program : Program) (tells : Option Pat) (refuses : Option (List ℕ �
     fair = (may_be_marked program here (facts_in (known_of tells refuses before now)) row takes.met takes.met takes.may_meet, stood.are_marked.fair);
   }
 
+  -- the state does not depend on marks
+  told_line : IsTold program tells (unmarked (row ∷ past)) → IsToldFor program tells line
+  told_line told =
+      let same : here ≡ after program (unmarked past) = marks_change_nothing program marked ∙ ap (λ (rows : List Row). after program (unmarked rows)) stood.are_marked.rows_are in
+      subst (λ (now : State). IsToldFor program tells (program.reads now.objects row)) (sym same) (told_here program tells row past told)
+
   row_writes : IsTold program tells (unmarked (row ∷ past)) → text_new ≡ written_after program ((row, takes.met) ∷ marked)
   row_writes told =
-      joins (line_text program (length past + 1) here line) (takes.text (told_here program tells row past told))
+      joins (line_text program (length past + 1) here line) (takes.text (told_line told))
       ∙ ap (λ (xs : List ℕ). xs ++ piece (length past + 1) refusal) (stood.writes (told_before program tells row past told))
       ∙ ap (λ (n : ℕ). written_after program marked ++ piece (n + 1) refusal) (as_long marked past stood.are_marked.rows_are)
       ∙ ap (λ (r : Option Refusal). written_after program marked ++ piece (length marked + 1) r) takes.refusal_is
@@ -161,12 +167,12 @@ goes_on tells tells_now tells_new refuses refuses_now refuses_new before now new
 module _ (config_now config : Config) (limits limits_now : Limits) (same : IsOfRun config limits config_now limits_now) where
   pub states_of_run : (tells tells_now : Option Pat) (refuses refuses_now : Option (List ℕ → Bool)) (before at now : ℕ) → GoOn tells tells_now refuses refuses_now before at
       → (s1 s2 : Option HubState) (number : ℕ) (row : Row) (refusal : Option Refusal) (live live_new out mid : List ℕ)
-      → ((limits : Limits) (pat : Pat) → Becomes s1 s2 (TakesFrom (replay_of config_now limits pat) (known_of tells_now refuses_now at now) number (row_says (text_line config_now) row) refusal live live_new out mid))
-      → (pat : Pat) → Becomes s1 s2 (TakesFrom (replay_of config limits pat) (known_of tells refuses at now) number (row_says (text_line config) row) refusal live live_new out mid)
+      → ((limits : Limits) (pat : Pat) → Becomes s1 s2 (TakesFrom (replay_of config_now limits pat) (known_of tells_now refuses_now at now) number (refused_unread (row_says (text_line config_now) row)) refusal live live_new out mid))
+      → (pat : Pat) → Becomes s1 s2 (TakesFrom (replay_of config limits pat) (known_of tells refuses at now) number (refused_unread (row_says (text_line config) row)) refusal live live_new out mid)
   states_of_run tells tells_now refuses refuses_now before at now on s1 s2 number row refusal live live_new out mid takes pat =
-      subst (λ (c : Config). Becomes s1 s2 (TakesFrom (replay_of c limits pat) (known_of tells refuses at now) number (row_says (text_line c) row) refusal live live_new out mid)) same.same_config
-      (subst (λ (t : Option Pat). Becomes s1 s2 (TakesFrom (replay_of config_now limits pat) (known_of t refuses at now) number (row_says (text_line config_now) row) refusal live live_new out mid)) on.same_tells
-      (subst (λ (f : Option (List ℕ → Bool)). Becomes s1 s2 (TakesFrom (replay_of config_now limits pat) (known_of tells_now f at now) number (row_says (text_line config_now) row) refusal live live_new out mid)) on.same_refuses
+      subst (λ (c : Config). Becomes s1 s2 (TakesFrom (replay_of c limits pat) (known_of tells refuses at now) number (refused_unread (row_says (text_line c) row)) refusal live live_new out mid)) same.same_config
+      (subst (λ (t : Option Pat). Becomes s1 s2 (TakesFrom (replay_of config_now limits pat) (known_of t refuses at now) number (refused_unread (row_says (text_line config_now) row)) refusal live live_new out mid)) on.same_tells
+      (subst (λ (f : Option (List ℕ → Bool)). Becomes s1 s2 (TakesFrom (replay_of config_now limits pat) (known_of tells_now f at now) number (refused_unread (row_says (text_line config_now) row)) refusal live live_new out mid)) on.same_refuses
       (takes limits pat)))
 
   pub replies_of_run : (r1 r2 : Option (List Reply)) (number : ℕ) (row : Row) (refusal : Option Refusal) (out mid : List ℕ)
@@ -178,13 +184,13 @@ module _ (config : Config) (limits : Limits) (tells : Option Pat) (refuses : Opt
   abbrev line_number : ℕ
   line_number = length past + 1
 
-  row_by_state : (pat : Pat) (s0 s1 s2 : Option HubState) → Becomes s1 s2 (TakesFrom (replay_of config limits pat) (known_of tells refuses at now) line_number (row_says (text_line config) row) refusal live live_new out mid)
+  row_by_state : (pat : Pat) (s0 s1 s2 : Option HubState) → Becomes s1 s2 (TakesFrom (replay_of config limits pat) (known_of tells refuses at now) line_number (refused_unread (row_says (text_line config) row)) refusal live live_new out mid)
       → Becomes s0 s1 (FromNew (replay_of config limits pat) (StandsByState (replay_of config limits pat) (known_of tells refuses before at) live past (sent ++ out) was))
       → Becomes s0 s2 (FromNew (replay_of config limits pat) (StandsByState (replay_of config limits pat) (known_of tells refuses before now) live_new (row ∷ past) (sent ++ new) (was || is_some refusal)))
   row_by_state pat s0 s1 s2 takes stood =
       let program = replay_of config limits pat in
       Becomes-then s0 s1 s2 (FromNew program (StandsByState program (known_of tells refuses before at) live past (sent ++ out) was))
-      (TakesFrom program (known_of tells refuses at now) line_number (row_says (text_line config) row) refusal live live_new out mid)
+      (TakesFrom program (known_of tells refuses at now) line_number (refused_unread (row_says (text_line config) row)) refusal live live_new out mid)
       (FromNew program (StandsByState program (known_of tells refuses before now) live_new (row ∷ past) (sent ++ new) (was || is_some refusal))) stood takes
       (λ start old later first second from_new.
       let here = first from_new in
@@ -200,7 +206,7 @@ module _ (config : Config) (limits : Limits) (tells : Option Pat) (refuses : Opt
       stands_by_replies config row past refusal out mid (sent ++ out) (sent ++ new) was start old later second (joined line_number refusal sent out mid new second.text second.texts adds) first)
 
   stands_row_at : (s0 s1 s2 : Option HubState) (r0 r1 r2 : Option (List Reply)) (sent_at_end : ℕ)
-      → ((pat : Pat) → Becomes s1 s2 (TakesFrom (replay_of config limits pat) (known_of tells refuses at now) line_number (row_says (text_line config) row) refusal live live_new out mid))
+      → ((pat : Pat) → Becomes s1 s2 (TakesFrom (replay_of config limits pat) (known_of tells refuses at now) line_number (refused_unread (row_says (text_line config) row)) refusal live live_new out mid))
       → Becomes r1 r2 (TakesByReplies line_number (row_says (text_line config) row) refusal out mid)
       → Stands config limits (known_of tells refuses before at) s0 s1 r0 r1 live sent_at_end past (sent ++ out) was
       → Stands config limits (known_of tells refuses before now) s0 s2 r0 r2 live_new sent_at_end (row ∷ past) (sent ++ new) (was || is_some refusal)
@@ -212,7 +218,7 @@ module _ (config : Config) (limits : Limits) (tells : Option Pat) (refuses : Opt
 
 pub stands_row : (config : Config) (limits : Limits) (tells : Option Pat) (refuses : Option (List ℕ → Bool)) (before at now : ℕ) (s0 s1 s2 : Option HubState) (r0 r1 r2 : Option (List Reply)) (live live_new : List ℕ) (sent_at_end number : ℕ) (row : Row) (past : List Row) (sent out mid new : List ℕ) (was refused : Bool) (refusal : Option Refusal)
     → number ≡ length past + 1
-    → ((pat : Pat) → Becomes s1 s2 (TakesFrom (replay_of config limits pat) (known_of tells refuses at now) number (row_says (text_line config) row) refusal live live_new out mid))
+    → ((pat : Pat) → Becomes s1 s2 (TakesFrom (replay_of config limits pat) (known_of tells refuses at now) number (refused_unread (row_says (text_line config) row)) refusal live live_new out mid))
     → Becomes r1 r2 (TakesByReplies number (row_says (text_line config) row) refusal out mid)
     → new ≡ mid ++ refusal_line number refusal → refused ≡ is_some refusal
     → Stands config limits (known_of tells refuses before at) s0 s1 r0 r1 live sent_at_end past (sent ++ out) was
@@ -220,5 +226,5 @@ pub stands_row : (config : Config) (limits : Limits) (tells : Option Pat) (refus
 stands_row config limits tells refuses before at now s0 s1 s2 r0 r1 r2 live live_new sent_at_end number row past sent out mid new was refused refusal counts state replies adds is stood =
     subst (λ (r : Bool). Stands config limits (known_of tells refuses before now) s0 s2 r0 r2 live_new sent_at_end (row ∷ past) (sent ++ new) (was || r)) (sym is)
     (stands_row_at config limits tells refuses before at now row past live live_new sent out mid new was refusal (adds ∙ ap (λ (n : ℕ). mid ++ refusal_line n refusal) counts) s0 s1 s2 r0 r1 r2 sent_at_end
-    (λ pat. subst (λ (n : ℕ). Becomes s1 s2 (TakesFrom (replay_of config limits pat) (known_of tells refuses at now) n (row_says (text_line config) row) refusal live live_new out mid)) counts (state pat))
+    (λ pat. subst (λ (n : ℕ). Becomes s1 s2 (TakesFrom (replay_of config limits pat) (known_of tells refuses at now) n (refused_unread (row_says (text_line config) row)) refusal live live_new out mid)) counts (state pat))
     (subst (λ (n : ℕ). Becomes r1 r2 (TakesByReplies n (row_says (text_line config) row) refusal out mid)) counts replies) stood)

@@ -342,9 +342,9 @@ module _ (config : Config) (limits : Limits) (pat : Pat) (tells : Option Pat) (r
         heard = λ told links trace n rows last was ended is at.
             let l = is_line n rows last is in
             let mid_at = line_heard config limits pat known fed number line row answers answers_mid old.hub between.hub a number was ended links trace old between refl same at in
-            let one = rest.heard (told_late program tells rest.lines (f ∷ []) told) links trace (n + 1) l.later last was ended l.rest mid_at in
+            let one = rest.heard (told_late config limits pat tells rest.lines (f ∷ []) told) links trace (n + 1) l.later last was ended l.rest mid_at in
             subst (λ rs. AreHeard fed (rest.lines ++ f ∷ []) n rs (last || was) ended answers result answers_now links trace new) (sym l.rows_are)
-            (line_by fed line row a.met n l.number_is l.later rest.lines (last || was) ended answers answers_mid result answers_now links trace new (a.answered (told_early program tells rest.lines (f ∷ []) told)) one);
+            (line_by fed line row a.met n l.number_is l.later rest.lines (last || was) ended answers answers_mid result answers_now links trace new (a.answered (told_early config limits pat tells rest.lines (f ∷ []) told)) one);
       }
 
   -- ---- one ask

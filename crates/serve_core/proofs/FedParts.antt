@@ -21,22 +21,27 @@ use Rattle.serve_core.specs.declared.turning.Turning.{Turning}
 
 -- ---- what is told
 
-none_late : (program : Program) (late early : List FedRow) → NoneSimulates program (rows_fed (late ++ early)) → NoneSimulates program (rows_fed late)
-none_late program [] early none = tt
-none_late program (f ∷ late) early none = (none.0, none_late program late early none.1)
+-- What a line of a feed says does not depend on the lines before it.
+module _ (config : Config) (limits : Limits) (pat : Pat) where
+  abbrev program : Program
+  program = serve_of config limits pat
 
-none_early : (program : Program) (late early : List FedRow) → NoneSimulates program (rows_fed (late ++ early)) → NoneSimulates program (rows_fed early)
-none_early program [] early none = none
-none_early program (f ∷ late) early none = none_early program late early none.1
+  none_late : (late early : List FedRow) → NoneSimulates program (rows_fed (late ++ early)) → NoneSimulates program (rows_fed late)
+  none_late [] early none = tt
+  none_late (f ∷ late) early none = (none.0, none_late late early none.1)
 
-module _ (program : Program) (tells : Option Pat) (late early : List FedRow) where
-  pub told_late : IsTold program tells (rows_fed (late ++ early)) → IsTold program tells (rows_fed late)
-  told_late (inl is) = inl is
-  told_late (inr none) = inr (none_late program late early none)
+  none_early : (late early : List FedRow) → NoneSimulates program (rows_fed (late ++ early)) → NoneSimulates program (rows_fed early)
+  none_early [] early none = none
+  none_early (f ∷ late) early none = none_early late early none.1
 
-  pub told_early : IsTold program tells (rows_fed (late ++ early)) → IsTold program tells (rows_fed early)
-  told_early (inl is) = inl is
-  told_early (inr none) = inr (none_early program late early none)
+  module _ (tells : Option Pat) (late early : List FedRow) where
+    pub told_late : IsTold program tells (rows_fed (late ++ early)) → IsTold program tells (rows_fed late)
+    told_late (inl is) = inl is
+    told_late (inr none) = inr (none_late late early none)
+
+    pub told_early : IsTold program tells (rows_fed (late ++ early)) → IsTold program tells (rows_fed early)
+    told_early (inl is) = inl is
+    told_early (inr none) = inr (none_early late early none)
 
 -- ---- marks
 

@@ -14,6 +14,7 @@ use Rattle.watch_events.specs.Lines.{row_says, text_line}
 use Rattle.route_match.specs.Matching.{Pat}
 use Rattle.feed_history.specs.History.{after}
 use Rattle.feed_history.specs.KnownPatterns.{PatternsNow}
+use Rattle.feed_history.specs.Program.{refused_unread}
 use Rattle.subscriptions.specs.Live.{LiveSubscription, query_at, sub_at}
 use Rattle.mesh_hub.specs.Due.{is_due as is_due_in}
 use Rattle.mesh_hub.specs.Hub.{state_of}
@@ -94,7 +95,7 @@ module _ (config : Config) (limits : Limits) (pat : Pat) (known : PatternsNow) (
   due_by id drained None some placed live due = absurd cc
   due_by id drained (Some query) some placed live due =
       let program = serve_of config limits pat in
-      let touched : Option Query → Bool = λ found. touches_by program (after program (rows_fed fed)) line.met (row_says (text_line config) row) found in
+      let touched : Option Query → Bool = λ found. touches_by program (after program (rows_fed fed)) line.met (refused_unread (row_says (text_line config) row)) found in
       let asked : query_at id (state_of old.hub).subs ≡ Some query = ap (option_map (λ (sub : LiveSubscription). sub.query)) live in
       line.due id ∙ ap (λ found. touched found || is_due_in old.hub id) asked ∙ ap (λ b. touched (Some query) || b) due ∙ sym (due_more serving query drained fed f placed)
 

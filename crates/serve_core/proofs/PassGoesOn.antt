@@ -142,10 +142,10 @@ module _ (pass : Pass) (tells : Option Pat) (refuses : Option (List ℕ → Bool
             grew = two.grew ∙ ap Some (append_assoc trace one.made two.made);
             is_fed = fed_then config limits pat tells refuses before mid now fed one.lines two.lines old between new one.is_fed two.is_fed;
             passes = λ told links at.
-                let to = one.passes (told_early program tells two.lines one.lines told) links at in
+                let to = one.passes (told_early config limits pat tells two.lines one.lines told) links at in
                 let next = next_link pass config limits pat fed one.lines links trace one.made from n between to first in
                 to_next pass config limits pat fed one.lines two.lines links trace one.made two.made from n after between new le is next drains
-                (two.steps (told_late program tells two.lines one.lines told) (next.done ++ next.idle) next.link next.rest next.number next.turns next.at);
+                (two.steps (told_late config limits pat tells two.lines one.lines told) (next.done ++ next.idle) next.link next.rest next.number next.turns next.at);
           }
 
       pub pass_cut : (memory : Memory) → TakesStep pass n (known_of tells refuses mid now) trace_mid between (Err memory) trace_now new → IsReady pass old
@@ -163,9 +163,9 @@ module _ (pass : Pass) (tells : Option Pat) (refuses : Option (List ℕ → Bool
             few = few_then two.lines one.lines before mid now one.is_fed.few two.few;
             fair = fair_then config limits pat tells refuses (known_of tells refuses before now) fed one.lines two.lines one.is_fed.fair two.fair;
             begins = λ told links at.
-                let to = one.passes (told_early program tells two.lines one.lines told) links at in
+                let to = one.passes (told_early config limits pat tells two.lines one.lines told) links at in
                 let next = next_link pass config limits pat fed one.lines links trace one.made from n between to first in
-                let begun = two.begins (told_late program tells two.lines one.lines told) (next.done ++ next.idle) next.link next.rest next.number next.turns next.at in
+                let begun = two.begins (told_late config limits pat tells two.lines one.lines told) (next.done ++ next.idle) next.link next.rest next.number next.turns next.at in
                 subst (λ fs. IsPassBegun step fed links (one.made ++ two.made) fs) (sym (append_assoc two.lines one.lines fed))
                 (cut_in step fed links (step_total pass serving) (next.done ++ next.idle) (one.lines ++ fed) next.link next.rest one.made two.made (two.lines ++ (one.lines ++ fed)) next.so_far begun);
           }

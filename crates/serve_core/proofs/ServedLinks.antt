@@ -211,9 +211,9 @@ module _ (tells : Option Pat) (refuses : Option (List ℕ → Bool)) (before fir
             few = few_then two.lines one.lines before first second one.is_fed.few two.few;
             fair = fair_then config limits pat tells refuses (known_of tells refuses before second) fed one.lines two.lines one.is_fed.fair two.fair;
             begins = λ told links at.
-                let done = one.passes (told_early program tells two.lines one.lines told) links at in
+                let done = one.passes (told_early config limits pat tells two.lines one.lines told) links at in
                 let at_two = at_found config limits pat (one.lines ++ fed) done.after (trace ++ one.made) read found same done.at in
-                let begun = two.begins (told_late program tells two.lines one.lines told) done.after at_two in
+                let begun = two.begins (told_late config limits pat tells two.lines one.lines told) done.after at_two in
                 let last : List FedRow = begun.rest ++ (two.lines ++ (one.lines ++ fed)) in
                 let quiet = drain_same serving (one.lines ++ fed) done.after (two.made ++ begun.more) last begun.after begun.each in
                 let now : List FedRow = begun.rest ++ ((two.lines ++ one.lines) ++ fed) in
@@ -245,11 +245,11 @@ module _ (tells : Option Pat) (refuses : Option (List ℕ → Bool)) (before fir
               few = few_then three.lines early before second third both.few three.few;
               fair = λ fair. subst (λ fs. AreFair program (facts_in (known_of tells refuses before third)) (rows_fed fs)) (sym joined) (three.fair (two.is_fed.fair (one.is_fed.fair fair)));
               begins = λ told links at.
-                  let told_two = told_early program tells three.lines early told in
-                  let done = one.passes (told_early program tells two.lines one.lines told_two) links at in
+                  let told_two = told_early config limits pat tells three.lines early told in
+                  let done = one.passes (told_early config limits pat tells two.lines one.lines told_two) links at in
                   let at_two = at_found config limits pat (one.lines ++ fed) done.after (trace ++ one.made) read found same done.at in
-                  let again = two.passes (told_late program tells two.lines one.lines told_two) done.after at_two in
-                  let begun = three.begins (told_late program tells three.lines early told) again.after again.at in
+                  let again = two.passes (told_late config limits pat tells two.lines one.lines told_two) done.after at_two in
+                  let begun = three.begins (told_late config limits pat tells three.lines early told) again.after again.at in
                   let quiet = drain_same serving (one.lines ++ fed) done.after two.made (two.lines ++ (one.lines ++ fed)) again.after again.passed in
                   let last : List FedRow = begun.rest ++ (three.lines ++ (two.lines ++ (one.lines ++ fed))) in
                   let quiet_too = write_same serving (two.lines ++ (one.lines ++ fed)) again.after (three.made ++ begun.more) last begun.after begun.each in
@@ -284,11 +284,11 @@ module _ (tells : Option Pat) (refuses : Option (List ℕ → Bool)) (before fir
               is_fed = fed_then config limits pat tells refuses before second third fed early three.lines old drained new both
                   (subst (λ fs. IsFed config limits pat (known_of tells refuses second third) fs three.lines drained new) (sym middle) three.is_fed);
               serves = λ told links at.
-                  let told_two = told_early program tells three.lines early told in
-                  let done = one.passes (told_early program tells two.lines one.lines told_two) links at in
+                  let told_two = told_early config limits pat tells three.lines early told in
+                  let done = one.passes (told_early config limits pat tells two.lines one.lines told_two) links at in
                   let at_two = at_found config limits pat (one.lines ++ fed) done.after (trace ++ one.made) read found same done.at in
-                  let again = two.passes (told_late program tells two.lines one.lines told_two) done.after at_two in
-                  let last = three.passes (told_late program tells three.lines early told) again.after again.at in
+                  let again = two.passes (told_late config limits pat tells two.lines one.lines told_two) done.after at_two in
+                  let last = three.passes (told_late config limits pat tells three.lines early told) again.after again.at in
                   let quiet = drain_same serving (one.lines ++ fed) done.after two.made (two.lines ++ (one.lines ++ fed)) again.after again.passed in
                   let quiet_too = write_same serving (two.lines ++ (one.lines ++ fed)) again.after three.made (three.lines ++ (two.lines ++ (one.lines ++ fed))) last.after last.passed in
                   let now : List FedRow = (three.lines ++ early) ++ fed in

@@ -194,8 +194,8 @@ module _ (shown : List LinkEvent) (tells : Option Pat) (refuses : Option (List �
             fair = fair_then config limits pat tells refuses (known_of tells refuses before now) fed all.lines last.lines all.is_fed.fair last.is_fed.fair;
             answer_is = ap (λ b. turn_by b) (sym some_all);
             follows = λ told.
-                let one = all.serves (told_early program tells last.lines all.lines told) first.after first.at in
-                let two = last.passes (told_late program tells last.lines all.lines told) one.after one.at in
+                let one = all.serves (told_early config limits pat tells last.lines all.lines told) first.after first.at in
+                let two = last.passes (told_late config limits pat tells last.lines all.lines told) one.after one.at in
                 let fed_now : List FedRow = (last.lines ++ all.lines) ++ fed in
                 let quiet = stop_same true (all.lines ++ fed) one.after last.made (last.lines ++ (all.lines ++ fed)) two.after two.passed in
                 let to_now = sym quiet ∙ sym joined in

@@ -7,9 +7,9 @@ use Rattle.mesh_links.specs.declared.call.LinkCall.{LinkCall}
 use Rattle.view_types.specs.declared.config.Config.{Config}
 use Rattle.view_types.specs.declared.query.Query.{Query}
 use Rattle.route_match.specs.Matching.{Pat}
-use Rattle.feed_history.specs.History.{after}
+use Rattle.feed_history.specs.History.{after, reading_after}
 use Rattle.feed_history.specs.Marks.{MarkedRow}
-use Rattle.feed_history.specs.Program.{Program, reading}
+use Rattle.feed_history.specs.Program.{Program}
 use Rattle.subscriptions.specs.Live.{LiveSubscription}
 use Rattle.mesh_hub.specs.Due.{is_due as is_due_in}
 use Rattle.mesh_hub.specs.Hub.{state_of}
@@ -26,7 +26,7 @@ use Rattle.serve_core.specs.declared.turning.Turning.{Turning}
 
 -- A line touches a query if it is an accepted event, and the query read one of its marks before it.
 abbrev pub touches_in : Program → Query → List MarkedRow → MarkedRow → Bool
-touches_in program query past row = touches_by program (after program past) row.1 (reading program row) (Some query)
+touches_in program query past row = touches_by program (after program past) row.1 (reading_after program past row) (Some query)
 
 abbrev pub serving_of : Config → Limits → Pat → Serving
 serving_of config limits pat = record { program = serve_of config limits pat; touches = touches_in (serve_of config limits pat) }

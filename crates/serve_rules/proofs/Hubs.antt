@@ -11,14 +11,13 @@ use Rattle.view_rules.specs.Batch.{batch}
 use Rattle.view_rules.specs.Views.{view_of}
 use Rattle.watch_events.specs.declared.line.Line.{Line}
 use Rattle.watch_events.specs.declared.line.Line.TheVariants as lines
-use Rattle.watch_events.specs.declared.line.LineFault.{LineFault}
 use Rattle.route_match.specs.Matching.{Pat}
 use Rattle.feed_history.specs.Drains.{frames_of, frames_unless, too_long}
-use Rattle.feed_history.specs.History.{Asked, State, after, after_line, id_of, refusal_of, row_refusal}
+use Rattle.feed_history.specs.History.{Asked, State, after, after_line, id_of, reading_after, refusal_of, row_refusal}
 use Rattle.mesh_hub.specs.Hub.{HubState, frames_at, frames_for, messages_for}
 use Rattle.feed_history.specs.Ids.{in_place, ended, unless_refused}
 use Rattle.feed_history.specs.Marks.{MarkedRow}
-use Rattle.feed_history.specs.Program.{Program, reading}
+use Rattle.feed_history.specs.Program.{Program}
 use Rattle.feed_history.specs.declared.refusal.Refusal.{Refusal}
 use Rattle.request_sim.specs.declared.fault.SimFault.{SimFault}
 use Rattle.serve_rules.specs.FedLines.{FedRow, held_after, serve_of, up_to}
@@ -67,7 +66,7 @@ unless_none (Some refusal) before later h k = h
 refused : (refusal : Refusal) → Some refusal ≡ None → ⊥
 refused refusal h = cc
 
-none_on : (config : Config) (limits : Limits) (pat : Pat) (now : State) (met : Option SimFault) (line : Result Line LineFault) → now.subs ≡ [] → (unless_refused (refusal_of (serve_of config limits pat) now met line) now (after_line (serve_of config limits pat) now line)).subs ≡ []
+none_on : (config : Config) (limits : Limits) (pat : Pat) (now : State) (met : Option SimFault) (line : Result Line Refusal) → now.subs ≡ [] → (unless_refused (refusal_of (serve_of config limits pat) now met line) now (after_line (serve_of config limits pat) now line)).subs ≡ []
 none_on config limits pat now met (Err fault) h = h
 none_on config limits pat now met (Ok lines.Blank) h = h
 none_on config limits pat now met (Ok (lines.Event event)) h = unless_none (refusal_of (serve_of config limits pat) now met (Ok (lines.Event event))) now (after_line (serve_of config limits pat) now (Ok (lines.Event event))) h (λ e. h)
@@ -79,4 +78,4 @@ none_on config limits pat now met (Ok lines.Stop) h = h
 
 pub no_line_subscribes : NoLineSubscribes
 no_line_subscribes config limits pat [] = refl
-no_line_subscribes config limits pat (row ∷ past) = none_on config limits pat (after (serve_of config limits pat) past) row.1 (reading (serve_of config limits pat) row) (no_line_subscribes config limits pat past)
+no_line_subscribes config limits pat (row ∷ past) = none_on config limits pat (after (serve_of config limits pat) past) row.1 (reading_after (serve_of config limits pat) past row) (no_line_subscribes config limits pat past)

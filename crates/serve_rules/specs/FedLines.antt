@@ -1,18 +1,18 @@
 -- The lines of all feeds in the order in which they were applied, the newest first; their effect, and the answers to them.
 use Rattle.std.specs.Prelude.{ℕ, ◌-◌, Bool, true, false, List, [], ◌∷◌, ◌++◌, Option, Some, None, Result, Ok, Err, codes, drop, length, map, take}
+use Rattle.std.specs.FinMap.{empty}
 use Rattle.std.specs.Fmt.{decimal}
 use Rattle.mesh_base.specs.declared.limits.Limits.{Limits}
 use Rattle.view_types.specs.Objects.{ObjectMap}
 use Rattle.view_types.specs.declared.config.Config.{Config}
-use Rattle.watch_events.specs.Lines.{text_line}
+use Rattle.watch_events.specs.Lines.{row_says, text_line}
 use Rattle.watch_events.specs.declared.line.Line.{Line}
 use Rattle.watch_events.specs.declared.line.Line.TheVariants as lines
-use Rattle.watch_events.specs.declared.line.LineFault.{LineFault}
 use Rattle.route_match.specs.Matching.{Pat}
-use Rattle.feed_history.specs.History.{State, after, refusal_after}
+use Rattle.feed_history.specs.History.{State, after, reading_after, refusal_after}
 use Rattle.feed_history.specs.Marks.{MarkedRow}
 use Rattle.feed_history.specs.Output.{line_text}
-use Rattle.feed_history.specs.Program.{Program, reading}
+use Rattle.feed_history.specs.Program.{Program, reading, refused_unread}
 use Rattle.feed_history.specs.Text.{refused_line}
 use Rattle.feed_history.specs.declared.refusal.Refusal.{Refusal}
 
@@ -27,7 +27,13 @@ has_place_in_serve (lines.Simulate request) = true
 has_place_in_serve lines.Stop = true
 
 abbrev pub serve_of : Config → Limits → Pat → Program
-serve_of config limits pat = record { config = config; reads = text_line config; has_place = has_place_in_serve; limits = limits; matches = pat }
+serve_of config limits pat = record {
+  config = config;
+  reads = λ held row. refused_unread (row_says (text_line config) row);
+  has_place = has_place_in_serve;
+  limits = limits;
+  matches = pat;
+}
 
 -- a line of a feed: its link, its number there, and its row with the pattern fault that it met, if it met one
 pub record FedRow : Type 0 where
@@ -57,7 +63,7 @@ abbrev pub ok_line : ℕ → List ℕ
 ok_line number = codes "ok " ++ (decimal number ++ codes "\n")
 
 -- the answer to an accepted line: `ok` for an event and for `stop`, the verdict for a simulation, nothing for a blank line
-abbrev pub line_answer : Program → ℕ → State → Result Line LineFault → List (List ℕ)
+abbrev pub line_answer : Program → ℕ → State → Result Line Refusal → List (List ℕ)
 line_answer program number now (Ok lines.Blank) = []
 line_answer program number now (Ok (lines.Event event)) = ok_line number ∷ []
 line_answer program number now (Ok (lines.Subscribe id query)) = []
@@ -73,11 +79,11 @@ row_answer number (Some refusal) answers = refused_line number refusal ∷ []
 
 -- the answer to a line after those before it, which is its refusal if it is refused; at most one item
 unfoldable pub answer_to : Program → List FedRow → FedRow → List (List ℕ)
-answer_to program past fed = row_answer fed.number (refusal_after program (rows_fed past) fed.row) (line_answer program fed.number (after program (rows_fed past)) (reading program fed.row))
+answer_to program past fed = row_answer fed.number (refusal_after program (rows_fed past) fed.row) (line_answer program fed.number (after program (rows_fed past)) (reading_after program (rows_fed past) fed.row))
 
 -- ---- stop
 
-abbrev pub says_stop : Result Line LineFault → Bool
+abbrev pub says_stop : Result Line Refusal → Bool
 says_stop (Ok lines.Stop) = true
 says_stop (Ok lines.Blank) = false
 says_stop (Ok (lines.Event event)) = false
@@ -87,6 +93,7 @@ says_stop (Ok (lines.Drain id)) = false
 says_stop (Ok (lines.Simulate request)) = false
 says_stop (Err fault) = false
 
--- the line is an accepted `stop`; such a line is never refused
+-- The line is an accepted `stop`; such a line is never refused. What a line of a server's feed says
+-- does not depend on the objects held, so it is read here as before the first line.
 unfoldable pub is_stop : Program → FedRow → Bool
-is_stop program fed = says_stop (reading program fed.row)
+is_stop program fed = says_stop (reading program empty fed.row)

@@ -1,4 +1,4 @@
-use Rattle.history_laws.proofs.Telling.{told_by_the_last}
+use Rattle.history_laws.proofs.Held.{told_by_the_last}
 use Rattle.history_laws.proofs.laws.last_event_decides_held.Goals as goal
 
 pub returns : goal.returns
