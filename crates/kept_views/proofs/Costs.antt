@@ -19,10 +19,10 @@ use Rattle.row_views.specs.Ids.{key_at}
 use Rattle.row_views.specs.Queries.{rows_at}
 use Rattle.row_views.proofs.Costs.{joined_rows}
 use Rattle.row_views.proofs.InUse.{none_there, only_there}
-use Rattle.profile_views.specs.ProfileQueries as profiles
+use Rattle.key_views.specs.ProfileQueries as profiles
 use Rattle.inbound_views.specs.InUse.{is_of_port, port_rows_are}
 use Rattle.inbound_views.specs.PortRows as ports
-use Rattle.outbound_views.specs.OutboundQueries as outbound
+use Rattle.key_views.specs.OutboundQueries as outbound
 use Rattle.kept_views.specs.InUse.{in_either, in_first, in_second}
 use Rattle.kept_views.specs.Parts.{AreApart, PartsStand, first_of}
 

@@ -3,7 +3,9 @@ use Rattle.std.proofs.Common.{◌≡◌, inl, inr, ℕ, ◌||◌, ◌++◌, nat_
 use Rattle.std.proofs.Math.Bool.{or-false, or_assoc}
 use Rattle.std.proofs.lemmas.Bool.Decides.{eqb_tells}
 use Rattle.std.proofs.lemmas.List.Folds.{list_any-append}
+use Rattle.std.specs.BTreeMap.{BTreeMap}
 use Rattle.std.specs.Option.{option_or}
+use Rattle.std.specs.Prelude.{option_map}
 use Rattle.view_types.specs.Objects.{ObjectMap}
 use Rattle.view_types.specs.declared.config.Config.{Config}
 use Rattle.view_types.specs.declared.mark.Mark.{Mark}
@@ -12,9 +14,13 @@ use Rattle.view_types.specs.declared.view.View.{View}
 use Rattle.mark_graph.specs.RowMarks.{has_row}
 use Rattle.mark_rules.specs.Marks.{meets}
 use Rattle.mark_rules.specs.Reads.{query_reads}
-use Rattle.row_views.specs.Ids.{Keeps, SetsAt}
+use Rattle.row_views.specs.Ids.{Keeps, SetsAt, key_at}
 use Rattle.row_views.specs.Queries.{reads_one, view_at}
 use Rattle.kept_views.specs.Parts.{AreApart, PartsStand, first_of}
+
+-- the query that an id is open with, by its key
+abbrev pub asked_by : {Key : Type 0} → (Key → Query) → BTreeMap ℕ Key → ℕ → Option Query
+asked_by query_for by_id id = option_map query_for (key_at by_id id)
 
 pub ok_both : {A E P Q R : Type 0} (r : Result A E) → OnOk r P → OnOk r Q → (P → Q → R) → OnOk r R
 ok_both (Ok a) p q f = f p q

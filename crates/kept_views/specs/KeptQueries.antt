@@ -3,9 +3,9 @@ use Rattle.std.specs.Prelude.{Option, None}
 use Rattle.view_types.specs.declared.query.Query.{Query}
 use Rattle.view_types.specs.declared.query.Query.TheVariants.{Get, Profile, Port, Traffic, PortRows}
 use Rattle.row_views.specs.Queries.{ShowsSame}
-use Rattle.profile_views.specs.ProfileQueries.{profile_query, profiles_same}
+use Rattle.key_views.specs.ProfileQueries.{profile_query, profiles_same}
 use Rattle.inbound_views.specs.PortRows.{port_query, ports_same}
-use Rattle.outbound_views.specs.OutboundQueries.{outbound_query, outbound_same}
+use Rattle.key_views.specs.OutboundQueries.{outbound_query, outbound_same}
 
 abbrev pub kept_query : Query → Option Query
 kept_query (Get ns name port ctx) = None

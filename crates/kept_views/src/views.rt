@@ -3,6 +3,7 @@ ghost use Rattle.std.specs.Prelude.{◌≡◌, ◌++◌, IfOk};
 ghost use Rattle.view_types.specs.declared.config.Config.{Config as TheConfig};
 
 use inbound_views::views::InboundViews;
+use key_views::views::{KeyViews, OutboundViews, ProfileViews};
 use mark_rules::keys::ServerKey;
 use mesh_base::list::List;
 use mesh_base::memory::Memory;
@@ -10,8 +11,8 @@ use mesh_base::steps::Steps;
 use mesh_base::text::Text;
 use object_store::change::Change;
 use object_store::store::Store;
-use outbound_views::views::OutboundViews;
-use profile_views::views::ProfileViews;
+use outbound_index::index::new_index as new_outbound;
+use profile_index::index::new_index as new_profiles;
 use row_views::query_views::QueryViews;
 use std::alloc::Global;
 use view_types::config::Config;
@@ -41,13 +42,13 @@ impl KeptViews {
         ensures stands { IfOk result (λ views. (held : ObjectMap)
             → ⟦<KeptViews as QueryViews>⟧.stands views config.now held) }
     {
-        let profiles = ProfileViews::new(alloc, config)?;
+        let profiles = new_profiles(alloc, config)?;
         let ports = InboundViews::new(alloc, config)?;
-        let outbound = OutboundViews::new(alloc, config)?;
+        let outbound = new_outbound(alloc, config)?;
         Ok(KeptViews {
-            profiles,
+            profiles: KeyViews::new(alloc, profiles),
             ports,
-            outbound,
+            outbound: KeyViews::new(alloc, outbound),
         })
     }
 
@@ -92,8 +93,13 @@ impl KeptViews {
 impl QueryViews for KeptViews {
     ghost use Rattle.std.specs.Prelude.{◌+◌};
     ghost use Rattle.inbound_views.specs.contracts.views.InboundViewsQueryViews.TheImpl.Laws.{in_use-law as ports_in_use, unique-law as ports_unique};
-    ghost use Rattle.outbound_views.specs.contracts.views.OutboundViewsQueryViews.TheImpl.Laws.{in_use-law as outbound_in_use, unique-law as outbound_unique};
-    ghost use Rattle.profile_views.specs.contracts.views.ProfileViewsQueryViews.TheImpl.Laws.{in_use-law as profiles_in_use, unique-law as profiles_unique};
+    ghost use Rattle.std.proofs.Math.Logic.{∥∥₁_prop};
+    ghost use Rattle.view_types.specs.contracts.query.TargetOrd.TheImpl.Laws.{total-law as targets_total};
+    ghost use Rattle.mark_rules.specs.contracts.keys.ProfileKeyOrd.TheImpl.Laws.{total-law as profiles_total};
+    ghost use Rattle.profile_index.specs.ProfileKeys.{profile_keys_exact, targets_exact};
+    ghost use Rattle.key_views.specs.InUse.{keys_in_use};
+    ghost use Rattle.key_views.specs.OutboundQueries.{outbound_asked};
+    ghost use Rattle.key_views.specs.ProfileQueries.{profiles_asked};
     ghost use Rattle.kept_views.specs.InUse.{parts_in_use};
     ghost use Rattle.kept_views.specs.KeptQueries.{kept_query, kept_same};
     ghost use Rattle.kept_views.specs.Parts.{PartsStand, PartsStand-prop, first_of};
@@ -169,13 +175,13 @@ impl QueryViews for KeptViews {
 
     ghost same = { kept_same };
 
-    ghost unique = { λ s config held. PartsStand-prop (profiles_unique s.profiles config held)
-        (ports_unique s.ports config held) (outbound_unique s.outbound config held) };
+    ghost unique = { λ s config held. PartsStand-prop ∥∥₁_prop
+        (ports_unique s.ports config held) ∥∥₁_prop };
 
     ghost in_use = { λ s config held stands. parts_in_use config held stands
-        (profiles_in_use s.profiles config held stands.profiles)
+        (keys_in_use profiles_asked profiles_total profile_keys_exact stands.profiles)
         (ports_in_use s.ports config held stands.ports)
-        (outbound_in_use s.outbound config held stands.outbound) };
+        (keys_in_use outbound_asked targets_total targets_exact stands.outbound) };
 }
 
 // The ids of the first list, followed by those of the second.

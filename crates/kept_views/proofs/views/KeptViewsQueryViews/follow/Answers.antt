@@ -2,13 +2,13 @@ use Rattle.std.proofs.Common.{◌++◌, ap, ◌∙◌}
 use Rattle.std.proofs.Math.Logic.{∥∥₁_elim, ∥∥₁_prop}
 use Rattle.std.proofs.lemmas.Result.{IfOk-weaker}
 use Rattle.inbound_views.specs.contracts.views.InboundViewsQueryViews.TheImpl.{ghosts as port_views}
-use Rattle.outbound_views.specs.contracts.views.OutboundViewsQueryViews.TheImpl.{ghosts as outbound_views}
-use Rattle.profile_views.specs.contracts.views.ProfileViewsQueryViews.TheImpl.{ghosts as profile_views}
+use Rattle.key_views.specs.OutboundQueries as outbound_views
+use Rattle.key_views.specs.ProfileQueries as profile_views
 use Rattle.mark_graph.specs.RowMarks.{has_row}
 use Rattle.row_views.proofs.Standing.{on_any}
 use Rattle.row_views.proofs.Truncated.{map_truncated}
 use Rattle.kept_views.proofs.Costs.{parts_follow}
-use Rattle.kept_views.proofs.Parts.{kept_parts, parts_read}
+use Rattle.kept_views.proofs.Parts.{asked_by, kept_parts, parts_read}
 use Rattle.kept_views.proofs.views.KeptViewsQueryViews.follow.Goals as goal
 
 pub returns-clause-touched : goal.returns-clause-touched
@@ -23,7 +23,7 @@ returns-clause-touched g c =
 pub returns-clause-stands : goal.returns-clause-stands
 returns-clause-stands g c = on_any c.joined-2.result (λ config held old leads.
     let self = c.args.self.now in
-    kept_parts (profile_views.query_of self.profiles) (port_views.query_of self.ports) (outbound_views.query_of self.outbound) (profile_views.query_of c.follow.new.self) (port_views.query_of c.follow-2.new.self) (outbound_views.query_of c.follow-3.new.self)
+    kept_parts (asked_by profile_views.query_for self.profiles.rows.by_id) (port_views.query_of self.ports) (asked_by outbound_views.query_for self.outbound.rows.by_id) (asked_by profile_views.query_for c.follow.new.self.rows.by_id) (port_views.query_of c.follow-2.new.self) (asked_by outbound_views.query_for c.follow-3.new.self.rows.by_id)
     old (c.in_ok-profiles.ensures.stands config held old.profiles leads) (c.in_ok-ports.ensures.stands config held old.ports leads) (c.in_ok-outbound.ensures.stands config held old.outbound leads)
     c.follow.ensures.queries c.follow-2.ensures.queries c.follow-3.ensures.queries)
 

@@ -1,0 +1,4 @@
+pub mod Asked
+pub mod InUse
+pub mod OutboundQueries
+pub mod ProfileQueries

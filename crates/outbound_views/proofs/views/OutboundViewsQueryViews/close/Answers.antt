@@ -1,6 +1,0 @@
-use Rattle.std.proofs.Common.{◌∙◌}
-use Rattle.row_views.proofs.Truncated.{map_truncated}
-use Rattle.outbound_views.proofs.views.OutboundViewsQueryViews.close.Goals as goal
-
-pub returns-clause-stands : goal.returns-clause-stands
-returns-clause-stands c = λ config held old. map_truncated old (λ kept. record { rows = c.close.ensures.stands held kept.rows; filtered = c.close.ensures.filter ∙ kept.filtered })
