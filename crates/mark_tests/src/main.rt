@@ -1,13 +1,15 @@
 //! Tests of the marks that rows read, over a store of objects, and of the rows at marks.
 //!
 //! Depends on row_reads, on mark_graph, on watch_events for the objects, and on row_file for the
-//! rows in data/. A row begins with the word
+//! rows in data/. `queries` collects the marks of all rows of a query; its contract cites `query_reads`
+//! of mark_rules. So the rows on ports compare the definition of what a query reads. A row begins with the word
 //! - `objects`: the input is the events of objects that are held from there on;
 //! - `reads` and a key, or `ports` and a Pod: the output is the marks that are read;
 //! - `marks`: the input is steps, and the output the rows at marks.
 #![tactic(auto)]
 
 mod names;
+mod queries;
 mod reads;
 mod rows;
 

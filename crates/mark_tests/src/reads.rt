@@ -1,4 +1,5 @@
 use crate::names::push_mark;
+use crate::queries::query_reads;
 use mark_rules::keys::{EndpointKey, ProfileKey, RouteKey, RowKey, ServerKey};
 use mesh_base::key::{Kind, ObjKey};
 use mesh_base::limits::Limits;
@@ -177,7 +178,7 @@ pub(crate) fn push_port(
         config,
         store,
     };
-    let marks = reader.query_reads(&query, &mut Steps::<Store>::new())?;
+    let marks = query_reads(&reader, &query, &mut Steps::<Store>::new())?;
     push_marks(marks.as_slice(), out)
 }
 

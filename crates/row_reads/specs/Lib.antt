@@ -1,2 +1,1 @@
-pub mod QueryRows
 pub mod References

@@ -51,7 +51,7 @@ pub fn route_reads(alloc: Global, key: &RouteKey) -> Result<List<Mark>, Memory>
 }
 
 /// Adds the mark of the routes with the Server as a parent.
-pub(crate) fn add_routes(marks: &mut List<Mark>, ns: &Text, name: &Text) -> Result<(), Memory>
+pub fn add_routes(marks: &mut List<Mark>, ns: &Text, name: &Text) -> Result<(), Memory>
     ensures { OnOk result (marks.new ≡ marks.old ++ RouteOn ns.now parent.Server name.now ∷ []) }
 {
     marks.add(routes_on(ns, ParentKind::Server, name)?)

@@ -23,10 +23,10 @@ use Rattle.mark_rules.specs.Rows.{bare_route, key_of_row, keys_behind, name_in, 
 use Rattle.mark_rules.specs.declared.keys.RowKey.{RowKey}
 use Rattle.mark_rules.specs.declared.keys.RowKey.TheVariants as row
 use Rattle.mark_rules.specs.declared.keys.ServerKey.{ServerKey}
-use Rattle.row_reads.specs.QueryRows.{authz_from, behind_name, behind_row, behind_server, first_row}
+use Rattle.mark_tests.specs.QueryRows.{authz_from, behind_name, behind_row, behind_server, first_row}
 use Rattle.row_reads.specs.References.{HaveSame}
 use Rattle.row_reads.proofs.Needs.{any_in, same_by_kind}
-use Rattle.row_reads.proofs.RouteKeys.{marked_shown, shown_marked}
+use Rattle.mark_tests.proofs.RouteKeys.{marked_shown, shown_marked}
 
 -- ---- tests of keys
 

@@ -1,0 +1,2 @@
+mod QueryMarks
+mod RouteKeys
