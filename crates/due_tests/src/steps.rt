@@ -2,7 +2,7 @@
 ghost use Rattle.std.specs.Prelude.{◌≤◌};
 
 use feed_step::frames::FrameWriter;
-use feed_step::take::take_row;
+use feed_step::run::Run;
 use mesh_base::limits::Limits;
 use mesh_base::list::List;
 use mesh_base::steps::Steps;
@@ -85,19 +85,18 @@ impl Bed {
     fn take(&mut self, line: &str) -> Result<(bool, u64), TrialFault> {
         let mut writer = FrameWriter::new(self.alloc);
         let mut out = Vec::new(self.alloc);
+        let mut patterns = SurePatterns;
         let mut live = List::new(self.alloc);
         let mut steps = Steps::<Hub>::new();
-        let refusal = take_row(
-            &mut writer,
-            &self.config,
-            &mut self.hub,
-            &mut SurePatterns,
-            &mut live,
-            1,
-            Some(line.as_bytes()),
-            &mut out,
-            &mut steps,
-        )?;
+        let mut run = Run {
+            config: &self.config,
+            writer: &mut writer,
+            hub: &mut self.hub,
+            patterns: &mut patterns,
+            live: &mut live,
+            steps: &mut steps,
+        };
+        let refusal = run.step(1, Some(line.as_bytes()), &mut out)?;
         Ok((refusal.is_some(), steps.count()))
     }
 

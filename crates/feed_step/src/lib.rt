@@ -1,7 +1,7 @@
 //! One line of a feed: its call of the machine, and its output.
 //!
 //! Depends on watch_events for the contents of lines, on feed_history for their effects and their
-//! output, and on mesh_hub for the machine. `take_row` processes a row; its contract cites
+//! output, and on mesh_hub for the machine. `Run::step` processes a row; its contract cites
 //! `specs/LineStep`, for the machine's state, and `specs/Transcript`, for its replies. `drain`
 //! sends one subscription what it is due, also at the end of the input.
 #![tactic(auto)]
@@ -9,4 +9,5 @@
 pub mod drain;
 pub mod frames;
 mod lives;
-pub mod take;
+pub mod run;
+mod take;

@@ -1,4 +1,4 @@
-ghost use Rattle.std.specs.Prelude.{◌≡◌, ◌==◌, MatchOption};
+ghost use Rattle.std.specs.Prelude.{◌≡◌, ◌<◌, ◌+◌, ◌^◌, ◌==◌, IfSome, MatchOption, length, slice_get};
 ghost use Rattle.std.specs.List.{position_from};
 ghost use Rattle.feed_history.specs.Ids.{StandsAt, ended, in_place};
 
@@ -28,5 +28,17 @@ pub(crate) fn take_out(alloc: Global, live: &mut List<u32>, id: u32)
         let mut ids = mem::replace(live, List::new(alloc)).into_vec();
         ids.remove(at);
         *live = List::from_vec(ids);
+    }
+}
+
+/// Returns the id at a place.
+pub(crate) fn id_at(ids: &[u32], place: usize) -> Option<u32>
+    ensures value { result ≡ slice_get ids.now place }
+    ensures within { IfSome result (λ id. place < length ids.now) }
+    ensures fits { IfSome result (λ id. place + 1 < 2 ^ 64) }
+{
+    match ids.get(place) {
+        Some(id) => Some(*id),
+        None => None,
     }
 }

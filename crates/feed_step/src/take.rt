@@ -1,37 +1,25 @@
-ghost use Rattle.std.specs.Prelude.{◌≡◌, ◌∷◌, [], ◌++◌, IfOk, Ok};
-ghost use Rattle.std.specs.Option.{option_copied};
-ghost use Rattle.mesh_base.specs.declared.limits.Limits.{Limits};
-ghost use Rattle.view_types.specs.declared.config.Config.{Config as TheConfig};
-ghost use Rattle.watch_events.specs.Lawful.{IsLawfulEvent, IsLawfulLine};
-ghost use Rattle.watch_events.specs.Lines.{row_says, text_line};
-ghost use Rattle.route_match.specs.Matching.{Pat};
+// The calls of a machine that lines make, and why a line is refused by its call.
+ghost use Rattle.std.specs.Prelude.{◌≡◌, ◌∷◌, [], ◌++◌, IfOk};
+ghost use Rattle.watch_events.specs.Lawful.{IsLawfulEvent};
 ghost use Rattle.mesh_hub.specs.Hub.{applied, apply_refusal, cancelled, new_refusal, sub_at, subscribed};
 ghost use Rattle.feed_history.specs.Ids.{ended, in_place, unknown_refusal};
 ghost use Rattle.feed_history.specs.Optional.{Becomes, Extends};
-ghost use Rattle.feed_history.specs.Program.{refused_unread, replay_of};
-ghost use Rattle.feed_step.specs.Transcript.{reply_text, sim_text};
-ghost use Rattle.feed_history.specs.KnownPatterns.{GoOver, known_over};
-ghost use Rattle.feed_step.specs.LineStep.{IsRefusalBy, IsRefusalFor, IsSimulated, IsUnread, Makes, Replied, TakesByReplies, TakesFrom, Unreplied, drain_refusal, live_drained, live_unless};
+ghost use Rattle.feed_step.specs.Transcript.{reply_text};
+ghost use Rattle.feed_step.specs.LineStep.{IsRefusalBy, IsRefusalFor, IsUnread, Makes, Replied, Unreplied, drain_refusal, live_drained, live_unless};
 
-use crate::drain::{Drained, drain};
-use crate::frames::FrameWriter;
+use crate::drain::Drained;
 use crate::lives::take_out;
 use feed_history::refusal::{HubFault, Refusal};
-use feed_history::text::push_verdict;
 use mesh_base::list::List;
 use mesh_base::memory::Memory;
 use mesh_base::steps::Steps;
 use mesh_base::sub_id::SubId;
 use mesh_hub::machine::Machine;
-use mesh_outside::Patterns;
 use request_sim::fault::SimFault;
 use std::alloc::Global;
-use view_types::config::Config;
 use view_types::query::Query;
-use view_types::request::Request;
 use watch_events::event::Event;
-use watch_events::line::{Line, LineFault};
-use watch_events::read::read_row;
+use watch_events::line::LineFault;
 
 // Returns the refusal for a fault.
 fn refusal_by(fault: HubFault) -> Result<Option<Refusal>, Memory>
@@ -46,7 +34,7 @@ fn refusal_by(fault: HubFault) -> Result<Option<Refusal>, Memory>
 // Each function returns why the line is refused, or None.
 
 #[tactic(auto, using(feed_history::proofs::Optional::grows_extends))]
-fn apply<H: Machine, L>(
+pub(crate) fn apply<H: Machine, L>(
     hub: &mut H,
     event: Event,
     steps: &mut Steps<L>,
@@ -65,7 +53,7 @@ fn apply<H: Machine, L>(
 }
 
 #[tactic(auto, using(feed_history::proofs::Optional::grows_extends))]
-fn subscribe<H: Machine, L>(
+pub(crate) fn subscribe<H: Machine, L>(
     hub: &mut H,
     live: &mut List<u32>,
     id: SubId,
@@ -89,7 +77,7 @@ fn subscribe<H: Machine, L>(
     }
 }
 
-fn cancel<H: Machine>(
+pub(crate) fn cancel<H: Machine>(
     alloc: Global,
     hub: &mut H,
     live: &mut List<u32>,
@@ -111,8 +99,13 @@ fn cancel<H: Machine>(
     }
 }
 
-// Removes an id from the live ids if its drain has ended it.
-fn settle(alloc: Global, live: &mut List<u32>, id: SubId, outcome: Drained) -> Option<Refusal>
+/// Removes an id from the live ids if its drain has ended it.
+pub(crate) fn settle(
+    alloc: Global,
+    live: &mut List<u32>,
+    id: SubId,
+    outcome: Drained,
+) -> Option<Refusal>
     ensures refusal { result ≡ drain_refusal outcome }
     ensures live { live.new ≡ live_drained id.0 outcome live.old }
 {
@@ -126,8 +119,8 @@ fn settle(alloc: Global, live: &mut List<u32>, id: SubId, outcome: Drained) -> O
     }
 }
 
-// Returns the refusal of a simulation that met a fault.
-fn refusal_for(fault: SimFault) -> Result<Option<Refusal>, Memory>
+/// Returns the refusal of a simulation that met a fault.
+pub(crate) fn refusal_for(fault: SimFault) -> Result<Option<Refusal>, Memory>
     ensures { IfOk result (IsRefusalFor fault) }
 {
     match fault {
@@ -136,117 +129,12 @@ fn refusal_for(fault: SimFault) -> Result<Option<Refusal>, Memory>
     }
 }
 
-// Writes the verdict on a request, or returns why its line, which has this number, is refused.
-#[tactic(auto, using(feed_history::proofs::Optional::grows_extends))]
-fn simulate<H: Machine, P: Patterns, L>(
-    alloc: Global,
-    hub: &mut H,
-    patterns: &mut P,
-    number: u64,
-    request: &Request,
-    out: &mut Vec<u8>,
-    steps: &mut Steps<L>,
-) -> Result<Option<Refusal>, Memory>
-    ensures state { IfOk result (λ refusal. Becomes (H.state hub.old) (H.state hub.new)
-        (IsSimulated (known_over P.Patterns patterns.old patterns.new) number request.now refusal
-        out.old.items out.new.items)) }
-    ensures replies { IfOk result (λ refusal.
-        Becomes (H.replies hub.old) (H.replies hub.new)
-        (Replied (sim_text number request.now.ns) refusal out.old.items out.new.items)) }
-    ensures grows { Becomes (H.replies hub.old) (H.replies hub.new) Extends }
-    ensures goes_on { GoOver P.Patterns patterns.old patterns.new }
-{
-    match hub.simulate(request, patterns, steps) {
-        Ok(verdict) => {
-            push_verdict(alloc, out, number, &request.ns, &verdict)?;
-            Ok(None)
-        }
-        Err(fault) => refusal_for(fault),
-    }
-}
-
-#[tactic(auto, using(feed_history::proofs::Optional::extends_same, crate::proofs::Calls::unreplied_extends))]
-fn take_line<H: Machine, P: Patterns, L>(
-    writer: &mut FrameWriter,
-    hub: &mut H,
-    patterns: &mut P,
-    live: &mut List<u32>,
-    number: u64,
-    line: Line,
-    out: &mut Vec<u8>,
-    steps: &mut Steps<L>,
-) -> Result<Option<Refusal>, Memory>
-    requires { IsLawfulLine line }
-    ensures state { IfOk result (λ refusal.
-        (config : TheConfig) (limits : Limits) (pat : Pat)
-        → Becomes (H.state hub.old) (H.state hub.new)
-        (TakesFrom (replay_of config limits pat) (known_over P.Patterns patterns.old patterns.new)
-        number (Ok line) refusal live.old live.new out.old.items out.new.items)) }
-    ensures replies { IfOk result (λ refusal.
-        Becomes (H.replies hub.old) (H.replies hub.new)
-        (TakesByReplies number (Ok line) refusal out.old.items out.new.items)) }
-    ensures grows { Becomes (H.replies hub.old) (H.replies hub.new) Extends }
-    ensures goes_on { GoOver P.Patterns patterns.old patterns.new }
-{
-    match line {
-        Line::Blank => Ok(None),
-        Line::Event(event) => apply(hub, event, steps),
-        Line::Subscribe { id, query } => subscribe(hub, live, id, query, steps),
-        Line::Cancel { id } => Ok(cancel(writer.alloc, hub, live, id)),
-        Line::Drain { id } => {
-            let outcome = drain(writer, hub, id, out)?;
-            Ok(settle(writer.alloc, live, id, outcome))
-        }
-        Line::Simulate(request) => simulate(
-            writer.alloc,
-            hub,
-            patterns,
-            number,
-            &request,
-            out,
-            steps,
-        ),
-        Line::Stop => Ok(Some(Refusal::NotHere)),
-    }
-}
-
-// Returns the refusal of a line that cannot be read.
-fn unread(fault: LineFault) -> Result<Option<Refusal>, Memory>
+/// Returns the refusal of a line that cannot be read.
+pub(crate) fn unread(fault: LineFault) -> Result<Option<Refusal>, Memory>
     ensures { IfOk result (IsUnread fault) }
 {
     match fault {
         LineFault::Memory => Err(Memory),
         fault => Ok(Some(Refusal::Line(fault))),
-    }
-}
-
-/// Processes the row with this number. Returns why it is refused, or None.
-#[tactic(auto, using(feed_history::proofs::Optional::extends_same))]
-pub fn take_row<H: Machine, P: Patterns, L>(
-    writer: &mut FrameWriter,
-    config: &Config,
-    hub: &mut H,
-    patterns: &mut P,
-    live: &mut List<u32>,
-    number: u64,
-    row: Option<&[u8]>,
-    out: &mut Vec<u8>,
-    steps: &mut Steps<L>,
-) -> Result<Option<Refusal>, Memory>
-    ensures state { IfOk result (λ refusal.
-        (limits : Limits) (pat : Pat) → Becomes (H.state hub.old) (H.state hub.new)
-        (TakesFrom (replay_of config.now limits pat)
-        (known_over P.Patterns patterns.old patterns.new) number
-        (refused_unread (row_says (text_line config.now) (option_copied row.entry))) refusal
-        live.old live.new out.old.items out.new.items)) }
-    ensures replies { IfOk result (λ refusal. Becomes (H.replies hub.old) (H.replies hub.new)
-        (TakesByReplies number (row_says (text_line config.now) (option_copied row.entry)) refusal
-        out.old.items out.new.items)) }
-    ensures grows { Becomes (H.replies hub.old) (H.replies hub.new) Extends }
-    ensures goes_on { GoOver P.Patterns patterns.old patterns.new }
-{
-    match read_row(writer.alloc, row, config) {
-        Ok(line) => take_line(writer, hub, patterns, live, number, line, out, steps),
-        Err(fault) => unread(fault),
     }
 }

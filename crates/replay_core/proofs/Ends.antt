@@ -1,12 +1,12 @@
 -- Where a replay stands at its end, one drain more.
-use Rattle.std.proofs.Common.{◌≡◌, ℕ, zero, suc, ◌+◌, ◌<◌, ◌≤◌, Bool, true, false, ◌||◌, eqb, List, [], ◌∷◌, ◌++◌, length, map, reverse, take, drop, Bor, Option, Some, None, refl, sym, ap, ◌∙◌, subst, arith, inl, inr, add-one, append_assoc, append-nil}
-use Rattle.std.specs.Prelude.{IfSome, MatchOption, flat_map, get_or, option_copied, option_map, slice_get}
+use Rattle.std.proofs.Common.{◌≡◌, ℕ, zero, suc, ◌+◌, ◌<◌, ◌≤◌, Bool, true, false, ◌||◌, eqb, List, [], ◌∷◌, ◌++◌, length, map, reverse, take, drop, Option, Some, None, refl, sym, ap, ◌∙◌, subst, arith, inl, inr, add-one, append_assoc, append-nil}
+use Rattle.std.specs.Prelude.{flat_map, option_map, slice_get}
 use Rattle.std.specs.List.{AllByRecursion}
 use Rattle.std.proofs.lemmas.Bool.Decides.{eqb_tells}
 use Rattle.std.proofs.lemmas.Grind.{flat_map-append}
 use Rattle.std.proofs.lemmas.List.{drop_all, flat_map_more, take_all}
 use Rattle.std.proofs.lemmas.List.Folds.{list_any-append}
-use Rattle.std.proofs.lemmas.Option.{get_or_from_slice_get, slice_get-get_or, slice_get-map, slice_get_past, slice_get_within}
+use Rattle.std.proofs.lemmas.Option.{get_or_from_slice_get, slice_get-map, slice_get_within}
 use Rattle.std.proofs.Math.Seq.{take-suc}
 use Rattle.mesh_base.specs.declared.limits.Limits.{Limits}
 use Rattle.line_run.specs.Rows.{Row}
@@ -54,19 +54,6 @@ module _ {S : Type 0} where
   all_at P [] n x all found = absurd cc
   all_at P (y ∷ ys) zero x all found = let same : y ≡ x = cc in subst P same all.0
   all_at P (y ∷ ys) (suc n) x all found = all_at P ys n x all.1 found
-
--- what `get` reads there
-pub read_at : (xs ys : List ℕ) (n x : ℕ) (got : Option (Bor ℕ)) (Q : Bor ℕ → Type 0) → ys ≡ xs → IfSome got (λ b. b.now ≡ get_or ys n b.now) → MatchOption got (length ys ≤ n) (λ b. (n < length ys) × Q b)
-    → Some x ≡ option_copied got → slice_get xs n ≡ Some x
-read_at xs ys n x None Q same reads within is = absurd cc
-read_at xs ys n x (Some b) Q same reads within is =
-    let value : x ≡ b.now = cc in
-    ap (λ (zs : List ℕ). slice_get zs n) (sym same) ∙ slice_get-get_or ys n b.now within.0 ∙ ap (λ (y : ℕ). Some y) (sym reads ∙ sym value)
-
--- where it reads nothing
-pub none_at : (xs ys : List ℕ) (n : ℕ) (got : Option (Bor ℕ)) (Q : Bor ℕ → Type 0) → ys ≡ xs → MatchOption got (length ys ≤ n) (λ b. (n < length ys) × Q b) → option_copied got ≡ None → slice_get xs n ≡ None
-none_at xs ys n None Q same beyond is = slice_get_past xs n (subst (λ (zs : List ℕ). length zs ≤ n) same beyond)
-none_at xs ys n (Some b) Q same within is = absurd cc
 
 module _ {S T : Type 0} (f : S → T) where
   -- what stands at a place of a mapped list

@@ -6,6 +6,7 @@ ghost use Rattle.feed_history.specs.KnownPatterns.{known_over};
 
 use crate::replaying::Replaying;
 use feed_step::frames::FrameWriter;
+use feed_step::run::Run;
 use line_run::{Status, run_lines};
 use mesh_base::copied::Copied;
 use mesh_base::limits::Limits;
@@ -92,15 +93,18 @@ pub fn replay<H: Machine, S: Source, K: Sink, P: Patterns>(
     let mut writer = FrameWriter::new(alloc);
     let mut live = List::new(alloc);
     let mut steps = Steps::<()>::new();
-    let mut machine = Replaying {
+    let run = Run {
         config,
-        limits: *limits,
         writer: &mut writer,
         hub,
         patterns,
         live: &mut live,
-        sent: 0,
         steps: &mut steps,
+    };
+    let mut machine = Replaying {
+        run,
+        limits: *limits,
+        sent: 0,
     };
     run_lines(alloc, *limits, &mut machine, input, out)
 }

@@ -25,11 +25,11 @@ returns-clause-output g c =
     let replies = g.H.Machine.replies in
     let patterns = c.args.patterns.now in
     let machine = c.run_lines.new.machine in
-    let known = known_of (g.P.Patterns.tells patterns) (g.P.Patterns.refuses patterns) (g.P.Patterns.refusals patterns) (g.P.Patterns.refusals machine.patterns.now) in
+    let known = known_of (g.P.Patterns.tells patterns) (g.P.Patterns.refuses patterns) (g.P.Patterns.refusals patterns) (g.P.Patterns.refusals machine.run.patterns.now) in
     OnEnd-weaker c.run_lines.result _ _ (λ refused whole.
     let same_patterns = sym whole.at_end.1 in
-    let wrote = output_whole c.args.config.now c.args.limits.now (g.S.Source.left c.args.input.now) (g.K.Sink.held c.args.out.now) (g.K.Sink.held c.run_lines.new.sink) known (state c.args.hub.now) (state c.begin.new.self) (state machine.hub.now)
-    (replies c.begin.new.self) (replies machine.hub.now) whole.input whole.output refused whole.read whole.below whole.at_end.3
+    let wrote = output_whole c.args.config.now c.args.limits.now (g.S.Source.left c.args.input.now) (g.K.Sink.held c.args.out.now) (g.K.Sink.held c.run_lines.new.sink) known (state c.args.hub.now) (state c.begin.new.self) (state machine.run.hub.now)
+    (replies c.begin.new.self) (replies machine.run.hub.now) whole.input whole.output refused whole.read whole.below whole.at_end.3
     (begun c.args.config.now c.in-Ok.copy c.args.limits.now (state c.args.hub.now) (state c.begin.new.self) c.in-Ok-begin.field-0 c.in-Ok.ensures c.in-Ok-begin.ensures.state) whole.written in
     search (rules, wrote, same_patterns)) c.run_lines.ensures.whole
 
@@ -46,9 +46,9 @@ returns-clause-front g c =
     let same_patterns = sym c.run_lines.ensures.keeps.1 in
     OnStop-weaker c.run_lines.result _ _ (λ part.
     let wrote = output_front config limits (g.S.Source.left c.args.input.now) (g.K.Sink.held c.args.out.now) (g.K.Sink.held c.run_lines.new.sink)
-    (g.P.Patterns.tells patterns) (g.P.Patterns.refuses patterns) (g.P.Patterns.refusals patterns) (g.P.Patterns.refusals machine.patterns.now) (λ m. state m.hub.now) (λ m. g.H.Machine.replies m.hub.now) (λ m. m.live.now) (λ m. m.sent) (λ m. g.P.Patterns.refusals m.patterns.now)
-    (λ m. m.hub.ghost_name ≡ _) (λ m. m.patterns.ghost_name ≡ _) (λ m. IsOfRun config limits m.config.now m.limits)
-    (λ m. GoOn (g.P.Patterns.tells patterns) (g.P.Patterns.tells m.patterns.now) (g.P.Patterns.refuses patterns) (g.P.Patterns.refuses m.patterns.now) (g.P.Patterns.refusals patterns) (g.P.Patterns.refusals m.patterns.now))
+    (g.P.Patterns.tells patterns) (g.P.Patterns.refuses patterns) (g.P.Patterns.refusals patterns) (g.P.Patterns.refusals machine.run.patterns.now) (λ m. state m.run.hub.now) (λ m. g.H.Machine.replies m.run.hub.now) (λ m. m.run.live.now) (λ m. m.sent) (λ m. g.P.Patterns.refusals m.run.patterns.now)
+    (λ m. m.run.hub.ghost_name ≡ _) (λ m. m.run.patterns.ghost_name ≡ _) (λ m. IsOfRun config limits m.run.config.now m.limits)
+    (λ m. GoOn (g.P.Patterns.tells patterns) (g.P.Patterns.tells m.run.patterns.now) (g.P.Patterns.refuses patterns) (g.P.Patterns.refuses m.run.patterns.now) (g.P.Patterns.refusals patterns) (g.P.Patterns.refusals m.run.patterns.now))
     _ (λ m kept. kept.2.later) (state c.args.hub.now) (state c.begin.new.self) (g.H.Machine.replies c.begin.new.self)
     (begun config c.in-Ok.copy limits (state c.args.hub.now) (state c.begin.new.self) c.in-Ok-begin.field-0 c.in-Ok.ensures c.in-Ok-begin.ensures.state) part in
     search (rules, wrote, same_patterns)) c.run_lines.ensures.part
@@ -57,7 +57,7 @@ pub returns-clause-state : goal.returns-clause-state
 returns-clause-state g c =
     let state = g.H.Machine.state in
     let replies = g.H.Machine.replies in
-    let hub = c.run_lines.new.machine.hub.now in
+    let hub = c.run_lines.new.machine.run.hub.now in
     OnEnd-weaker c.run_lines.result _ _ (λ refused whole.
     let same_hub = sym whole.at_end.0 in
     let stands = state_whole c.args.config.now c.args.limits.now (g.S.Source.left c.args.input.now) (g.K.Sink.held c.args.out.now) (g.K.Sink.held c.run_lines.new.sink) _ (state c.args.hub.now) (state c.begin.new.self) (state hub)
@@ -69,7 +69,7 @@ pub returns-clause-said : goal.returns-clause-said
 returns-clause-said g c =
     let state = g.H.Machine.state in
     let replies = g.H.Machine.replies in
-    let hub = c.run_lines.new.machine.hub.now in
+    let hub = c.run_lines.new.machine.run.hub.now in
     OnEnd-weaker c.run_lines.result _ _ (λ refused whole.
     let same_hub = sym whole.at_end.0 in
     let said = said_whole c.args.config.now c.args.limits.now (g.S.Source.left c.args.input.now) (g.K.Sink.held c.args.out.now) (g.K.Sink.held c.run_lines.new.sink) _ (state c.args.hub.now) (state c.begin.new.self) (state hub)
@@ -98,11 +98,11 @@ returns-clause-refused g c =
     let replies = g.H.Machine.replies in
     let patterns = c.args.patterns.now in
     let machine = c.run_lines.new.machine in
-    let known = known_of (g.P.Patterns.tells patterns) (g.P.Patterns.refuses patterns) (g.P.Patterns.refusals patterns) (g.P.Patterns.refusals machine.patterns.now) in
+    let known = known_of (g.P.Patterns.tells patterns) (g.P.Patterns.refuses patterns) (g.P.Patterns.refusals patterns) (g.P.Patterns.refusals machine.run.patterns.now) in
     OnEnd-weaker c.run_lines.result _ _ (λ refused whole.
     let same_patterns = sym whole.at_end.1 in
-    let is = refuses_whole c.args.config.now c.args.limits.now (g.S.Source.left c.args.input.now) (g.K.Sink.held c.args.out.now) (g.K.Sink.held c.run_lines.new.sink) known (state c.args.hub.now) (state c.begin.new.self) (state machine.hub.now)
-    (replies c.begin.new.self) (replies machine.hub.now) whole.input whole.output refused whole.read whole.below whole.at_end.3
+    let is = refuses_whole c.args.config.now c.args.limits.now (g.S.Source.left c.args.input.now) (g.K.Sink.held c.args.out.now) (g.K.Sink.held c.run_lines.new.sink) known (state c.args.hub.now) (state c.begin.new.self) (state machine.run.hub.now)
+    (replies c.begin.new.self) (replies machine.run.hub.now) whole.input whole.output refused whole.read whole.below whole.at_end.3
     (begun c.args.config.now c.in-Ok.copy c.args.limits.now (state c.args.hub.now) (state c.begin.new.self) c.in-Ok-begin.field-0 c.in-Ok.ensures c.in-Ok-begin.ensures.state) in
     search (rules, is, same_patterns)) c.run_lines.ensures.whole
 
@@ -118,13 +118,13 @@ returns-clause-said_front g c =
     let held = g.K.Sink.held c.args.out.now in
     let held_new = g.K.Sink.held c.run_lines.new.sink in
     let r0 = replies c.begin.new.self in
-    let r1 = replies c.run_lines.new.machine.hub.now in
+    let r1 = replies c.run_lines.new.machine.run.hub.now in
     OnStop-weaker c.run_lines.result _ _ (λ part.
     let wrote = said_front_from config limits (replies c.args.hub.now) r0 r1 left held held_new c.in-Ok-begin.ensures.replies
-    (said_front config limits left held held_new (λ m. known_of (g.P.Patterns.tells patterns) (g.P.Patterns.refuses patterns) (g.P.Patterns.refusals patterns) (g.P.Patterns.refusals m.patterns.now))
-    (state c.begin.new.self) (λ m. state m.hub.now) (λ m. replies m.hub.now) (λ m. m.live.now) (λ m. m.sent)
-    (λ m. m.hub.ghost_name ≡ _) (λ m. m.patterns.ghost_name ≡ _) (λ m. IsOfRun config limits m.config.now m.limits)
-    (λ m. GoOn (g.P.Patterns.tells patterns) (g.P.Patterns.tells m.patterns.now) (g.P.Patterns.refuses patterns) (g.P.Patterns.refuses m.patterns.now) (g.P.Patterns.refusals patterns) (g.P.Patterns.refusals m.patterns.now))
+    (said_front config limits left held held_new (λ m. known_of (g.P.Patterns.tells patterns) (g.P.Patterns.refuses patterns) (g.P.Patterns.refusals patterns) (g.P.Patterns.refusals m.run.patterns.now))
+    (state c.begin.new.self) (λ m. state m.run.hub.now) (λ m. replies m.run.hub.now) (λ m. m.run.live.now) (λ m. m.sent)
+    (λ m. m.run.hub.ghost_name ≡ _) (λ m. m.run.patterns.ghost_name ≡ _) (λ m. IsOfRun config limits m.run.config.now m.limits)
+    (λ m. GoOn (g.P.Patterns.tells patterns) (g.P.Patterns.tells m.run.patterns.now) (g.P.Patterns.refuses patterns) (g.P.Patterns.refuses m.run.patterns.now) (g.P.Patterns.refusals patterns) (g.P.Patterns.refusals m.run.patterns.now))
     _ r0 r1 (λ m kept. kept.3) c.run_lines.ensures.keeps.3 part) in
     search (rules, wrote, same_hub)) c.run_lines.ensures.part
 

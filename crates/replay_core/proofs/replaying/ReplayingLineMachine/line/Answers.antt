@@ -1,4 +1,4 @@
-use Rattle.std.proofs.Common.{refl, sym, append-nil, Some, None, true, false}
+use Rattle.std.proofs.Common.{refl, sym, ◌∙◌, append-nil, Some, None, true, false}
 use Rattle.std.specs.Option.{option_copied}
 use Rattle.replay_core.proofs.Rows.{goes_on, stands_row, states_of_run, replies_of_run}
 use Rattle.replay_core.proofs.replaying.ReplayingLineMachine.line.Goals as goal
@@ -11,20 +11,20 @@ returns-in-None-clause-stands g c = λ start past sent earlier counts stood.
     let refuses = g.P.Patterns.refuses in
     let refusals = g.P.Patterns.refusals in
     let old = c.args.self.now in
-    let new = c.take_row.new in
-    let first = start.patterns.now in
+    let new = c.step.new.self in
+    let first = start.run.patterns.now in
     let row = option_copied c.args.line in (
-      stood.0,
-      stood.1,
-      stood.2,
-      goes_on (tells first) (tells old.patterns.now) (tells new.patterns) (refuses first) (refuses old.patterns.now) (refuses new.patterns) (refusals first) (refusals old.patterns.now) (refusals new.patterns)
-          stood.3 c.take_row.ensures.goes_on.same_tells c.take_row.ensures.goes_on.same_refuses c.take_row.ensures.goes_on.later,
-      stands_row start.config.now start.limits (tells first) (refuses first) (refusals first) (refusals old.patterns.now) (refusals new.patterns)
-          (state start.hub.now) (state old.hub.now) (state new.hub) (replies start.hub.now) (replies old.hub.now) (replies new.hub) old.live.now new.live old.sent c.args.number
-          row past sent c.args.out.now.items new.out.items new.out.items earlier false None counts
-          (states_of_run old.config.now start.config.now start.limits old.limits stood.2 (tells first) (tells old.patterns.now) (refuses first) (refuses old.patterns.now) (refusals first) (refusals old.patterns.now) (refusals new.patterns) stood.3
-          (state old.hub.now) (state new.hub) c.args.number row None old.live.now new.live c.args.out.now.items new.out.items (rw c.in-None.is at c.in-Ok.ensures.state))
-          (replies_of_run old.config.now start.config.now start.limits old.limits stood.2 (replies old.hub.now) (replies new.hub) c.args.number row None c.args.out.now.items new.out.items (rw c.in-None.is at c.in-Ok.ensures.replies))
+      c.step.ensures.same_hub ∙ stood.0,
+      c.step.ensures.same_patterns ∙ stood.1,
+      record { same_config = c.step.ensures.same_config ∙ stood.2.same_config; same_limits = stood.2.same_limits },
+      goes_on (tells first) (tells old.run.patterns.now) (tells new.patterns.now) (refuses first) (refuses old.run.patterns.now) (refuses new.patterns.now) (refusals first) (refusals old.run.patterns.now) (refusals new.patterns.now)
+          stood.3 c.step.ensures.goes_on.same_tells c.step.ensures.goes_on.same_refuses c.step.ensures.goes_on.later,
+      stands_row start.run.config.now start.limits (tells first) (refuses first) (refusals first) (refusals old.run.patterns.now) (refusals new.patterns.now)
+          (state start.run.hub.now) (state old.run.hub.now) (state new.hub.now) (replies start.run.hub.now) (replies old.run.hub.now) (replies new.hub.now) old.run.live.now new.live.now old.sent c.args.number
+          row past sent c.args.out.now.items c.step.new.out.items c.step.new.out.items earlier false None counts
+          (states_of_run old.run.config.now start.run.config.now start.limits old.limits stood.2 (tells first) (tells old.run.patterns.now) (refuses first) (refuses old.run.patterns.now) (refusals first) (refusals old.run.patterns.now) (refusals new.patterns.now) stood.3
+          (state old.run.hub.now) (state new.hub.now) c.args.number row None old.run.live.now new.live.now c.args.out.now.items c.step.new.out.items (rw c.in-None.is at c.in-Ok.ensures.state))
+          (replies_of_run old.run.config.now start.run.config.now start.limits old.limits stood.2 (replies old.run.hub.now) (replies new.hub.now) c.args.number row None c.args.out.now.items c.step.new.out.items (rw c.in-None.is at c.in-Ok.ensures.replies))
           (sym (append-nil _)) refl stood.4,
     )
 
@@ -36,19 +36,19 @@ returns-in_ok-push_refused-in-Some-clause-stands g c = λ start past sent earlie
     let refuses = g.P.Patterns.refuses in
     let refusals = g.P.Patterns.refusals in
     let old = c.args.self.now in
-    let new = c.take_row.new in
-    let first = start.patterns.now in
+    let new = c.step.new.self in
+    let first = start.run.patterns.now in
     let row = option_copied c.args.line in (
-      stood.0,
-      stood.1,
-      stood.2,
-      goes_on (tells first) (tells old.patterns.now) (tells new.patterns) (refuses first) (refuses old.patterns.now) (refuses new.patterns) (refusals first) (refusals old.patterns.now) (refusals new.patterns)
-          stood.3 c.take_row.ensures.goes_on.same_tells c.take_row.ensures.goes_on.same_refuses c.take_row.ensures.goes_on.later,
-      stands_row start.config.now start.limits (tells first) (refuses first) (refusals first) (refusals old.patterns.now) (refusals new.patterns)
-          (state start.hub.now) (state old.hub.now) (state new.hub) (replies start.hub.now) (replies old.hub.now) (replies new.hub) old.live.now new.live old.sent c.args.number
-          row past sent c.args.out.now.items new.out.items c.push_refused.new.out.items earlier true (Some c.in-Some.refusal) counts
-          (states_of_run old.config.now start.config.now start.limits old.limits stood.2 (tells first) (tells old.patterns.now) (refuses first) (refuses old.patterns.now) (refusals first) (refusals old.patterns.now) (refusals new.patterns) stood.3
-          (state old.hub.now) (state new.hub) c.args.number row (Some c.in-Some.refusal) old.live.now new.live c.args.out.now.items new.out.items (rw c.in-Some.is at c.in-Ok.ensures.state))
-          (replies_of_run old.config.now start.config.now start.limits old.limits stood.2 (replies old.hub.now) (replies new.hub) c.args.number row (Some c.in-Some.refusal) c.args.out.now.items new.out.items (rw c.in-Some.is at c.in-Ok.ensures.replies))
+      c.step.ensures.same_hub ∙ stood.0,
+      c.step.ensures.same_patterns ∙ stood.1,
+      record { same_config = c.step.ensures.same_config ∙ stood.2.same_config; same_limits = stood.2.same_limits },
+      goes_on (tells first) (tells old.run.patterns.now) (tells new.patterns.now) (refuses first) (refuses old.run.patterns.now) (refuses new.patterns.now) (refusals first) (refusals old.run.patterns.now) (refusals new.patterns.now)
+          stood.3 c.step.ensures.goes_on.same_tells c.step.ensures.goes_on.same_refuses c.step.ensures.goes_on.later,
+      stands_row start.run.config.now start.limits (tells first) (refuses first) (refusals first) (refusals old.run.patterns.now) (refusals new.patterns.now)
+          (state start.run.hub.now) (state old.run.hub.now) (state new.hub.now) (replies start.run.hub.now) (replies old.run.hub.now) (replies new.hub.now) old.run.live.now new.live.now old.sent c.args.number
+          row past sent c.args.out.now.items c.step.new.out.items c.push_refused.new.out.items earlier true (Some c.in-Some.refusal) counts
+          (states_of_run old.run.config.now start.run.config.now start.limits old.limits stood.2 (tells first) (tells old.run.patterns.now) (refuses first) (refuses old.run.patterns.now) (refusals first) (refusals old.run.patterns.now) (refusals new.patterns.now) stood.3
+          (state old.run.hub.now) (state new.hub.now) c.args.number row (Some c.in-Some.refusal) old.run.live.now new.live.now c.args.out.now.items c.step.new.out.items (rw c.in-Some.is at c.in-Ok.ensures.state))
+          (replies_of_run old.run.config.now start.run.config.now start.limits old.limits stood.2 (replies old.run.hub.now) (replies new.hub.now) c.args.number row (Some c.in-Some.refusal) c.args.out.now.items c.step.new.out.items (rw c.in-Some.is at c.in-Ok.ensures.replies))
           c.in_ok-push_refused-in-Some.ensures refl stood.4,
     )
