@@ -1,5 +1,6 @@
 """`tools/feed` without a recording: the lists of a cluster, and then what changes."""
 
+import logging
 import queue
 import threading
 import time
@@ -12,10 +13,10 @@ from mesh_front.feeding import FeedLink, Line, Lines, NotWanted, counted, say, s
 from mesh_front.filling import Holding, ListLine, fill, in_order, title_of
 from mesh_front.kinds import FILL_ORDER, POLICY, PROFILE, Kind
 from mesh_front.links import ServerAddress
+from mesh_front.observing import Observer, Stage
 from mesh_front.record import Cluster, Listing, Watch, left_out, listing_of
+from mesh_front.waiting import Backoff
 
-RETRY_SECONDS = (0, 1, 2, 5, 10, 30)
-STEADY_SECONDS = 10  # after a watch that lasted so long the next list needs no wait
 GATHER_SECONDS = 0.2  # kinds whose watches end so close together are listed again in the order of a fill
 
 
@@ -26,7 +27,7 @@ class KindFeed:
         self.cluster, self.kind, self.namespaces, self.lines = cluster, kind, namespaces, lines
         self.holding = Holding(kind, lines, not namespaces)
         self.watches: list[Watch] = []
-        self.failures = 0
+        self.backoff = Backoff()
 
     def list_line(self, listing: Listing) -> ListLine:
         """The list as a line."""
@@ -36,26 +37,21 @@ class KindFeed:
         """Puts what changes from a list on, until a watch ends."""
         began = time.monotonic()
         reason = self.watch(listing)
-        if not self.lines.are_wanted:
-            return
-        say(f"the watch of {self.kind.title} ended{reason and f': {reason}'}; listing {self.kind.title} again")
-        self.failures = 0 if time.monotonic() - began >= STEADY_SECONDS else self.failures
+        if self.lines.are_wanted:
+            self.lines.observer.tell(self.kind, Stage.ENDED)
+            say(f"the watch of {self.kind.title} ended{reason and f': {reason}'}; listing {self.kind.title} again")
+        self.backoff.take(time.monotonic() - began)
         ended.put(self)
-
-    def wait_seconds(self) -> float:
-        """How long the next list waits, which counts as a further try."""
-        self.failures += 1
-        return RETRY_SECONDS[min(self.failures, len(RETRY_SECONDS)) - 1]
 
     def listing_again(self) -> Listing | None:
         """A further list; None where it cannot be read, which is said."""
         try:
             listing = listing_of(self.cluster, self.kind, self.namespaces)
         except Fault as fault:
-            say(str(fault))
+            say(str(fault), logging.WARNING)
             return None
         if listing is None:
-            say(f"the cluster does not have {self.kind.title} any more")
+            say(f"the cluster does not have {self.kind.title} any more", logging.WARNING)
         return listing
 
     def watch(self, listing: Listing) -> str:
@@ -68,6 +64,10 @@ class KindFeed:
         except Fault as fault:
             reasons.append(str(fault))
             self.end()
+        if not self.lines.are_wanted:
+            self.end()
+        elif not reasons:
+            self.lines.observer.tell(self.kind, Stage.WATCHED)
         readers = [threading.Thread(target=self.read, args=(it, reasons), daemon=True) for it in self.watches]
         for reader in readers:
             reader.start()
@@ -107,19 +107,22 @@ class KindFeed:
             watch.end()
 
 
-def first_listings(cluster: Cluster, namespaces: list[str]) -> dict[Kind, Listing]:
+def first_listings(cluster: Cluster, namespaces: list[str], observer: Observer) -> dict[Kind, Listing]:
     """The list of each kind that the cluster has; a Fault where it has none of Linkerd's.
 
     What is sent last is listed first, so that each Pod that is sent has the policies that there were when it was listed.
     """
-    listings = {kind: listing_of(cluster, kind, namespaces) for kind in reversed(FILL_ORDER)}
+    listings: dict[Kind, Listing | None] = {}
+    for kind in reversed(FILL_ORDER):
+        listings[kind] = listing_of(cluster, kind, namespaces)
+        observer.tell(kind, Stage.LISTED if listings[kind] else Stage.ABSENT)
     found = {kind: listings[kind] for kind in FILL_ORDER}
     if not any(found[kind] for kind in FILL_ORDER if kind.group in (PROFILE.group, POLICY)):
         groups = f"{PROFILE.group} and {POLICY}"
         raise Fault(Status.NO_LINKERD, f"the cluster has none of Linkerd's kinds (the groups {groups}): is Linkerd installed there?")
     for kind, listing in found.items():
         if listing is None:
-            say(left_out(kind))
+            say(left_out(kind), logging.WARNING)
     return {kind: listing for kind, listing in found.items() if listing is not None}
 
 
@@ -153,13 +156,15 @@ class ClusterFeed:
         due: dict[Kind, float] = {}
         while True:
             for it in self.those_ended(ended, min(due.values(), default=None)):
-                due[it.kind] = time.monotonic() + it.wait_seconds()
+                if not it.lines.are_wanted:
+                    raise NotWanted
+                due[it.kind] = time.monotonic() + it.backoff.seconds()
             for kind in in_order([kind for kind, at in due.items() if at <= time.monotonic()]):
                 del due[kind]
                 feed = self.kinds[kind]
                 listing = feed.listing_again()
                 if listing is None:
-                    due[kind] = time.monotonic() + feed.wait_seconds()
+                    due[kind] = time.monotonic() + feed.backoff.seconds()
                     continue
                 feed.holding.replace(feed.list_line(listing))
                 self.start(kind, listing, ended)
@@ -175,13 +180,30 @@ class ClusterFeed:
             return found
 
 
-def send_cluster(address: ServerAddress, cluster: Cluster, namespaces: list[str], skipped: frozenset[Key]) -> Status:
+@dataclass(frozen=True)
+class Source:
+    """What is read of a cluster: its namespaces, or all of them where none are named, and the policies that may be left out."""
+
+    cluster: Cluster
+    namespaces: list[str]
+    skipped: frozenset[Key]
+
+
+def send_cluster(address: ServerAddress, source: Source, observer: Observer = Observer()) -> Status:
     """Sends the lists of a cluster, and then what changes, until the server closes the link."""
-    link, lines = FeedLink(address), Lines()
-    listings = first_listings(cluster, namespaces)
-    kinds = {kind: KindFeed(cluster, kind, namespaces, lines) for kind in listings}
+    link, lines = FeedLink(address, observer), Lines(observer)
+    try:
+        return follow_cluster(link, lines, source)
+    finally:
+        link.link.cut()
+
+
+def follow_cluster(link: FeedLink, lines: Lines, source: Source) -> Status:
+    """Sends what is read of a cluster on a link, until the server closes it."""
+    listings = first_listings(source.cluster, source.namespaces, lines.observer)
+    kinds = {kind: KindFeed(source.cluster, kind, source.namespaces, lines) for kind in listings}
     threading.Thread(target=link.read_answers, daemon=True).start()
-    lines.put_by(lambda: ClusterFeed(kinds, address, skipped).run(listings))
+    lines.put_by(lambda: ClusterFeed(kinds, link.link.address, source.skipped).run(listings))
     try:
         send_until_closed(link, lines)
         raise link.closed_fault()

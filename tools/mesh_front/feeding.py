@@ -1,13 +1,14 @@
 """`tools/feed`: lines that are sent to a server on a feed link, and its answers."""
 
+import logging
 import queue
-import sys
 import threading
 from dataclasses import dataclass
 from typing import Callable, Iterator
 
 from mesh_front.faults import Fault, Status
 from mesh_front.links import FEED, Link, ServerAddress
+from mesh_front.observing import Observer
 from mesh_front.refusals import told
 
 MEANINGS = {
@@ -21,6 +22,7 @@ MEANINGS = {
     Status.NO_LINKERD: "the cluster has none of Linkerd's kinds",
 }
 WAITING = 256  # lines that are read and not yet sent
+LOG = logging.getLogger("feed")
 
 
 class Outcome:
@@ -46,10 +48,9 @@ class Line:
     outcome: Outcome | None = None
 
 
-def say(sentence: str) -> None:
-    """Says something on standard error, in one write, since threads say something at the same time."""
-    sys.stderr.write(f"feed: {sentence}\n")
-    sys.stderr.flush()
+def say(sentence: str, level: int = logging.INFO) -> None:
+    """Says something, in the form that the tool has set for its log."""
+    LOG.log(level, "%s", sentence)
 
 
 def counted(count: int, word: str) -> str:
@@ -60,8 +61,8 @@ def counted(count: int, word: str) -> str:
 class FeedLink:
     """A feed link: what was sent and is not answered yet, and the answers."""
 
-    def __init__(self, address: ServerAddress):
-        self.link = Link(address, FEED)
+    def __init__(self, address: ServerAddress, observer: Observer = Observer()):
+        self.link, self.observer = Link(address, FEED), observer
         self.sent, self.refused, self.stops = 0, 0, 0
         self.unanswered: dict[int, Line] = {}
         self.closed = threading.Event()
@@ -99,13 +100,19 @@ class FeedLink:
         if word == "refused" and line is not None:
             self.refused += 1
             self.stops -= line.stops
-            say(f"{line.title} is refused: {told(rest, line.data)}")
+            say(f"{line.title} is refused: {told(rest, line.data)}", logging.WARNING)
         elif word == "verdict" and line is not None:
             print(f"verdict {line.number} {rest}", flush=True)
         elif word != "ok" or line is None:
-            say(f"the server sent what answers no line: {answer[:80]}")
-        if line is not None and line.outcome is not None:
-            line.outcome.know(rest if word == "refused" else "")
+            say(f"the server sent what answers no line: {answer[:80]}", logging.WARNING)
+        if line is not None:
+            self.know(line, rest if word == "refused" else "")
+
+    def know(self, line: Line, fault: str) -> None:
+        """Takes the outcome of a line."""
+        self.observer.answer(line.data, fault)
+        if line.outcome is not None:
+            line.outcome.know(fault)
 
     def status(self) -> Status:
         """How a recording ended whose lines are all sent, once the server has closed the link."""
@@ -127,9 +134,11 @@ class NotWanted(Exception):
 
 
 class Lines:
-    """The lines to send, in order: threads put them, and one takes them. None says that there are no more, a Fault that the feed ends so."""
+    """The lines to send, in order: threads put them, and one takes them. None says that there are no more, a Fault that the feed ends so.
+    The observer is told how far the kinds have come whose lines they are."""
 
-    def __init__(self) -> None:
+    def __init__(self, observer: Observer = Observer()) -> None:
+        self.observer = observer
         self.queue: queue.Queue[Line | Fault | None] = queue.Queue(WAITING)
         self.are_wanted = True
 

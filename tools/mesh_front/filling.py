@@ -7,6 +7,7 @@ from mesh_front.faults import Fault, Status
 from mesh_front.feed import Key, key_of
 from mesh_front.feeding import Line, Lines, Outcome, counted
 from mesh_front.kinds import FILL_ORDER, KINDS, PROTECTING_KINDS, Kind
+from mesh_front.observing import Stage
 from mesh_front.record import line_of
 from mesh_front.refusals import listed_object, listed_objects
 
@@ -71,6 +72,12 @@ class Holding:
 
     def replace(self, listing: ListLine, skipped: frozenset[Key] = frozenset()) -> list[Unreadable]:
         """Brings the server to a list, and answers which of its objects are refused. They keep the version that the server holds."""
+        refused = self.replace_by_lists(listing, skipped)
+        self.lines.observer.tell(self.kind, Stage.FILLED)
+        return refused
+
+    def replace_by_lists(self, listing: ListLine, skipped: frozenset[Key]) -> list[Unreadable]:
+        """Sends a list, then the list without what is to be skipped, and then events, until one is accepted."""
         candidates = [listing, listing.without(skipped)] if self.sends_lists else []
         for it in filter(None, candidates):
             if not self.lines.ask(it.title, it.data(), it.number):

@@ -65,6 +65,13 @@ class Link:
         except OSError:
             pass  # The server has closed the link, which the next read tells.
 
+    def cut(self) -> None:
+        """Ends the link in both directions, so that a thread that receives from it ends too."""
+        try:
+            self.socket.shutdown(socket.SHUT_RDWR)
+        except OSError:
+            pass  # The server has closed the link already.
+
     def receive(self) -> bytes:
         """The next bytes, none where the server has closed the link; a TimeoutError where `limit` has passed."""
         try:
