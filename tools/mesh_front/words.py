@@ -91,10 +91,21 @@ def common(wants_feed: bool) -> argparse.ArgumentParser:
         options.add_argument("--feed", **path, default=STANDARD_INPUT, help="the feed (default: standard input)")
         options.add_argument("--program", **path, default=ROOT / "linkerd_cli", help="the program (default: ./linkerd_cli)")
         options.add_argument("-o", "--output", choices=["table", "json"], default="table", help="the form of the answer (default: table)")
-        settings = options.add_argument_group("configuration of the recorded control plane, as docs/COMMANDS.md has it")
-        for name, value in CONFIGURATION.items():
-            settings.add_argument(f"--{name}", metavar=value)
+        add_configuration(options)
     return options
+
+
+def add_configuration(options: argparse.ArgumentParser) -> None:
+    """Adds the options of the configuration."""
+    settings = options.add_argument_group("configuration of the recorded control plane, as docs/COMMANDS.md has it")
+    for name, value in CONFIGURATION.items():
+        settings.add_argument(f"--{name}", metavar=value)
+
+
+def configuration_options(words: argparse.Namespace) -> list[str]:
+    """The configuration as options of the program."""
+    values = {name: getattr(words, name.replace("-", "_")) for name in CONFIGURATION}
+    return [f"--{name}={value}" for name, value in values.items() if value is not None]
 
 
 def add_command(commands: Any, name: str, about: str, run: Callable, wants_feed: bool = True) -> argparse.ArgumentParser:
@@ -172,9 +183,8 @@ def parser() -> Parser:
 def session(words: argparse.Namespace, feed: pathlib.Path | None = None) -> Session:
     """The feed, which is another one where it is given, and the program that the words name."""
     require_protoc()
-    values = {name: getattr(words, name.replace("-", "_")) for name in CONFIGURATION}
-    options = [f"--{name}={value}" for name, value in values.items() if value is not None]
-    return Session(Feed(read_bytes(feed or words.feed)), Program(words.program, options), words.cluster_domain or DOMAIN)
+    program = Program(words.program, configuration_options(words))
+    return Session(Feed(read_bytes(feed or words.feed)), program, words.cluster_domain or DOMAIN)
 
 
 def answer_over_feed(words: argparse.Namespace, run: Callable[[Session], Status]) -> Status:

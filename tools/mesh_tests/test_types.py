@@ -9,7 +9,7 @@ import unittest
 from mesh_front.messages import ROOT
 
 TOOLS = ROOT / "tools"
-SCRIPTS = ["mesh", "feed", "subscribe", "decode", "test", "check-docs", "packages", "prove", "crates"]
+SCRIPTS = ["mesh", "feed", "subscribe", "decode", "test", "check-docs", "packages", "prove", "crates", "controller"]
 MYPY = ["mypy", "--python-version=3.10", "--check-untyped-defs", "--disallow-untyped-defs", "--no-error-summary"]
 
 

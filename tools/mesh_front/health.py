@@ -1,0 +1,137 @@
+"""What is known of a server that is fed: how far each kind has come, what the server answered, and why it is not ready."""
+
+import threading
+import time
+from dataclasses import dataclass, field
+
+from mesh_front.feed import Key, json_of, key_of, kind_of_line, object_of_line
+from mesh_front.kinds import FILL_ORDER, Kind
+from mesh_front.observing import Observer, Stage
+from mesh_front.refusals import listed_objects
+
+ACCEPTED, REFUSED = "accepted", "refused"
+
+
+@dataclass
+class KindHealth:
+    """What is known of a kind. The stages are those of the present feed; what is held, that of the present server."""
+
+    stages: set[Stage] = field(default_factory=set)
+    ended: float = 0
+    last_line: float | None = None
+    lines: dict[str, int] = field(default_factory=lambda: {ACCEPTED: 0, REFUSED: 0})
+    held: set[Key] = field(default_factory=set)
+    watch_ends: int = 0
+
+    def take(self, stage: Stage) -> None:
+        """Takes that the kind has come so far."""
+        if stage is Stage.ENDED:
+            self.stages.discard(Stage.WATCHED)
+            self.ended = time.monotonic()
+            self.watch_ends += 1
+        self.stages.add(stage)
+
+    def accept(self, value: dict) -> None:
+        """Takes an accepted line of the kind, with what the server holds after it."""
+        self.last_line = time.monotonic()
+        if value.get("type") is None:
+            self.held = {key for it in listed_objects(value) if (key := key_of(it))}
+        elif (key := object_of_line(value)) is None:
+            return
+        elif value["type"] == "DELETED":
+            self.held.discard(key)
+        else:
+            self.held.add(key)
+
+    def age(self) -> float | None:
+        """The seconds since the last accepted line, None where there is none."""
+        return None if self.last_line is None else time.monotonic() - self.last_line
+
+    def state(self, fresh_seconds: float) -> tuple[bool, str]:
+        """Whether the kind is ready, and how far it has come."""
+        if Stage.ABSENT in self.stages:
+            return True, "not in the cluster"
+        if Stage.LISTED not in self.stages:
+            return False, "not listed yet"
+        if Stage.FILLED not in self.stages:
+            return False, "listed, not accepted yet"
+        if Stage.WATCHED in self.stages:
+            return True, "watched"
+        if Stage.ENDED not in self.stages:
+            return False, "accepted, not watched yet"
+        seconds = time.monotonic() - self.ended
+        return seconds <= fresh_seconds, f"not watched for {seconds:.0f} s"
+
+
+@dataclass(frozen=True)
+class Check:
+    """A condition of being ready: what it is about, whether it holds, and what there is to say."""
+
+    title: str
+    holds: bool
+    about: str
+
+
+class Health(Observer):
+    """What is known of a server and of its feed. Threads tell it, and others ask."""
+
+    def __init__(self, program: str, fresh_seconds: float):
+        self.program, self.fresh_seconds = program, fresh_seconds
+        self.lock = threading.Lock()
+        self.kinds = {kind: KindHealth() for kind in FILL_ORDER}
+        self.is_up, self.starts, self.feeds = False, 0, 0
+
+    def tell(self, kind: Kind, stage: Stage) -> None:
+        """Takes that a kind has come so far."""
+        with self.lock:
+            self.kinds[kind].take(stage)
+
+    def answer(self, data: bytes, fault: str) -> None:
+        """Takes the answer to a line."""
+        value = json_of(data)
+        kind = kind_of_line(value)
+        if kind is None:
+            return
+        with self.lock:
+            health = self.kinds[kind]
+            health.lines[REFUSED if fault else ACCEPTED] += 1
+            if not fault:
+                health.accept(value)
+
+    def begin_server(self) -> None:
+        """A server is started, which holds nothing."""
+        with self.lock:
+            self.starts += 1
+            for health in self.kinds.values():
+                health.held = set()
+
+    def set_up(self, is_up: bool) -> None:
+        """The server listens, or does so no longer."""
+        with self.lock:
+            self.is_up = is_up
+
+    def begin_feed(self) -> None:
+        """A feed begins, which has sent nothing."""
+        with self.lock:
+            self.feeds += 1
+            self.forget_stages()
+
+    def end_feed(self) -> None:
+        """The feed has ended: what the server holds is followed by nobody."""
+        with self.lock:
+            self.forget_stages()
+
+    def forget_stages(self) -> None:
+        """No kind is listed."""
+        for health in self.kinds.values():
+            health.stages = set()
+
+    def checks(self) -> list[Check]:
+        """The conditions of being ready."""
+        with self.lock:
+            server = Check("server", self.is_up, "listens" if self.is_up else "does not listen")
+            return [server, *(Check(kind.title, *it.state(self.fresh_seconds)) for kind, it in self.kinds.items())]
+
+    def is_ready(self) -> bool:
+        """Whether each condition holds."""
+        return all(it.holds for it in self.checks())
