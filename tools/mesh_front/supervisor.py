@@ -4,7 +4,7 @@ import logging
 import subprocess
 import threading
 import time
-from typing import IO
+from typing import IO, Any
 
 from mesh_front.faults import Fault, Status
 from mesh_front.health import Health
@@ -55,7 +55,7 @@ class Supervisor:
             with self.lock:
                 if self.is_stopping.is_set():
                     return 0
-                pipes = {"stdin": subprocess.DEVNULL, "stdout": subprocess.DEVNULL, "stderr": subprocess.PIPE}
+                pipes: dict[str, Any] = {"stdin": subprocess.DEVNULL, "stdout": subprocess.DEVNULL, "stderr": subprocess.PIPE}
                 # In a session of its own, so that Ctrl-C ends the controller, which then ends the server.
                 self.process = process = subprocess.Popen(self.command, **pipes, start_new_session=True)
         except OSError as error:

@@ -1,0 +1,207 @@
+"""What is known of a server, as conditions, metrics and a page; the log, the notices and the pauses of a controller."""
+
+import json
+import logging
+import os
+import socket
+import subprocess
+import sys
+import unittest
+from unittest import mock
+
+from mesh_front.health import Health
+from mesh_front.health_pages import Metric, answer_of, metrics_text
+from mesh_front.kinds import FILL_ORDER, POD, SERVER, SERVICE
+from mesh_front.notices import LogFormat, notify
+from mesh_front.observing import Stage
+from mesh_front.waiting import Backoff
+from mesh_tests.support import Case, lines_of, list_page, pod
+from mesh_tests.test_feed import event, objects_page
+from mesh_tests.text_format import samples_of
+
+PARSER = "prometheus_client.parser"
+# Reads metrics by Prometheus' own client, and writes the samples.
+READ = f"""import json, sys
+from {PARSER} import text_string_to_metric_families
+samples = [it for family in text_string_to_metric_families(sys.stdin.read()) for it in family.samples]
+print(json.dumps([[it.name, sorted(it.labels.items()), it.value] for it in samples]))"""
+
+
+def python_with_client() -> str | None:
+    """A Python that has Prometheus' client: this one, or the system's."""
+    for python in (sys.executable, "/usr/bin/python3"):
+        if os.access(python, os.X_OK) and subprocess.run([python, "-c", f"import {PARSER}"], capture_output=True).returncode == 0:
+            return python
+    return None
+
+
+def ready_health(fresh_seconds: float = 300) -> Health:
+    """A server that listens, with all kinds listed, accepted and watched."""
+    health = Health("proved", fresh_seconds)
+    health.begin_server()
+    health.set_up(True)
+    health.begin_feed()
+    for kind in FILL_ORDER:
+        for stage in (Stage.LISTED, Stage.FILLED, Stage.WATCHED):
+            health.tell(kind, stage)
+    return health
+
+
+def line(value: dict) -> bytes:
+    """The line of a value."""
+    return lines_of(value)[:-1]
+
+
+class Ready(Case):
+    """When a server is ready."""
+
+    def test_each_kind_is_needed(self):
+        """Listed, accepted and watched, or not in the cluster."""
+        for kind in FILL_ORDER:
+            health = Health("proved", 300)
+            health.set_up(True)
+            for other in FILL_ORDER:
+                stages = (Stage.LISTED, Stage.FILLED, Stage.WATCHED) if other is not kind else ()
+                for stage in stages:
+                    health.tell(other, stage)
+            abouts = []
+            for stage in (Stage.LISTED, Stage.FILLED, Stage.WATCHED):
+                abouts += [(it.title, it.about) for it in health.checks() if not it.holds]
+                health.tell(kind, stage)
+            expected = [(kind.title, it) for it in ("not listed yet", "listed, not accepted yet", "accepted, not watched yet")]
+            self.assertEqual((expected, True), (abouts, health.is_ready()))
+            health.begin_feed()
+            self.assertFalse(health.is_ready())
+            for other in FILL_ORDER:
+                health.tell(other, Stage.ABSENT)
+            self.assertTrue(health.is_ready())
+            health.set_up(False)
+            self.assertFalse(health.is_ready())
+
+    def test_a_watch_that_ended(self):
+        """The kind is fresh for some time; then it is not, until it is watched again."""
+        health, stale = ready_health(), ready_health(0)
+        for it in (health, stale):
+            it.tell(POD, Stage.ENDED)
+        self.assertTrue(health.is_ready())
+        with mock.patch("mesh_front.health.time.monotonic", return_value=health.kinds[POD].ended + 301):
+            self.assertFalse(health.is_ready())
+            self.assertEqual((503, True), (answer_of(health, "/readyz")[0], "[-]Pod: not watched for 301 s\n" in answer_of(health, "/readyz")[2]))
+        with mock.patch("mesh_front.health.time.monotonic", return_value=stale.kinds[POD].ended + 1):
+            self.assertFalse(stale.is_ready())
+            stale.tell(POD, Stage.WATCHED)
+            self.assertTrue(stale.is_ready())
+
+
+class Counts(Case):
+    """What the answers of a server tell."""
+
+    def held(self, health: Health) -> tuple:
+        """The objects and the lines of Pods."""
+        it = health.kinds[POD]
+        return len(it.held), it.lines["accepted"], it.lines["refused"]
+
+    def test_objects(self):
+        """A list replaces, events add and remove, and what is refused changes nothing. A new server holds nothing."""
+        health = ready_health()
+        a, b = pod("a", "web", "10.1.2.3"), pod("b", "web", "10.1.2.4")
+        steps = [
+            (objects_page("Pod", a, b), "", (2, 1, 0)),
+            (event("MODIFIED", a), "", (2, 2, 0)),
+            (event("DELETED", a), "", (1, 3, 0)),
+            (event("DELETED", b), "NoForm", (1, 3, 1)),
+            (objects_page("Pod", a), "TooLong", (1, 3, 2)),
+            (list_page("Pod"), "", (0, 4, 2)),
+            (event("ADDED", b), "", (1, 5, 2)),
+            (event("BOOKMARK", {"kind": "Pod", "apiVersion": "v1"}), "", (1, 5, 2)),
+            ({"control": "stop"}, "NotHere", (1, 5, 2)),
+        ]
+        for value, fault, expected in steps:
+            health.answer(line(value), fault)
+            self.assertEqual(expected, self.held(health), value)
+        health.begin_server()
+        self.assertEqual((0, 5, 2), self.held(health))
+
+
+class Metrics(Case):
+    """The text format of Prometheus."""
+
+    def text(self) -> str:
+        """Metrics with some counts."""
+        health = ready_health()
+        health.answer(line(list_page("Service", "web", "db")), "")
+        health.answer(line(event("ADDED", {"kind": "Server", "apiVersion": "policy.linkerd.io/v1beta3"})), "Missing object.metadata.name")
+        health.kinds[SERVICE].lines["accepted"] = 1_234_567_891
+        health.tell(SERVER, Stage.ENDED)
+        return metrics_text(health)
+
+    def test_samples(self):
+        """Each is there once, with whole counts."""
+        samples = samples_of(self.text())
+        self.assertEqual(1_234_567_891, samples["linkerd_cli_lines_total", ("kind", "Service"), ("outcome", "accepted")])
+        self.assertEqual(1, samples["linkerd_cli_lines_total", ("kind", "Server"), ("outcome", "refused")])
+        self.assertEqual((2, 1), (samples["linkerd_cli_objects", ("kind", "Service")], samples["linkerd_cli_watch_ends_total", ("kind", "Server")]))
+        self.assertEqual(1, samples["linkerd_cli_info", ("program", "proved")])
+        self.assertEqual(1, sum(name == "linkerd_cli_last_line_age_seconds" for name, *_ in samples))
+
+    def test_labels(self):
+        """Quotes, backslashes and line feeds are escaped."""
+        metric = Metric("x", "gauge", "About.")
+        metric.add(0.25, a='a"b\\c\nd')
+        self.assertEqual({("linkerd_cli_x", ("a", 'a"b\\c\nd')): 0.25}, samples_of("\n".join(metric.lines())))
+
+    @unittest.skipUnless(python_with_client(), "Prometheus' client for Python is not installed")
+    def test_the_client_of_prometheus(self):
+        """Its parser finds the same samples."""
+        text = self.text()
+        run = subprocess.run([python_with_client(), "-c", READ], input=text, capture_output=True, text=True, check=True)
+        found = {(name, *map(tuple, labels)): value for name, labels, value in json.loads(run.stdout)}
+        self.assertEqual({(name, *sorted(labels)): value for (name, *labels), value in samples_of(text).items()}, found)
+
+
+class Pages(Case):
+    """The page that people read."""
+
+    def test_what_it_shows(self):
+        """The state and the counts of each kind."""
+        health = ready_health()
+        health.answer(line(list_page("Service", "web", "db")), "")
+        status, form, text = answer_of(health, "/")
+        self.assertEqual((200, "text/html; charset=utf-8"), (status, form))
+        self.assertIn("<h1>ready</h1>", text)
+        self.assertIn("<tr><td>Service<td>yes<td>watched<td class=n>2<td class=n>1<td class=n>0<td class=n>0 s ago", text)
+        self.assertIn("<tr><td>Pod<td>yes<td>watched<td class=n>0<td class=n>0<td class=n>0<td class=n>\n", text)
+
+
+class Says(Case):
+    """The log and the notices."""
+
+    def test_the_log(self):
+        """One line for each record, in both forms."""
+        record = logging.LogRecord("feed", logging.WARNING, "", 0, "%s", ('a "b"\nc',), None)
+        record.created = 1_700_000_000.25
+        time = "2023-11-14T22:13:20.250Z"
+        self.assertEqual(f'{time} WARNING part=feed "a \\"b\\"\\nc"', LogFormat(False).format(record))
+        value = {"time": time, "level": "warning", "part": "feed", "message": 'a "b"\nc'}
+        self.assertEqual(value, json.loads(LogFormat(True).format(record)))
+
+    def test_notices(self):
+        """They are datagrams at a path or an abstract name; without NOTIFY_SOCKET there are none."""
+        for name, address in ((str(self.room / "notify"), str(self.room / "notify")), ("@holzhybat-test-%d" % os.getpid(), "\0holzhybat-test-%d" % os.getpid())):
+            with socket.socket(socket.AF_UNIX, socket.SOCK_DGRAM) as link, mock.patch.dict(os.environ, {"NOTIFY_SOCKET": name}):
+                link.settimeout(60)
+                link.bind(address)
+                notify("READY=1", "STATUS=ready")
+                self.assertEqual(b"READY=1\nSTATUS=ready", link.recv(4096))
+        with mock.patch.dict(os.environ):
+            os.environ.pop("NOTIFY_SOCKET", None)
+            notify("READY=1")
+
+    def test_pauses(self):
+        """They grow up to half a minute, and begin again after what lasted."""
+        backoff = Backoff()
+        self.assertEqual([0, 1, 2, 5, 10, 30, 30], [backoff.seconds() for _ in range(7)])
+        backoff.take(9)
+        self.assertEqual(30, backoff.seconds())
+        backoff.take(10)
+        self.assertEqual(0, backoff.seconds())
