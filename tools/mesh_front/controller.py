@@ -80,9 +80,9 @@ def feed_until_ended(settings: Settings, supervisor: Supervisor, health: Health)
     while True:
         wait_for_server(supervisor)
         began = time.monotonic()
-        health.begin_feed()
+        observer = health.begin_feed()
         try:
-            send_cluster(settings.address, settings.source, health)
+            send_cluster(settings.address, settings.source, observer)
         except Fault as fault:
             if fault.status in FOR_GOOD:
                 raise

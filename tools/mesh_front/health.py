@@ -72,7 +72,7 @@ class Check:
     about: str
 
 
-class Health(Observer):
+class Health:
     """What is known of a server and of its feed. Threads tell it, and others ask."""
 
     def __init__(self, program: str, fresh_seconds: float):
@@ -80,51 +80,36 @@ class Health(Observer):
         self.lock = threading.Lock()
         self.kinds = {kind: KindHealth() for kind in FILL_ORDER}
         self.is_up, self.starts, self.feeds = False, 0, 0
-
-    def tell(self, kind: Kind, stage: Stage) -> None:
-        """Takes that a kind has come so far."""
-        with self.lock:
-            self.kinds[kind].take(stage)
-
-    def answer(self, data: bytes, fault: str) -> None:
-        """Takes the answer to a line."""
-        value = json_of(data)
-        kind = kind_of_line(value)
-        if kind is None:
-            return
-        with self.lock:
-            health = self.kinds[kind]
-            health.lines[REFUSED if fault else ACCEPTED] += 1
-            if not fault:
-                health.accept(value)
+        self.feed: FeedHealth | None = None
 
     def begin_server(self) -> None:
-        """A server is started, which holds nothing."""
+        """A server is started, which holds nothing. What the feed of an earlier one still tells counts no longer."""
         with self.lock:
             self.starts += 1
+            self.feed = None
             for health in self.kinds.values():
-                health.held = set()
+                health.stages, health.held = set(), set()
 
     def set_up(self, is_up: bool) -> None:
         """The server listens, or does so no longer."""
         with self.lock:
             self.is_up = is_up
 
-    def begin_feed(self) -> None:
-        """A feed begins, which has sent nothing."""
+    def begin_feed(self) -> "FeedHealth":
+        """A feed begins, which has sent nothing, and what is told of it. It connects after this."""
         with self.lock:
             self.feeds += 1
-            self.forget_stages()
+            self.feed = FeedHealth(self)
+            for health in self.kinds.values():
+                health.stages = set()
+            return self.feed
 
     def end_feed(self) -> None:
         """The feed has ended: what the server holds is followed by nobody."""
         with self.lock:
-            self.forget_stages()
-
-    def forget_stages(self) -> None:
-        """No kind is listed."""
-        for health in self.kinds.values():
-            health.stages = set()
+            self.feed = None
+            for health in self.kinds.values():
+                health.stages = set()
 
     def checks(self) -> list[Check]:
         """The conditions of being ready."""
@@ -135,3 +120,28 @@ class Health(Observer):
     def is_ready(self) -> bool:
         """Whether each condition holds."""
         return all(it.holds for it in self.checks())
+
+
+class FeedHealth(Observer):
+    """What is told of one feed. It counts while the server lives to which the feed is connected, and no further feed has begun."""
+
+    def __init__(self, health: Health):
+        self.health = health
+
+    def tell(self, kind: Kind, stage: Stage) -> None:
+        """Takes that a kind has come so far."""
+        with self.health.lock:
+            if self.health.feed is self:
+                self.health.kinds[kind].take(stage)
+
+    def answer(self, data: bytes, fault: str) -> None:
+        """Takes the answer to a line."""
+        value = json_of(data)
+        kind = kind_of_line(value)
+        if kind is None:
+            return
+        with self.health.lock:
+            known = self.health.kinds[kind]
+            known.lines[REFUSED if fault else ACCEPTED] += 1
+            if not fault and self.health.feed is self:
+                known.accept(value)

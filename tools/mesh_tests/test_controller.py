@@ -144,7 +144,18 @@ class Controller(Case):
         self.assertEqual(0, controller.wait(SECONDS), self.log())
         self.assertIn("ended, with the server", self.log().splitlines()[-1])
         self.assertFalse(pathlib.Path(f"/proc/{process}").exists())
+        self.require_no_kubectl()
         self.assertIn("STOPPING=1", self.notice())
+
+    def require_no_kubectl(self) -> None:
+        """No kubectl of this test stays."""
+        end, left = time.monotonic() + SECONDS, ["?"]
+        while left and time.monotonic() < end:
+            left = []
+            for path in pathlib.Path("/proc").glob("[0-9]*/cmdline"):
+                with contextlib.suppress(OSError):
+                    left += [path] if f"{self.room}/kubectl".encode() in path.read_bytes() else []
+        self.assertEqual([], left)
 
     def test_a_server_that_is_killed(self):
         """It is started again and filled again, and is not ready in between. What is counted is what it holds."""
@@ -227,19 +238,24 @@ class Controller(Case):
 class Words(Case):
     """What a controller cannot run with."""
 
+    def require_last(self, status: int, sentence: str, *words) -> str:
+        """How the controller ends, and the last line of its log; answers the whole log."""
+        run = self.run_tool("controller", "--log", "json", "--bind", free_address(), "--program", program(), *words)
+        last = json.loads(run.error_output.splitlines()[-1])
+        self.assertEqual((status, "error", "controller", sentence), (run.status, last["level"], last["part"], last["message"]))
+        return run.error_output
+
     def test_one_sentence_each(self):
         """An address that is taken, a word that is wrong, a program that is none, a kubectl that is not there."""
         with socket.create_server(("127.0.0.1", 0)) as listener:
             taken = f"127.0.0.1:{listener.getsockname()[1]}"
-            run = self.run_tool("controller", "--health", taken, "--bind", free_address(), "--program", program())
-            self.assertEqual((2, f"controller: cannot listen on {taken} for health and metrics: Address already in use"), (run.status, run.error_output.splitlines()[-1]))
+            self.require_last(2, f"cannot listen on {taken} for health and metrics: Address already in use", "--health", taken)
         run = self.run_tool("controller", "--bind", "localhost")
         self.require(run, 2, "", "controller: argument --bind: 'localhost' is not HOST:PORT; controller --help tells more\n")
-        addresses = ("--bind", free_address(), "--health", free_address())
-        run = self.run_tool("controller", *addresses, "--program", self.room / "none")
-        self.assertEqual((6, "controller: the server cannot be run: it ended with status 70"), (run.status, run.error_output.splitlines()[-1]))
-        run = self.run_tool("controller", *addresses, "--program", program(), "--default-policy", "open")
-        self.assertEqual((6, "controller: the server cannot be run: it ended with status 2"), (run.status, run.error_output.splitlines()[-1]))
+        health = ("--health", free_address())
+        log = self.require_last(6, "the server cannot be run: it ended with status 70", *health, "--program", self.room / "none")
+        self.assertIn(f"cannot run {self.room}/none: No such file or directory", log)
+        log = self.require_last(6, "the server cannot be run: it ended with status 2", *health, "--default-policy", "open")
+        self.assertIn("--default-policy", log)
         self.put_kubectl({})
-        run = self.run_tool("controller", *addresses, "--program", program())
-        self.assertEqual((5, "controller: cannot run kubectl: No such file or directory"), (run.status, run.error_output.splitlines()[-1]))
+        self.require_last(5, "cannot run kubectl: No such file or directory", *health)

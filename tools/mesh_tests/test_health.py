@@ -9,7 +9,7 @@ import sys
 import unittest
 from unittest import mock
 
-from mesh_front.health import Health
+from mesh_front.health import FeedHealth, Health
 from mesh_front.health_pages import Metric, answer_of, metrics_text
 from mesh_front.kinds import FILL_ORDER, POD, SERVER, SERVICE
 from mesh_front.notices import LogFormat, notify
@@ -35,16 +35,19 @@ def python_with_client() -> str | None:
     return None
 
 
-def ready_health(fresh_seconds: float = 300) -> Health:
-    """A server that listens, with all kinds listed, accepted and watched."""
+STAGES = (Stage.LISTED, Stage.FILLED, Stage.WATCHED)
+
+
+def ready_health(fresh_seconds: float = 300) -> tuple[Health, FeedHealth]:
+    """A server that listens and its feed, with all kinds listed, accepted and watched."""
     health = Health("proved", fresh_seconds)
     health.begin_server()
     health.set_up(True)
-    health.begin_feed()
+    feed = health.begin_feed()
     for kind in FILL_ORDER:
-        for stage in (Stage.LISTED, Stage.FILLED, Stage.WATCHED):
-            health.tell(kind, stage)
-    return health
+        for stage in STAGES:
+            feed.tell(kind, stage)
+    return health, feed
 
 
 def line(value: dict) -> bytes:
@@ -60,28 +63,46 @@ class Ready(Case):
         for kind in FILL_ORDER:
             health = Health("proved", 300)
             health.set_up(True)
+            feed = health.begin_feed()
             for other in FILL_ORDER:
-                stages = (Stage.LISTED, Stage.FILLED, Stage.WATCHED) if other is not kind else ()
-                for stage in stages:
-                    health.tell(other, stage)
+                for stage in STAGES if other is not kind else ():
+                    feed.tell(other, stage)
             abouts = []
-            for stage in (Stage.LISTED, Stage.FILLED, Stage.WATCHED):
+            for stage in STAGES:
                 abouts += [(it.title, it.about) for it in health.checks() if not it.holds]
-                health.tell(kind, stage)
+                feed.tell(kind, stage)
             expected = [(kind.title, it) for it in ("not listed yet", "listed, not accepted yet", "accepted, not watched yet")]
             self.assertEqual((expected, True), (abouts, health.is_ready()))
-            health.begin_feed()
+            feed = health.begin_feed()
             self.assertFalse(health.is_ready())
             for other in FILL_ORDER:
-                health.tell(other, Stage.ABSENT)
+                feed.tell(other, Stage.ABSENT)
             self.assertTrue(health.is_ready())
             health.set_up(False)
             self.assertFalse(health.is_ready())
 
+    def test_a_server_that_is_started_again(self):
+        """It is not ready, whatever the feed of the one before still tells, until a feed of its own has filled it."""
+        health, old = ready_health()
+        health.set_up(False)
+        health.begin_server()
+        health.set_up(True)
+        self.assertFalse(health.is_ready())
+        for kind in FILL_ORDER:
+            for stage in STAGES:
+                old.tell(kind, stage)
+        old.answer(line(list_page("Service", "web")), "")
+        self.assertEqual((False, 0, 1), (health.is_ready(), len(health.kinds[SERVICE].held), health.kinds[SERVICE].lines["accepted"]))
+        feed = health.begin_feed()
+        for kind in FILL_ORDER:
+            for stage in STAGES:
+                feed.tell(kind, stage)
+        self.assertTrue(health.is_ready())
+
     def test_a_watch_that_ended(self):
         """The kind is fresh for some time; then it is not, until it is watched again."""
-        health, stale = ready_health(), ready_health(0)
-        for it in (health, stale):
+        (health, feed), (stale, stale_feed) = ready_health(), ready_health(0)
+        for it in (feed, stale_feed):
             it.tell(POD, Stage.ENDED)
         self.assertTrue(health.is_ready())
         with mock.patch("mesh_front.health.time.monotonic", return_value=health.kinds[POD].ended + 301):
@@ -89,7 +110,7 @@ class Ready(Case):
             self.assertEqual((503, True), (answer_of(health, "/readyz")[0], "[-]Pod: not watched for 301 s\n" in answer_of(health, "/readyz")[2]))
         with mock.patch("mesh_front.health.time.monotonic", return_value=stale.kinds[POD].ended + 1):
             self.assertFalse(stale.is_ready())
-            stale.tell(POD, Stage.WATCHED)
+            stale_feed.tell(POD, Stage.WATCHED)
             self.assertTrue(stale.is_ready())
 
 
@@ -103,7 +124,7 @@ class Counts(Case):
 
     def test_objects(self):
         """A list replaces, events add and remove, and what is refused changes nothing. A new server holds nothing."""
-        health = ready_health()
+        health, feed = ready_health()
         a, b = pod("a", "web", "10.1.2.3"), pod("b", "web", "10.1.2.4")
         steps = [
             (objects_page("Pod", a, b), "", (2, 1, 0)),
@@ -117,7 +138,7 @@ class Counts(Case):
             ({"control": "stop"}, "NotHere", (1, 5, 2)),
         ]
         for value, fault, expected in steps:
-            health.answer(line(value), fault)
+            feed.answer(line(value), fault)
             self.assertEqual(expected, self.held(health), value)
         health.begin_server()
         self.assertEqual((0, 5, 2), self.held(health))
@@ -128,11 +149,11 @@ class Metrics(Case):
 
     def text(self) -> str:
         """Metrics with some counts."""
-        health = ready_health()
-        health.answer(line(list_page("Service", "web", "db")), "")
-        health.answer(line(event("ADDED", {"kind": "Server", "apiVersion": "policy.linkerd.io/v1beta3"})), "Missing object.metadata.name")
+        health, feed = ready_health()
+        feed.answer(line(list_page("Service", "web", "db")), "")
+        feed.answer(line(event("ADDED", {"kind": "Server", "apiVersion": "policy.linkerd.io/v1beta3"})), "Missing object.metadata.name")
         health.kinds[SERVICE].lines["accepted"] = 1_234_567_891
-        health.tell(SERVER, Stage.ENDED)
+        feed.tell(SERVER, Stage.ENDED)
         return metrics_text(health)
 
     def test_samples(self):
@@ -164,8 +185,8 @@ class Pages(Case):
 
     def test_what_it_shows(self):
         """The state and the counts of each kind."""
-        health = ready_health()
-        health.answer(line(list_page("Service", "web", "db")), "")
+        health, feed = ready_health()
+        feed.answer(line(list_page("Service", "web", "db")), "")
         status, form, text = answer_of(health, "/")
         self.assertEqual((200, "text/html; charset=utf-8"), (status, form))
         self.assertIn("<h1>ready</h1>", text)
