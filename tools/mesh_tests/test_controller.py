@@ -160,13 +160,14 @@ class Controller(Case):
     def test_a_server_that_is_killed(self):
         """It is started again and filled again, and is not ready in between. What is counted is what it holds."""
         controller = self.start(cluster())
-        checks = self.until("/readyz", 200).splitlines()
-        self.assertEqual("ready", checks[-1])
-        self.assertEqual({"[+]Pod: watched", "[+]Service: watched", "[+]Server: watched", "[+]server: listens"}, {it for it in checks if "not in" not in it} - {"ready"})
+        *checks, last = self.until("/readyz", 200).splitlines()
+        self.assertEqual("ready", last)
+        present = {it for it in checks if "not in the cluster" not in it}
+        self.assertEqual({"[+]Pod: watched", "[+]Service: watched", "[+]Server: watched", "[+]server: listens"}, present)
         self.assertIn("[+]HTTPRoute.gateway.networking.k8s.io: not in the cluster", checks)
         self.require_view()
         metrics = self.metrics()
-        self.assertEqual((1, 0, 1, 1), tuple(metrics[it] for it in (("ready",), ("server_restarts_total",), ("server_up",), ("feeds_total",))))
+        self.assertEqual((1, 0, 1, 1), tuple(metrics[it,] for it in ("ready", "server_restarts_total", "server_up", "feeds_total")))
         self.assertEqual((1, 1, 0), tuple(metrics["objects", ("kind", it)] for it in ("Pod", "Server", "Service")))
         self.assertEqual((1, 0), tuple(metrics["lines_total", ("kind", "Pod"), ("outcome", it)] for it in ("accepted", "refused")))
         self.assertIn(("last_line_age_seconds", ("kind", "Pod")), metrics)
@@ -176,7 +177,7 @@ class Controller(Case):
         self.until("/readyz", 200)
         self.require_view()
         metrics = self.metrics()
-        self.assertEqual((1, 1, 2), tuple(metrics[it] for it in (("ready",), ("server_restarts_total",), ("lines_total", ("kind", "Pod"), ("outcome", "accepted")))))
+        self.assertEqual((1, 1, 2), (metrics["ready",], metrics["server_restarts_total",], metrics["lines_total", ("kind", "Pod"), ("outcome", "accepted")]))
         self.assertIn("the server ended by signal 9; starting it again", self.log())
         self.require_end(controller)
 
@@ -209,16 +210,36 @@ class Controller(Case):
         self.assertIn("READY=1", self.notice().splitlines())
         self.require_end(controller)
 
+    def test_a_feed_of_a_namespace_that_begins_again(self):
+        """The server is started again, so that nothing stays of what the first feed brought and the cluster no longer has."""
+        gone = pod("gone", "web", "10.1.2.5", 8080)
+        bad = server("web", "web", 8080, proxyProtocol="http")
+        answers = cluster(**{list_of(SERVERS): [objects_page("Server", it, api=f"{POLICY}/v1beta3") for it in (WEB_SERVER, bad, WEB_SERVER)]})
+        answers[list_of(PODS)] = [objects_page("Pod", WEB, gone), objects_page("Pod", WEB)]
+        inside = {path.replace("/pods", "/namespaces/shop/pods").replace("/services", "/namespaces/shop/services"): it for path, it in answers.items()}
+        controller = self.start({path.replace("/servers", "/namespaces/shop/servers"): it for path, it in inside.items()}, "shop")
+        self.until("/readyz", 200)
+        self.until("/metrics", 200, 'linkerd_cli_objects{kind="Pod"} 2\n')
+        os.kill(self.server_of(controller), signal.SIGKILL)
+        self.until("/metrics", 200, "linkerd_cli_feeds_total 3\n")
+        self.until("/readyz", 200)
+        self.require_view()
+        metrics = self.metrics()
+        self.assertEqual(1, metrics["objects", ("kind", "Pod")])
+        self.assertGreaterEqual(metrics["server_restarts_total",], 2, "one for the kill, and one for the feed whose policy is refused")
+        self.require_end(controller)
+
     def test_watches_that_end(self):
         """By 410, after which the kind is listed again at once; by an API server that restarts, whose lists fail meanwhile. The server is
         not ready then once the kind is no longer fresh, and ready again once it is listed and watched again."""
         gone = event("ERROR", {"kind": "Status", "code": 410, "message": "too old resource version"})
         other = pod("web-2", "web", "10.1.2.4", 8080)
+        fails, services = "Unable to connect to the server", version_of(list_page("Service"), 9)
         changes = {
             list_of(PODS): [objects_page("Pod", WEB), version_of(objects_page("Pod", WEB, other), 9)],
             watch_of(PODS): {"events": [gone], "seconds": 0},
             watch_of(PODS, 9): {"events": [event("DELETED", other), event("ADDED", other)], "seconds": 600},
-            list_of(SERVICES): [list_page("Service"), "Unable to connect to the server", "Unable to connect to the server", version_of(list_page("Service"), 9)],
+            list_of(SERVICES): [list_page("Service"), fails, fails, services],
             watch_of(SERVICES): {"events": [], "seconds": 0, "error": "unexpected EOF"},
             watch_of(SERVICES, 9): QUIET,
         }

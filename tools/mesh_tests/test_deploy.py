@@ -100,8 +100,10 @@ class Manifests(Case):
 
     def test_the_account_may_read_the_kinds(self):
         """List and watch of each kind that is read, and nothing else."""
-        allowed = [(group, plural, tuple(rule["verbs"])) for rule in self.objects["ClusterRole"]["rules"] for group in rule["apiGroups"] for plural in rule["resources"]]
-        self.assertEqual(sorted((it.group, it.plural, ("list", "watch")) for it in KINDS), sorted(allowed))
+        allowed = []
+        for rule in self.objects["ClusterRole"]["rules"]:
+            allowed += [(group, plural, rule["verbs"]) for group in rule["apiGroups"] for plural in rule["resources"]]
+        self.assertEqual(sorted((it.group, it.plural, ["list", "watch"]) for it in KINDS), sorted(allowed))
 
     def test_two_replicas_that_are_asked_whether_they_are_ready(self):
         """One may be disrupted at a time, and the probes are the pages of the controller."""

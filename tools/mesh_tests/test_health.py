@@ -208,7 +208,8 @@ class Says(Case):
 
     def test_notices(self):
         """They are datagrams at a path or an abstract name; without NOTIFY_SOCKET there are none."""
-        for name, address in ((str(self.room / "notify"), str(self.room / "notify")), ("@holzhybat-test-%d" % os.getpid(), "\0holzhybat-test-%d" % os.getpid())):
+        path, abstract = str(self.room / "notify"), f"holzhybat-test-{os.getpid()}"
+        for name, address in ((path, path), (f"@{abstract}", f"\0{abstract}")):
             with socket.socket(socket.AF_UNIX, socket.SOCK_DGRAM) as link, mock.patch.dict(os.environ, {"NOTIFY_SOCKET": name}):
                 link.settimeout(60)
                 link.bind(address)
