@@ -25,8 +25,8 @@ class Status(enum.IntEnum):
 
 
 MEANINGS = {
-    Status.DONE: "the question is answered; ask: the request is allowed; diff: nothing changes; check: no problem",
-    Status.NO: "ask: the request is denied or matches no route; diff: some view changes; check: there are problems",
+    Status.DONE: "the question is answered; ask: the request is allowed; diff and map of two: nothing changes; check: no problem",
+    Status.NO: "ask: the request is denied or matches no route; diff and map of two: something changes; check: there are problems",
     Status.USAGE: "wrong words, or a file that they name cannot be read",
     Status.UNKNOWN: "no Service, Pod or port of this name is in the feed; diff: nothing of the name that is to be removed",
     Status.EMPTY: "the feed holds no object",

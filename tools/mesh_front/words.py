@@ -9,7 +9,7 @@ import urllib.parse
 from dataclasses import dataclass
 from typing import Any, Callable, NoReturn
 
-from mesh_front import ask, check, diff, endpoints, policy, record
+from mesh_front import access_map, ask, check, diff, endpoints, policy, record
 from mesh_front.faults import MEANINGS, Fault, Status, epilog, run_tool
 from mesh_front.feed import Feed, read_bytes
 from mesh_front.manifests import Changes, counts, deletion, read_changes
@@ -25,6 +25,7 @@ CONFIGURATION = {
     "default-policy": "POLICY",
 }
 DOMAIN = "cluster.local"
+FORMS = ("table", "json")
 STANDARD_INPUT = pathlib.Path("-")
 ABOUT = "Answers questions about a recorded cluster by running linkerd_cli and decoding its messages."
 STATUSES = epilog(MEANINGS)
@@ -83,14 +84,14 @@ def only_one(what: str, in_path: str | None, given: str | None) -> str | None:
     return in_path if given is None else given
 
 
-def common(wants_feed: bool) -> argparse.ArgumentParser:
+def common(wants_feed: bool, forms: tuple[str, ...]) -> argparse.ArgumentParser:
     """The options that the commands over a feed share."""
     options = argparse.ArgumentParser(add_help=False)
     if wants_feed:
         path: dict[str, Any] = {"type": pathlib.Path, "metavar": "FILE"}
         options.add_argument("--feed", **path, default=STANDARD_INPUT, help="the feed (default: standard input)")
         options.add_argument("--program", **path, default=ROOT / "linkerd_cli", help="the program (default: ./linkerd_cli)")
-        options.add_argument("-o", "--output", choices=["table", "json"], default="table", help="the form of the answer (default: table)")
+        options.add_argument("-o", "--output", choices=forms, default=forms[0], help=f"the form of the answer (default: {forms[0]})")
         add_configuration(options)
     return options
 
@@ -108,11 +109,11 @@ def configuration_options(words: argparse.Namespace) -> list[str]:
     return [f"--{name}={value}" for name, value in values.items() if value is not None]
 
 
-def add_command(commands: Any, name: str, about: str, run: Callable, wants_feed: bool = True) -> argparse.ArgumentParser:
+def add_command(commands: Any, name: str, about: str, run: Callable, wants_feed: bool = True, forms: tuple[str, ...] = FORMS) -> argparse.ArgumentParser:
     """Adds a command that `run` runs."""
     formatter = argparse.RawDescriptionHelpFormatter
     texts = {"help": about, "description": about, "epilog": STATUSES, "formatter_class": formatter}
-    parser = commands.add_parser(name, **texts, parents=[common(wants_feed)], allow_abbrev=False)
+    parser = commands.add_parser(name, **texts, parents=[common(wants_feed, forms)], allow_abbrev=False)
     parser.set_defaults(run=run)
     return parser
 
@@ -162,6 +163,16 @@ def add_ask(commands: Any) -> None:
     request.add_argument("--no-http", action="store_true", help="the connection is not HTTP")
 
 
+def add_map(commands: Any) -> None:
+    """Adds the command `map`."""
+    about = "Prints a page with who may call whom, or what opens and closes between two recordings."
+    parser = add_command(commands, "map", about, run_map, forms=("html", "table", "json"))
+    two = "two recordings, in place of a feed: what opens and what closes"
+    parser.add_argument("recordings", nargs="*", type=pathlib.Path, metavar="OLD NEW", help=two)
+    parser.add_argument("--to", metavar="NS/WORKLOAD[:PORT]", help="who may call this workload, as a table")
+    parser.add_argument("--from", dest="client", metavar="NS/NAME", help="whom this account or workload may call, as a table")
+
+
 def parser() -> Parser:
     """The parser of all words."""
     formatter = argparse.RawDescriptionHelpFormatter
@@ -176,6 +187,7 @@ def parser() -> Parser:
     policy_parser.add_argument("target", type=of_form(pod_port, "NS/POD:PORT"), metavar="NS/POD:PORT")
     add_ask(commands)
     add_diff(commands)
+    add_map(commands)
     add_command(commands, "check", "Shows what in a feed refers to nothing or is refused.", run_check)
     return words
 
@@ -256,15 +268,30 @@ def run_diff(words: argparse.Namespace) -> Status:
     return answer_over_feed(words, lambda it: diff.run(it, changes, words.output == "json"))
 
 
+def two_sessions(words: argparse.Namespace) -> dict[str, Session]:
+    """The two recordings that the words name."""
+    old, new = words.recordings
+    if old == new:
+        raise Fault(Status.USAGE, "give two recordings that are not the same file")
+    return {str(path): session(words, path) for path in (old, new)}
+
+
 def run_diff_of_recordings(words: argparse.Namespace) -> Status:
     """Runs `diff` over two recordings."""
     if len(words.recordings) != 2 or words.apply or words.delete or words.feed != STANDARD_INPUT:
         raise Fault(Status.USAGE, "give two recordings, OLD and NEW, and neither --feed nor changes; or a feed and changes alone")
-    old, new = words.recordings
-    if old == new:
-        raise Fault(Status.USAGE, "give two recordings that are not the same file")
-    sessions = {str(path): session(words, path) for path in (old, new)}
-    return answer_over_feeds(sessions, lambda it: diff.run_recordings(it, words.output == "json"))
+    return answer_over_feeds(two_sessions(words), lambda it: diff.run_recordings(it, words.output == "json"))
+
+
+def run_map(words: argparse.Namespace) -> Status:
+    """Runs `map`. What is asked of one workload is a table unless another form is given."""
+    is_of_one = bool(words.to or words.client)
+    if words.recordings:
+        if len(words.recordings) != 2 or is_of_one or words.feed != STANDARD_INPUT:
+            raise Fault(Status.USAGE, "give two recordings, OLD and NEW, and neither --feed nor --to nor --from; or a feed alone")
+        return answer_over_feeds(two_sessions(words), lambda it: access_map.run_recordings(it, words.output))
+    form = "table" if is_of_one and words.output == "html" else words.output
+    return answer_over_feed(words, lambda it: access_map.run(it, words.client, words.to, form))
 
 
 def run_check(words: argparse.Namespace) -> Status:
