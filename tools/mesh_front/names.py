@@ -1,8 +1,10 @@
 """The names that words give: Services, Pods, ports, and what is said where none has the name."""
 
 import difflib
+import ipaddress
 import re
 from dataclasses import dataclass
+from typing import Union
 
 from mesh_front.faults import Fault, Status
 from mesh_front.feed import Key, Objects
@@ -43,6 +45,20 @@ class PodPort:
         return f"{self.pod}:{self.port}"
 
 
+@dataclass(frozen=True)
+class AddressPort:
+    """`IP:PORT`, of IPv6 `[IP]:PORT`. Without a port it is 80."""
+
+    address: str
+    port: int
+
+    def __str__(self) -> str:
+        return f"{self.address}:{self.port}"
+
+
+Target = Union[ServiceName, AddressPort]
+
+
 def port_number(digits: str) -> int:
     """A port; a ValueError where it is none."""
     if not 1 <= int(digits) <= 65535:
@@ -56,6 +72,15 @@ def service_name(word: str) -> ServiceName:
     if not match:
         raise ValueError
     return ServiceName(match[1], match[2] or "default", port_number(match[3]) if match[3] else None)
+
+
+def target(word: str) -> Target:
+    """The Service or the address of a word; a ValueError where it is neither."""
+    match = re.fullmatch(r"(\[[0-9a-fA-F:.]+\]|\d+\.\d+\.\d+\.\d+)(?::(\d+))?", word)
+    if not match:
+        return service_name(word)
+    address = str(ipaddress.ip_address(match[1].strip("[]")))
+    return AddressPort(f"[{address}]" if ":" in address else address, port_number(match[2] or "80"))
 
 
 def pod_name(word: str) -> PodName:

@@ -26,12 +26,15 @@ class Query:
     method: str
     target: str
     port: int
+    is_address: bool = False
+    token: str | None = None
 
     def members(self, domain: str) -> dict:
-        """The query of a `subscribe` line. The target of a port's method is `namespace:pod`, of the others `name.namespace`."""
+        """The query of a `subscribe` line. The target of a port's method is `namespace:pod`, of the others `name.namespace` or an address."""
         if self.method in PORT_METHODS:
             return {"method": self.method, "workload": self.target, "port": self.port}
-        return {"method": self.method, "path": f"{self.target}.svc.{domain}:{self.port}"}
+        path = f"{self.target}{'' if self.is_address else f'.svc.{domain}'}:{self.port}"
+        return {"method": self.method, "path": path, **({"token": self.token} if self.token else {})}
 
 
 @dataclass

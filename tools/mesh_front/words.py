@@ -9,12 +9,12 @@ import urllib.parse
 from dataclasses import dataclass
 from typing import Any, Callable, NoReturn
 
-from mesh_front import access_map, ask, check, diff, endpoints, policy, record
+from mesh_front import access_map, ask, check, diff, endpoints, outbound, policy, record
 from mesh_front.faults import MEANINGS, Fault, Status, epilog, run_tool
 from mesh_front.feed import Feed, read_bytes
 from mesh_front.manifests import Changes, counts, deletion, read_changes
 from mesh_front.messages import ROOT, require_protoc
-from mesh_front.names import pod_name, pod_port, service_name
+from mesh_front.names import LABEL, pod_name, pod_port, service_name, target
 from mesh_front.program import Program, Session
 
 CONFIGURATION = {
@@ -173,6 +173,23 @@ def add_map(commands: Any) -> None:
     parser.add_argument("--from", dest="client", metavar="NS/NAME", help="whom this account or workload may call, as a table")
 
 
+def add_outbound(commands: Any) -> None:
+    """Adds the commands `profile` and `routes`."""
+    form = "SERVICE[.NS][:PORT] or IP[:PORT]"
+    word: dict[str, Any] = {"type": of_form(target, form), "metavar": "TARGET", "help": f"{form}; NS is default unless it is given"}
+    profile = add_command(commands, "profile", "Shows the routes, the split and the opaque ports of a Service or an address.", run_profile)
+    profile.add_argument("target", **word)
+    profile.add_argument("--client-namespace", type=of_form(label, "a namespace"), metavar="NS", help="the namespace of the client, whose ServiceProfile goes first")
+    add_command(commands, "routes", "Shows where requests to a Service or an address lead.", run_routes).add_argument("target", **word)
+
+
+def label(word: str) -> str:
+    """A namespace; a ValueError where the word is none."""
+    if not re.fullmatch(LABEL, word):
+        raise ValueError
+    return word
+
+
 def parser() -> Parser:
     """The parser of all words."""
     formatter = argparse.RawDescriptionHelpFormatter
@@ -185,6 +202,7 @@ def parser() -> Parser:
     endpoints_parser.add_argument("service", type=of_form(service_name, form), metavar=form, help=service)
     policy_parser = add_command(commands, "policy", "Shows who may connect to a port of a Pod.", run_policy)
     policy_parser.add_argument("target", type=of_form(pod_port, "NS/POD:PORT"), metavar="NS/POD:PORT")
+    add_outbound(commands)
     add_ask(commands)
     add_diff(commands)
     add_map(commands)
@@ -232,6 +250,16 @@ def run_endpoints(words: argparse.Namespace) -> Status:
 def run_policy(words: argparse.Namespace) -> Status:
     """Runs `policy`."""
     return answer_over_feed(words, lambda it: policy.run(it, words.target, words.output == "json"))
+
+
+def run_profile(words: argparse.Namespace) -> Status:
+    """Runs `profile`."""
+    return answer_over_feed(words, lambda it: outbound.run_profile(it, words.target, words.client_namespace, words.output == "json"))
+
+
+def run_routes(words: argparse.Namespace) -> Status:
+    """Runs `routes`."""
+    return answer_over_feed(words, lambda it: outbound.run_routes(it, words.target, words.output == "json"))
 
 
 def ask_words(words: argparse.Namespace) -> ask.Words:
