@@ -1,13 +1,14 @@
-"""`mesh check`: what in a feed points at nothing.
+"""`mesh check`: what in a feed points at nothing, or has no effect.
 
 Most answers come from the program: of each Server it is asked what applies to it, of each port of each Pod which Server it
 has, also without that Server, and of each port of each Service where its routes lead. From the feed alone comes which names
 the objects refer to.
 """
 
+import re
 from dataclasses import dataclass, field
 
-from mesh_front import limits, policy, probes, views
+from mesh_front import limits, policy, probes, values, views
 from mesh_front.faults import Status
 from mesh_front.feed import Key, Objects, items, members
 from mesh_front.kinds import AUTHORIZATION_POLICY, KINDS, POD, ROUTE_KINDS, SERVER, SERVER_AUTHORIZATION, SERVICE
@@ -16,12 +17,33 @@ from mesh_front.names import PodName, PodPort
 from mesh_front.program import Answers, Query, Script, Session
 from mesh_front.tables import show, table
 
+MOST_LINES = 20  # refused lines that are told one by one
+FIRST_LINES = 3
+
+
 @dataclass(frozen=True)
 class Problem:
     """What is wrong with an object, or with a line."""
 
     object: str
     problem: str
+
+    def text(self) -> str:
+        """The problem as people read it."""
+        return self.problem
+
+
+@dataclass(frozen=True)
+class ValueProblem(Problem):
+    """A value that leads to nothing, with what is allowed there, and what it does to answers."""
+
+    value: str
+    allowed: str
+    effect: str
+
+    def text(self) -> str:
+        """The problem as people read it."""
+        return f"{self.problem}: {self.value}; allowed: {self.allowed}; {self.effect}"
 
 
 @dataclass(frozen=True)
@@ -47,6 +69,7 @@ class First:
     servers: dict[Key, int] = field(default_factory=dict)
     ports: dict[PodPort, int] = field(default_factory=dict)
     services: dict[tuple[Key, int], int] = field(default_factory=dict)
+    questions: values.Questions = field(default_factory=values.Questions)
 
 
 @dataclass
@@ -77,7 +100,7 @@ def watched_ports(objects: Objects) -> list[tuple[Key, int]]:
 
 def first_questions(objects: Objects, script: Script) -> First:
     """Asks what applies to each Server, which Server each port of a Pod has, and where each Service's routes lead."""
-    first = First()
+    first = First(questions=values.ask(objects, script))
     for server in objects.of(SERVER):
         first.servers[server] = probes.ask_server(objects, script, server)
     for pod in objects.of(POD):
@@ -229,6 +252,23 @@ def port_problems(server_by_port: dict[PodPort, str], second: dict[PodPort, str]
     return [Problem(f"Pod {it}", f"the Servers {one} and {other} select it, and {one} is the one that counts") for it, one, other in pairs]
 
 
+def refused_problems(refusals: dict[int, str]) -> list[Problem]:
+    """The refused lines, each by itself, or, where there are many, together by their faults."""
+    if len(refusals) <= MOST_LINES:
+        return [Problem(f"line {number}", f"it is refused: {why}") for number, why in refusals.items()]
+    by_fault: dict[str, list[int]] = {}
+    for number, why in refusals.items():
+        by_fault.setdefault(re.sub(r"\[\d+\]", "[]", why), []).append(number)
+    return [Problem(lines_text(numbers), f"refused: {why}") for why, numbers in by_fault.items()]
+
+
+def lines_text(numbers: list[int]) -> str:
+    """Some lines by their numbers, of which the first ones are told."""
+    more = len(numbers) - FIRST_LINES
+    words = ", ".join(map(str, numbers[:FIRST_LINES])) + (f" and {more:,} more" if more > 0 else "")
+    return f"line{'s' if len(numbers) > 1 else ''} {words}"
+
+
 def find(session: Session) -> list[Problem]:
     """The problems of a feed."""
     first, answers = session.ask(first_questions)
@@ -238,12 +278,15 @@ def find(session: Session) -> list[Problem]:
     names = {name for servers in (server_by_port, second_servers) for name in by_server(servers)}
     servers_in_use = {Key(SERVER, *name) for name in names}
     idle_servers = idle_servers_of(session, first, set(session.objects.of(SERVER)) - servers_in_use)
-    problems = [Problem(f"line {number}", f"it is refused: {why}") for number, why in session.refusals.items()]
+    problems = refused_problems(session.refusals)
     problems += policy_problems(session.objects, shown_policies(first.servers, answers), shown_policies(second.servers, more))
     problems += parent_problems(session.objects)
     problems += [Problem(str(key), "it selects no port of a Pod in the feed") for key in sorted(idle_servers, key=str)]
     problems += port_problems(server_by_port, second_servers)
     problems += backend_problems(first, answers)
+    missing = session.gaps(KINDS).missing
+    found = values.problems(session.objects, first.questions, answers, missing, session.domain)
+    problems += [ValueProblem(it.object, it.problem, it.value, it.allowed, it.effect) for it in found]
     return problems + [Problem(*it) for it in limits.problems(session.objects, second.limits, more, inbound)]
 
 
@@ -256,7 +299,7 @@ def held_kinds(session: Session) -> list[Held]:
 def lines(answer: Answer) -> list[str]:
     """The answer as people read it."""
     output = table(["KIND", "HELD"], [[it.kind, "-" if it.held is None else str(it.held)] for it in answer.kinds])
-    rows = [[it.object, it.problem] for it in answer.problems]
+    rows = [[it.object, it.text()] for it in answer.problems]
     return [*output, "", *(table(["OBJECT", "PROBLEM"], rows) if rows else ["no problem found"])]
 
 

@@ -58,10 +58,13 @@ class Check(Case):
         """)
 
     def test_a_missing_backend(self):
-        """The Service `web-new` is not in the feed."""
+        """The Service `web-new` is not in the feed, and the list of slices is empty, so that `web` has no endpoints."""
         run = self.mesh("check", "policy.jsonl", "-o", "json")
         problem = {"object": "HTTPRoute.gateway.networking.k8s.io app/split", "problem": "its backend app/web-new:80 is missing"}
-        self.assertEqual(([problem], 1), (run.json()["problems"], run.status))
+        self.assertEqual(1, run.status)
+        self.assertEqual(problem, run.json()["problems"][0])
+        self.assertEqual(["Service app/web", "its port has no endpoints"], [run.json()["problems"][1][it] for it in ("object", "problem")])
+        self.assertEqual(2, len(run.json()["problems"]))
 
     def test_no_problem(self):
         """A Service with one slice, and nothing else."""
@@ -92,7 +95,7 @@ class Check(Case):
         elsewhere = server("e", "x", 80)
         elsewhere["metadata"]["namespace"] = "other"
         feed = feed_of(
-            new_object("Service", "s", {"ports": [{"port": 80}]}, "v1"),
+            new_object("Service", "s", {"type": "ExternalName", "ports": [{"port": 80}]}, "v1"),
             route,
             elsewhere,
             policy("of-route", reference("HTTPRoute", "r")),
@@ -115,7 +118,7 @@ class Check(Case):
             pod("a-1", "a", "10.0.0.1", 80),
             server("a", "a", 80),
             policy("secret", reference("Server", "a"), {"kind": "Secret", "name": "s"}),
-            policy("account", reference("Server", "a"), {"kind": "ServiceAccount", "name": "s"}),
+            policy("account", reference("Server", "a"), {"kind": "ServiceAccount", "name": "a"}),
         )
         self.problems(feed, 1, """
             OBJECT                            PROBLEM
@@ -134,12 +137,120 @@ class Check(Case):
         self.assertIn("\nServer                                -\n", run.output)
 
 
+class Values(Case):
+    """Values that lead to nothing: each with the object, the value, what is allowed, and what it does to answers."""
+
+    def values(self, *objects: dict) -> list[list[str]]:
+        """The object, the value and what is allowed of each problem that has a value."""
+        problems = self.mesh("check", feed_of(*objects), "-o", "json").json()["problems"]
+        self.assertTrue(all(it["effect"] for it in problems if "value" in it))
+        return [[it["object"], it["value"], it["allowed"]] for it in problems if "value" in it]
+
+    def test_a_table(self):
+        """Each value is told in one line."""
+        feed = feed_of(pod("a-1", "a", "10.0.0.1", 80), server("a", "a", "80"))
+        run = self.mesh("check", feed)
+        line = 'Server shop/a   its port is a string of digits: "80"; allowed: 80 without quotes, or the name of a port; it is read as the name of a port, which has no port of a Pod'
+        self.assertEqual((1, line), (run.status, run.output.splitlines()[-1]))
+        self.assertIn("Server shop/a   it selects no port of a Pod in the feed\n", run.output)
+
+    def test_regular_expressions(self):
+        """Those of paths, headers, parameters and ServiceProfiles; one that builds is no problem. Rust's crate regex has no look-ahead."""
+        matches = [
+            {"path": {"type": "RegularExpression", "value": "/a("}},
+            {"headers": [{"type": "RegularExpression", "name": "h", "value": "(?=x)"}]},
+            {"queryParams": [{"type": "RegularExpression", "name": "q", "value": "[0-9]+"}]},
+            {"path": {"type": "Exact", "value": "/("}},
+        ]
+        condition = {"all": [{"not": {"pathRegex": "*"}}, {"any": [{"pathRegex": "/ok/.*"}]}]}
+        profile = new_object("ServiceProfile", "web.shop.svc.cluster.local", {"routes": [{"name": "r", "condition": condition}]}, "linkerd.io/v1alpha2")
+        web = new_object("Service", "web", {"type": "ExternalName"}, "v1")
+        allowed = "the regular expressions of Rust's crate regex"
+        self.assertEqual([
+            ["HTTPRoute.policy.linkerd.io shop/r", "/a(", allowed],
+            ["HTTPRoute.policy.linkerd.io shop/r", "(?=x)", allowed],
+            ["ServiceProfile shop/web.shop.svc.cluster.local", "*", allowed],
+        ], self.values(new_object("HTTPRoute", "r", {"rules": [{"matches": matches}]}), profile, web))
+
+    def test_ports_that_a_service_lacks(self):
+        """Of a backend and of a parent. The port of a parent that is a Server does not matter."""
+        web = new_object("Service", "web", {"ports": [{"port": 80}, {"port": 81}]}, "v1")
+        parents = [{"group": "", "kind": "Service", "name": "web", "port": 8080}, {"group": "policy.linkerd.io", "kind": "Server", "name": "a", "port": 9}]
+        spec = {"parentRefs": parents, "rules": [{"backendRefs": [{"name": "web", "port": 8081}, {"name": "web", "port": 81}]}]}
+        found = [it for it in self.values(web, server("a", "a", 80), new_object("HTTPRoute", "r", spec)) if it[0].startswith("HTTPRoute")]
+        self.assertEqual([["HTTPRoute.policy.linkerd.io shop/r", "8080", "80, 81"], ["HTTPRoute.policy.linkerd.io shop/r", "8081", "80, 81"]], found)
+
+    def test_accounts_that_no_pod_uses(self):
+        """In a ServerAuthorization, an AuthorizationPolicy and a MeshTLSAuthentication; the account of a Pod that names none is `default`."""
+        account = {"kind": "ServiceAccount", "name": "wbe"}
+        nameless = pod("b-1", "b", "10.0.0.2", 81)
+        del nameless["spec"]["serviceAccountName"]
+        client = {"meshTLS": {"serviceAccounts": [{"name": "web"}, {"name": "web", "namespace": "edge"}, {"name": "default"}]}}
+        found = self.values(
+            pod("web-1", "web", "10.0.0.1", 80), nameless, server("web", "web", 80),
+            policy("p", reference("Server", "web"), account),
+            new_object("MeshTLSAuthentication", "m", {"identityRefs": [account]}),
+            new_object("ServerAuthorization", "s", {"server": {"name": "web"}, "client": client}),
+        )
+        near = "shop/web, shop/default"
+        self.assertEqual([
+            ["ServerAuthorization shop/s", "edge/web", near],
+            ["AuthorizationPolicy shop/p", "shop/wbe", near],
+            ["MeshTLSAuthentication shop/m", "shop/wbe", near],
+        ], found)
+
+    def test_identities(self):
+        """`*`, `*.s`, and the whole name are well-formed; a `*` elsewhere, a part of the name and capitals are not."""
+        good = ["*", "*.shop.serviceaccount.identity.linkerd.cluster.local", "web.shop.serviceaccount.identity.linkerd.cluster.local", "*.cluster.local"]
+        bad = ["web.shop", "*shop.serviceaccount.identity.linkerd.cluster.local", "web.*", "Web.shop.serviceaccount.identity.linkerd.cluster.local", ""]
+        found = self.values(new_object("MeshTLSAuthentication", "m", {"identities": good + bad}))
+        self.assertEqual(bad, [value for _, value, _ in found])
+
+    def test_profiles_of_no_service(self):
+        """The name has another Service, or another form. The allowed names are those of the Services, the nearest first."""
+        web = new_object("Service", "web", {"type": "ExternalName"}, "v1")
+        profiles = [new_object("ServiceProfile", name, {"routes": []}, "linkerd.io/v1alpha2") for name in ("web.shop.svc.cluster.local", "wbe.shop.svc.cluster.local", "web")]
+        self.assertEqual([
+            ["ServiceProfile shop/wbe.shop.svc.cluster.local", "wbe.shop.svc.cluster.local", "web.shop.svc.cluster.local"],
+            ["ServiceProfile shop/web", "web", "web.shop.svc.cluster.local"],
+        ], sorted(self.values(web, *profiles)))
+
+    def test_services_without_endpoints(self):
+        """A port whose slices have none ready, and the name of a port that no slice has."""
+        ports = [{"name": "http", "port": 80}, {"name": "web", "port": 81}, {"name": "dns", "port": 53, "protocol": "UDP"}]
+        web = new_object("Service", "web", {"ports": ports}, "v1")
+        one = new_object("EndpointSlice", "web-a", None, "discovery.k8s.io/v1", {"kubernetes.io/service-name": "web"})
+        rows = {"addressType": "IPv4", "endpoints": [{"addresses": ["10.0.0.1"], "conditions": {"ready": False}}], "ports": [{"name": "http", "port": 8080}]}
+        self.assertEqual([
+            ["Service shop/web", "80", "a port with a ready address in its EndpointSlices"],
+            ["Service shop/web", "web", "http"],
+        ], self.values(web, {**one, **rows}))
+
+    def test_kinds_that_are_not_recorded(self):
+        """Without Pods nobody knows which accounts are used, without slices not which Services have endpoints."""
+        web = new_object("Service", "web", {"ports": [{"port": 80}]}, "v1")
+        named = new_object("MeshTLSAuthentication", "m", {"identityRefs": [{"kind": "ServiceAccount", "name": "x"}]}, "policy.linkerd.io/v1alpha1")
+        feed = empty_lists("Pod", "EndpointSlice") + lines_of(*({"type": "ADDED", "object": it} for it in (web, named)))
+        run = self.mesh("check", feed)
+        self.assertEqual((11, "no problem found"), (run.status, run.output.splitlines()[-1]))
+
+    def test_many_refused_lines(self):
+        """3,000 refused lines are summed up by their faults."""
+        wrong = {"type": "ADDED", "object": new_object("Service", "web", {"ports": [{"port": 0}]}, "v1")}
+        feed = empty_lists() + lines_of(*[wrong] * 2000) + b"{\n" * 1000 + lines_of({"type": "ADDED", "object": server("a", "a", 80)})
+        self.assertEqual([
+            ["lines 12, 13, 14 and 1,997 more", "refused: BadValue object.spec.ports[].port Range"],
+            ["lines 2012, 2013, 2014 and 997 more", "refused: NotJson"],
+            ["Server shop/a", "it selects no port of a Pod in the feed"],
+        ], [[it["object"], it["problem"]] for it in self.mesh("check", feed, "-o", "json").json()["problems"]])
+
+
 class OtherThanLinkerd(Case):
     """The objects with which this program does something else than Linkerd."""
 
     def found(self, *objects: dict) -> list[list[str]]:
-        """The problems of a feed with these objects."""
-        return [[it["object"], it["problem"]] for it in self.mesh("check", feed_of(*objects), "-o", "json").json()["problems"]]
+        """The problems of a feed with these objects, without values that lead to nothing."""
+        return [[it["object"], it["problem"]] for it in self.mesh("check", feed_of(*objects), "-o", "json").json()["problems"] if "value" not in it]
 
     def test_topology_hints(self):
         """A slice with hints and one without them, of one Service."""
