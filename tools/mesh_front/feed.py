@@ -145,6 +145,7 @@ class Feed:
 
     def __init__(self, data: bytes):
         self.lines = data.removesuffix(b"\n").split(b"\n") if data else []
+        self.ends_with_line_feed = data.endswith(b"\n")
         self.values = [json_of(line) for line in self.lines]
         for place, value in enumerate(self.values):
             if is_control(value):

@@ -4,7 +4,7 @@ import difflib
 import ipaddress
 import re
 from dataclasses import dataclass
-from typing import Union
+from typing import Iterable, Union
 
 from mesh_front.faults import Fault, Status
 from mesh_front.feed import Key, Objects
@@ -99,9 +99,9 @@ def pod_port(word: str) -> PodPort:
     return PodPort(pod_name(pod), port_number(port))
 
 
-def nearest_names(name: str, names: list[str]) -> str:
-    """The nearest of the names, in a clause for a sentence."""
-    match = difflib.get_close_matches(name, names, n=3, cutoff=0.5)
+def nearest_names(name: str, names: list[str], same: Iterable[str] = ()) -> str:
+    """The nearest of the names, in a clause for a sentence. The same name in another namespace goes first."""
+    match = list(dict.fromkeys([*same, *difflib.get_close_matches(name, names, n=3, cutoff=0.5)]))[:3]
     return f"; the nearest: {', '.join(match)}" if match else ""
 
 
@@ -110,7 +110,8 @@ def require_pod(objects: Objects, pod: PodName) -> Key:
     key = Key(POD, pod.namespace, pod.name)
     if key not in objects.by_key:
         names = [f"{it.namespace}/{it.name}" for it in objects.of(POD)]
-        raise Fault(Status.UNKNOWN, f"there is no Pod {pod} in the feed{nearest_names(str(pod), names)}")
+        same = [f"{it.namespace}/{it.name}" for it in objects.of(POD) if it.name == pod.name]
+        raise Fault(Status.UNKNOWN, f"there is no Pod {pod} in the feed{nearest_names(str(pod), names, same)}")
     return key
 
 
@@ -120,7 +121,8 @@ def require_service(objects: Objects, service: ServiceName) -> Key:
     if key not in objects.by_key:
         names = [f"{it.name}.{it.namespace}" for it in objects.of(SERVICE)]
         word = f"{service.name}.{service.namespace}"
-        raise Fault(Status.UNKNOWN, f"there is no Service {word} in the feed{nearest_names(word, names)}")
+        same = [f"{it.name}.{it.namespace}" for it in objects.of(SERVICE) if it.name == service.name]
+        raise Fault(Status.UNKNOWN, f"there is no Service {word} in the feed{nearest_names(word, names, same)}")
     ports = objects.service_ports(key)
     if service.port and ports and service.port not in ports:
         port_list = ", ".join(map(str, ports))
