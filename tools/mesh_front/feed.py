@@ -162,6 +162,8 @@ class Feed:
 
 def read_bytes(path: pathlib.Path) -> bytes:
     """The bytes of a file that the words name; `-` is standard input."""
+    if str(path) == "-" and sys.stdin.isatty():
+        print("mesh: waiting for a feed on standard input, up to Ctrl-D; --feed FILE reads a file", file=sys.stderr)
     try:
         return sys.stdin.buffer.read() if str(path) == "-" else path.read_bytes()
     except OSError as error:

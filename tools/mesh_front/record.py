@@ -173,6 +173,8 @@ def run(cluster: Cluster, namespaces: list[str]) -> Status:
     """Prints a list of each kind, one a line, once all are read, policies first. The list of a kind that the cluster lacks is empty."""
     lists = {}
     for kind in KINDS:
+        if sys.stderr.isatty():
+            print(f"mesh: listing {kind.title}", file=sys.stderr)
         listing = listing_of(cluster, kind, namespaces)
         if listing is None:
             print(f"mesh: the list of {kind.title} is empty: the cluster does not have it in the group {kind.group}", file=sys.stderr)

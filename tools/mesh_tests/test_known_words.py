@@ -114,10 +114,16 @@ class Terminal(Case):
     """On a terminal tables are fitted to its width, and verdicts have colours."""
 
     def on_terminal(self, columns: int, *words: str, **environment: str) -> str:
-        """What `tools/mesh` prints on a terminal."""
+        """What `tools/mesh` prints on standard output where it is a terminal."""
+        files = {"stdin": subprocess.DEVNULL, "stderr": subprocess.DEVNULL}
+        return self.shown([*words, "--program", program()], {"stdout": None, **files}, COLUMNS=str(columns), **environment)
+
+    def shown(self, words: list[str], files: dict[str, int | None], typed: bytes = b"", **environment: str) -> str:
+        """What `tools/mesh` shows on a terminal, which those of its files are that are None."""
         outer, inner = pty.openpty()
-        variables = {**os.environ, "TERM": "xterm", "COLUMNS": str(columns), **environment}
-        with subprocess.Popen([MESH, *words, "--program", program()], stdin=subprocess.DEVNULL, stdout=inner, stderr=subprocess.DEVNULL, env=variables):
+        os.write(outer, typed)
+        variables = {**os.environ, "TERM": "xterm", **environment}
+        with subprocess.Popen([MESH, *words], env=variables, **{name: inner if it is None else it for name, it in files.items()}):
             os.close(inner)
             output = b""
             while True:
@@ -130,6 +136,21 @@ class Terminal(Case):
                 output += part
         os.close(outer)
         return output.decode().replace("\r\n", "\n")
+
+    def test_a_feed_that_is_typed(self):
+        """It is said that standard input is waited for; from a pipe nothing is said."""
+        words = ["check", "--program", program()]
+        waiting = "mesh: waiting for a feed on standard input, up to Ctrl-D; --feed FILE reads a file\n"
+        self.assertIn(waiting, self.shown(words, {"stdin": None, "stdout": subprocess.DEVNULL, "stderr": None}, typed=b"\x04"))
+        self.assertNotIn("waiting", self.mesh("check", shop()).error_output)
+
+    def test_lists_of_a_cluster(self):
+        """Each kind is named while it is listed, on a terminal alone."""
+        self.put_kubectl({"/api/v1/services?limit=500": "Unable to connect to the server"})
+        none = {"stdin": subprocess.DEVNULL, "stdout": subprocess.DEVNULL}
+        sentences = ["mesh: listing Service\n", "mesh: listing Service failed: Unable to connect to the server\n"]
+        self.assertEqual("".join(sentences), self.shown(["record"], {**none, "stderr": None}))
+        self.assertEqual(sentences[1], self.run_mesh("record").error_output)
 
     def test_within_eighty_columns(self):
         """Identities are shortened; `-o wide` has all of them. NO_COLOR leaves out the colours."""
