@@ -5,7 +5,7 @@ import queue
 import threading
 import time
 from dataclasses import dataclass
-from typing import Any
+from typing import Any, Callable
 
 from mesh_front.faults import Fault, Status
 from mesh_front.feed import Key, json_of, key_of, members
@@ -189,10 +189,13 @@ class Source:
     skipped: frozenset[Key]
 
 
-def send_cluster(address: ServerAddress, source: Source, observer: Observer = Observer()) -> Status:
-    """Sends the lists of a cluster, and then what changes, until the server closes the link."""
+def send_cluster(address: ServerAddress, source: Source, observer: Observer = Observer(), is_wanted: Callable[[], bool] = lambda: True) -> Status:
+    """Sends the lists of a cluster, and then what changes, until the server closes the link. Once it is connected, it asks whether this
+    server is wanted."""
     link, lines = FeedLink(address, observer), Lines(observer)
     try:
+        if not is_wanted():
+            raise Fault(Status.CLOSED, "the server was started again meanwhile")
         return follow_cluster(link, lines, source)
     finally:
         link.link.cut()
@@ -200,6 +203,7 @@ def send_cluster(address: ServerAddress, source: Source, observer: Observer = Ob
 
 def follow_cluster(link: FeedLink, lines: Lines, source: Source) -> Status:
     """Sends what is read of a cluster on a link, until the server closes it."""
+    say(f"listing {len(FILL_ORDER)} kinds for {link.link.address}")
     listings = first_listings(source.cluster, source.namespaces, lines.observer)
     kinds = {kind: KindFeed(source.cluster, kind, source.namespaces, lines) for kind in listings}
     threading.Thread(target=link.read_answers, daemon=True).start()

@@ -6,6 +6,7 @@ import threading
 import time
 from dataclasses import dataclass
 
+from mesh_front import live_map
 from mesh_front.cluster_feed import Source, send_cluster
 from mesh_front.faults import Fault, Status
 from mesh_front.health import Health
@@ -13,6 +14,7 @@ from mesh_front.health_pages import HealthServer
 from mesh_front.links import ServerAddress
 from mesh_front.messages import ROOT
 from mesh_front.notices import notify
+from mesh_front.program import Program
 from mesh_front.supervisor import Supervisor
 from mesh_front.waiting import Backoff
 
@@ -43,6 +45,8 @@ class Settings:
     health_address: ServerAddress
     source: Source
     fresh_seconds: float
+    domain: str
+    has_map: bool
 
     def command(self) -> list[str]:
         """The command of the server."""
@@ -58,10 +62,13 @@ def provenance(program: pathlib.Path) -> str:
 
 def run_controller(settings: Settings) -> Status:
     """Runs a server and feeds it until an Ended."""
-    health = Health(provenance(settings.program), settings.fresh_seconds)
+    kept = live_map.KINDS if settings.has_map else frozenset()
+    health = Health(provenance(settings.program), settings.fresh_seconds, kept, settings.address)
+    program = Program(settings.program, settings.options, logging.getLogger("map").info)
+    shown = live_map.LiveMap(health, program, settings.domain) if settings.has_map else None
     supervisor = Supervisor(settings.command(), health)
     try:
-        HealthServer(settings.health_address, health).start()
+        HealthServer(settings.health_address, health, shown).start()
         LOG.info("health and metrics on http://%s, program: %s", settings.health_address, health.program)
         supervisor.thread.start()
         threading.Thread(target=watch_readiness, args=(health, supervisor.is_stopping), daemon=True).start()
@@ -79,10 +86,10 @@ def feed_until_ended(settings: Settings, supervisor: Supervisor, health: Health)
     backoff = Backoff()
     while True:
         wait_for_server(supervisor)
-        began = time.monotonic()
+        process, began = supervisor.process, time.monotonic()
         observer = health.begin_feed()
         try:
-            send_cluster(settings.address, settings.source, observer)
+            send_cluster(settings.address, settings.source, observer, lambda: supervisor.process is process)
         except Fault as fault:
             if fault.status in FOR_GOOD:
                 raise
@@ -91,7 +98,7 @@ def feed_until_ended(settings: Settings, supervisor: Supervisor, health: Health)
             health.end_feed()
         if settings.source.namespaces:
             # Events alone do not remove what an earlier feed brought and the cluster no longer has.
-            supervisor.restart()
+            supervisor.restart(process)
         backoff.take(time.monotonic() - began)
         seconds = backoff.seconds()
         LOG.warning("the feed ended: %s; feeding again in %d s", reason, seconds)

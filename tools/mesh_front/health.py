@@ -4,8 +4,10 @@ import threading
 import time
 from dataclasses import dataclass, field
 
-from mesh_front.feed import Key, json_of, key_of, kind_of_line, object_of_line
+from mesh_front.feed import Key, json_of, key_of, kind_of_line, members, object_of_line
 from mesh_front.kinds import FILL_ORDER, Kind
+from mesh_front.links import ServerAddress
+from mesh_front.live_map import packed
 from mesh_front.observing import Observer, Stage
 from mesh_front.refusals import listed_objects
 
@@ -20,7 +22,7 @@ class KindHealth:
     ended: float = 0
     last_line: float | None = None
     lines: dict[str, int] = field(default_factory=lambda: {ACCEPTED: 0, REFUSED: 0})
-    held: set[Key] = field(default_factory=set)
+    held: dict[Key, bytes] = field(default_factory=dict)
     watch_ends: int = 0
 
     def take(self, stage: Stage) -> None:
@@ -31,17 +33,15 @@ class KindHealth:
             self.watch_ends += 1
         self.stages.add(stage)
 
-    def accept(self, value: dict) -> None:
+    def accept(self, change: "HeldChange") -> None:
         """Takes an accepted line of the kind, with what the server holds after it."""
         self.last_line = time.monotonic()
-        if value.get("type") is None:
-            self.held = {key for it in listed_objects(value) if (key := key_of(it))}
-        elif (key := object_of_line(value)) is None:
+        if change.is_list:
+            self.held = change.put
             return
-        elif value["type"] == "DELETED":
-            self.held.discard(key)
-        else:
-            self.held.add(key)
+        if change.gone is not None:
+            self.held.pop(change.gone, None)
+        self.held.update(change.put)
 
     def age(self) -> float | None:
         """The seconds since the last accepted line, None where there is none."""
@@ -64,6 +64,29 @@ class KindHealth:
 
 
 @dataclass(frozen=True)
+class HeldChange:
+    """What an accepted line changes of what is held: all objects of a kind, or one. Objects that are not kept are empty."""
+
+    is_list: bool
+    put: dict[Key, bytes] = field(default_factory=dict)
+    gone: Key | None = None
+
+
+def held_change(value: dict, is_kept: bool) -> HeldChange:
+    """What a line changes once it is accepted."""
+
+    def kept(it: dict) -> bytes:
+        return packed(it) if is_kept else b""
+
+    if value.get("type") is None:
+        return HeldChange(True, {key: kept(it) for it in listed_objects(value) if (key := key_of(it))})
+    key = object_of_line(value)
+    if key is None or value["type"] == "DELETED":
+        return HeldChange(False, gone=key)
+    return HeldChange(False, {key: kept(members(value, "object"))})
+
+
+@dataclass(frozen=True)
 class Check:
     """A condition of being ready: what it is about, whether it holds, and what there is to say."""
 
@@ -75,8 +98,9 @@ class Check:
 class Health:
     """What is known of a server and of its feed. Threads tell it, and others ask."""
 
-    def __init__(self, program: str, fresh_seconds: float):
-        self.program, self.fresh_seconds = program, fresh_seconds
+    def __init__(self, program: str, fresh_seconds: float, kept: frozenset[Kind] = frozenset(), address: ServerAddress | None = None):
+        self.program, self.fresh_seconds, self.kept, self.address = program, fresh_seconds, kept, address
+        self.process: int | None = None
         self.lock = threading.Lock()
         self.kinds = {kind: KindHealth() for kind in FILL_ORDER}
         self.is_up, self.starts, self.feeds = False, 0, 0
@@ -88,7 +112,13 @@ class Health:
             self.starts += 1
             self.feed = None
             for health in self.kinds.values():
-                health.stages, health.held = set(), set()
+                health.stages, health.held = set(), {}
+
+    def kept_objects(self) -> tuple[set[Kind], list[bytes]]:
+        """The kinds that are accepted or not in the cluster, and the objects of all kinds that are kept."""
+        with self.lock:
+            filled = {kind for kind, it in self.kinds.items() if it.stages & {Stage.FILLED, Stage.ABSENT}}
+            return filled, [data for kind, it in self.kinds.items() if kind in self.kept for data in it.held.values()]
 
     def set_up(self, is_up: bool) -> None:
         """The server listens, or does so no longer."""
@@ -140,8 +170,9 @@ class FeedHealth(Observer):
         kind = kind_of_line(value)
         if kind is None:
             return
+        change = None if fault else held_change(value, kind in self.health.kept)  # before the lock, since a list takes long
         with self.health.lock:
             known = self.health.kinds[kind]
             known.lines[REFUSED if fault else ACCEPTED] += 1
-            if not fault and self.health.feed is self:
-                known.accept(value)
+            if change is not None and self.health.feed is self:
+                known.accept(change)

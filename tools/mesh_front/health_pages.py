@@ -1,4 +1,4 @@
-"""Health and metrics over HTTP: `/livez`, `/readyz`, `/metrics`, and a page that shows the same."""
+"""Health and metrics over HTTP: `/livez`, `/readyz`, `/metrics`, and a page that shows the same and the map of who may call whom."""
 
 import html
 import http.server
@@ -10,13 +10,23 @@ from dataclasses import dataclass, field
 from mesh_front.faults import Fault, Status
 from mesh_front.health import Check, Health
 from mesh_front.links import ServerAddress
+from mesh_front.live_map import LiveMap
+from mesh_front.process_figures import open_links, resident_bytes
 
 PREFIX = "linkerd_cli_"
 TEXT = "text/plain; charset=utf-8"
 METRICS = "text/plain; version=0.0.4; charset=utf-8"
 PAGE = "text/html; charset=utf-8"
 REQUEST_SECONDS = 10
-STYLE = "body{font-family:sans-serif;margin:2em}td,th{padding:.2em 1em;text-align:left}td.n,th.n{text-align:right}"
+STYLE = (
+    "body{font-family:sans-serif;margin:2em}td,th{padding:.2em 1em;text-align:left}td.n,th.n{text-align:right}"
+    "iframe{width:100%;height:90vh;border:1px solid #bbb}"
+)
+# Reads what is known again, without the map, which would lose what is searched in it.
+SCRIPT = """setInterval(async () => {
+  try { document.getElementById("state").innerHTML = await (await fetch("/state")).text(); } catch { document.title = "no answer"; }
+}, 5000);"""
+POLICY = "default-src 'none'; style-src 'unsafe-inline'; script-src 'unsafe-inline'; connect-src 'self'; frame-src 'self'"
 
 
 @dataclass
@@ -60,7 +70,18 @@ def metrics_of(health: Health) -> list[Metric]:
         restarts.add(max(health.starts - 1, 0))
         feeds = Metric("feeds_total", "counter", "How often a feed was begun.")
         feeds.add(health.feeds)
-    return [ready, info, up, restarts, feeds, *kind_metrics(health)]
+    return [ready, info, up, restarts, feeds, *process_metrics(health), *kind_metrics(health)]
+
+
+def process_metrics(health: Health) -> list[Metric]:
+    """The metrics that the kernel knows. What it does not tell is left out."""
+    links = Metric("links", "gauge", "Connections to the server that are open, its feed among them, as the kernel counts them.")
+    if health.address is not None and (count := open_links(health.address)) is not None:
+        links.add(count)
+    memory = Metric("server_resident_bytes", "gauge", "The memory of the process of the server.")
+    if (size := resident_bytes(health.process)) is not None:
+        memory.add(size)
+    return [links, memory]
 
 
 def kind_metrics(health: Health) -> list[Metric]:
@@ -93,8 +114,8 @@ def checks_text(checks: list[Check]) -> str:
     return "\n".join([*lines, "ready" if all(it.holds for it in checks) else "not ready", ""])
 
 
-def page_of(health: Health) -> str:
-    """The page that shows what is known."""
+def state_of(health: Health) -> str:
+    """The part of the page that shows what is known."""
     checks = {it.title: it for it in health.checks()}
     is_ready = all(it.holds for it in checks.values())
     cells = ["<tr><th>kind<th>ready<th>state<th class=n>objects<th class=n>accepted<th class=n>refused<th class=n>last line"]
@@ -106,13 +127,29 @@ def page_of(health: Health) -> str:
             shown = [f"<td>{html.escape(word)}" for word in words] + [f"<td class=n>{number}" for number in numbers]
             cells.append(f"<tr>{''.join(shown)}")
         server = f"Server: {checks['server'].about}, started {health.starts} times, program: {health.program}. Feeds begun: {health.feeds}."
-    title = "ready" if is_ready else "not ready"
-    head = f"<!doctype html><html lang=en><meta charset=utf-8><meta http-equiv=refresh content=5><title>{title}</title><style>{STYLE}</style>"
+    return "\n".join([f"<h1>{'ready' if is_ready else 'not ready'}</h1><p>{html.escape(server)}", "<table>", *cells, "</table>", ""])
+
+
+def page_of(health: Health, has_map: bool) -> str:
+    """The page that shows what is known, and the map."""
+    title = "ready" if health.is_ready() else "not ready"
+    head = f'<!doctype html><html lang=en><meta charset=utf-8><meta http-equiv="Content-Security-Policy" content="{POLICY}">'
+    head += f"<noscript><meta http-equiv=refresh content=5></noscript><title>{title}</title><style>{STYLE}</style>"
     links = '<p><a href="/readyz">/readyz</a> <a href="/livez">/livez</a> <a href="/metrics">/metrics</a>'
-    return "\n".join([head, f"<h1>{title}</h1><p>{html.escape(server)}", "<table>", *cells, "</table>", links, ""])
+    shown = '<h2>Who may call whom</h2><p><a href="/map">The map by itself</a><p><iframe src="/map" title="Who may call whom"></iframe>'
+    rest = shown if has_map else "<p>The controller runs with --no-map."
+    return "\n".join([head, f"<div id=state>{state_of(health)}</div>", links, rest, f"<script>{SCRIPT}</script>", ""])
 
 
-def answer_of(health: Health, path: str) -> tuple[int, str, str]:
+def map_answer(shown: LiveMap) -> tuple[int, str, str]:
+    """The status, the type and the text of the map."""
+    try:
+        return 200, PAGE, shown.page()
+    except Fault as fault:
+        return 503, TEXT, f"no map: {fault}\n"
+
+
+def answer_of(health: Health, path: str, shown: LiveMap | None = None) -> tuple[int, str, str]:
     """The status, the type and the text of a path."""
     if path == "/livez":
         return 200, TEXT, "ok\n"
@@ -122,8 +159,12 @@ def answer_of(health: Health, path: str) -> tuple[int, str, str]:
     if path == "/metrics":
         return 200, METRICS, metrics_text(health)
     if path == "/":
-        return 200, PAGE, page_of(health)
-    return 404, TEXT, "not found: there are /, /livez, /readyz and /metrics\n"
+        return 200, PAGE, page_of(health, shown is not None)
+    if path == "/state":
+        return 200, PAGE, state_of(health)
+    if path == "/map" and shown is not None:
+        return map_answer(shown)
+    return 404, TEXT, f"not found: there are /, {'/map, ' if shown else ''}/livez, /readyz and /metrics\n"
 
 
 class HealthServer(http.server.ThreadingHTTPServer):
@@ -131,8 +172,8 @@ class HealthServer(http.server.ThreadingHTTPServer):
 
     daemon_threads = True
 
-    def __init__(self, address: ServerAddress, health: Health):
-        self.health = health
+    def __init__(self, address: ServerAddress, health: Health, shown: LiveMap | None):
+        self.health, self.shown = health, shown
         self.address_family = socket.AF_INET6 if ":" in address.host else socket.AF_INET
         try:
             super().__init__((address.host, address.port), HealthRequest)
@@ -165,7 +206,7 @@ class HealthRequest(http.server.BaseHTTPRequestHandler):
 
     def answer(self, with_text: bool) -> None:
         """Answers."""
-        status, form, text = answer_of(self.server.health, self.path.partition("?")[0])
+        status, form, text = answer_of(self.server.health, self.path.partition("?")[0], self.server.shown)
         data = text.encode()
         self.send_response(status)
         self.send_header("Content-Type", form)

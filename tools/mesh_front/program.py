@@ -97,8 +97,8 @@ SAID_BY_MESH = re.compile(r"linkerd_cli: (warning: \d+ lines? (was|were) refused
 class Program:
     """The program linkerd_cli with its configuration."""
 
-    def __init__(self, path: pathlib.Path, options: list[str]):
-        self.path, self.options = path, options
+    def __init__(self, path: pathlib.Path, options: list[str], tell: Callable[[str], None] = lambda line: print(line, file=sys.stderr, flush=True)):
+        self.path, self.options, self.tell = path, options, tell
         self.lines_on_error: set[str] = set()
 
     def replay(self, lines: list[bytes]) -> list[str]:
@@ -124,7 +124,7 @@ class Program:
                     last = line.strip()
                     if line not in self.lines_on_error and not SAID_BY_MESH.match(line):
                         self.lines_on_error.add(line)
-                        print(line, end="", file=sys.stderr, flush=True)
+                        self.tell(line.rstrip("\n"))
         except OSError as error:
             raise Fault(Status.NO_TOOL, f"cannot run {self.path}: {error.strerror}") from error
         return run.returncode, last

@@ -58,6 +58,7 @@ class Supervisor:
                 pipes: dict[str, Any] = {"stdin": subprocess.DEVNULL, "stdout": subprocess.DEVNULL, "stderr": subprocess.PIPE}
                 # In a session of its own, so that Ctrl-C ends the controller, which then ends the server.
                 self.process = process = subprocess.Popen(self.command, **pipes, start_new_session=True)
+                self.health.process = process.pid
         except OSError as error:
             LOG.error("cannot run %s: %s", self.command[0], error.strerror)
             return NO_PROGRAM
@@ -78,10 +79,10 @@ class Supervisor:
                     self.health.set_up(True)
                     self.is_listening.set()
 
-    def restart(self) -> None:
-        """Ends the server, so that it is started again, empty."""
+    def restart(self, process: "subprocess.Popen[bytes] | None") -> None:
+        """Ends the server, so that it is started again, empty; nothing where another one has been started since."""
         with self.lock:
-            if self.process is not None and self.process.poll() is None:
+            if process is not None and self.process is process and process.poll() is None:
                 self.is_listening.clear()
                 self.process.terminate()
 

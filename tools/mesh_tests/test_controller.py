@@ -11,7 +11,9 @@ import sys
 import time
 import urllib.error
 import urllib.request
+from unittest import mock
 
+from mesh_front.controller import SCRIPT, provenance
 from mesh_front.messages import ROOT
 from mesh_tests.live import diagnosis, free_address
 from mesh_tests.support import POLICY, Case, feed_of, list_page, pod, program, server
@@ -137,6 +139,13 @@ class Controller(Case):
         words = ("--method", "WatchPort", "--workload", "shop:web-1", "--port", "8080")
         self.require(run, 0, diagnosis(feed_of(WEB, WEB_SERVER), *words))
 
+    def require_map(self) -> None:
+        """The page has a map, in which the Server of the port denies the account of the Pod."""
+        self.assertIn('<iframe src="/map"', self.page("/")[1])
+        status, text = self.page("/map")
+        self.assertEqual(200, status, text)
+        self.assertIn('"texts":["GET /: denied by policy deny of Server shop/web"]', text)
+
     def require_end(self, controller: subprocess.Popen) -> None:
         """SIGTERM ends the controller and its server, and a line says so."""
         process = self.server_of(controller)
@@ -166,7 +175,9 @@ class Controller(Case):
         self.assertEqual({"[+]Pod: watched", "[+]Service: watched", "[+]Server: watched", "[+]server: listens"}, present)
         self.assertIn("[+]HTTPRoute.gateway.networking.k8s.io: not in the cluster", checks)
         self.require_view()
+        self.require_map()
         metrics = self.metrics()
+        self.assertEqual(1, metrics["links",], "the feed")
         self.assertEqual((1, 0, 1, 1), tuple(metrics[it,] for it in ("ready", "server_restarts_total", "server_up", "feeds_total")))
         self.assertEqual((1, 1, 0), tuple(metrics["objects", ("kind", it)] for it in ("Pod", "Server", "Service")))
         self.assertEqual((1, 0), tuple(metrics["lines_total", ("kind", "Pod"), ("outcome", it)] for it in ("accepted", "refused")))
@@ -183,12 +194,12 @@ class Controller(Case):
 
     def test_a_list_that_never_comes(self):
         """The server is alive, not ready, and systemd is not told that it is. SIGTERM ends it all the same."""
-        controller = self.start(cluster(**{list_of(PODS): NO_LIST}))
+        controller = self.start(cluster(**{list_of(PODS): NO_LIST}), "--no-map")
         self.until("/readyz", 503, "[-]Pod: not listed yet")
         self.until("/readyz", 503, "[+]server: listens")
         self.until("/readyz", 503, "[-]Service: listed, not accepted yet")
         self.assertEqual((200, "ok\n"), self.page("/livez"))
-        self.assertEqual(404, self.page("/other")[0])
+        self.assertEqual([404, 404], [self.page(it)[0] for it in ("/other", "/map")])
         self.assertIn("<h1>not ready</h1>", self.page("/")[1])
         self.assertNotIn("READY=1", self.notice())
         self.assertNotIn("ready", [json.loads(line.rpartition("part=controller ")[2]) for line in self.log().splitlines() if "part=controller" in line])
@@ -226,7 +237,7 @@ class Controller(Case):
         self.require_view()
         metrics = self.metrics()
         self.assertEqual(1, metrics["objects", ("kind", "Pod")])
-        self.assertGreaterEqual(metrics["server_restarts_total",], 2, "one for the kill, and one for the feed whose policy is refused")
+        self.assertEqual(2, metrics["server_restarts_total",], "one for the kill, and one for the feed whose policy is refused")
         self.require_end(controller)
 
     def test_watches_that_end(self):
@@ -265,6 +276,15 @@ class Words(Case):
         last = json.loads(run.error_output.splitlines()[-1])
         self.assertEqual((status, "error", "controller", sentence), (run.status, last["level"], last["part"], last["message"]))
         return run.error_output
+
+    def test_which_program_serves(self):
+        """The script runs the proved program wherever it is built, and otherwise one that is named as not proved."""
+        built = self.file("linkerd_cli", b"")
+        for path, expected in ((built, "proved"), (self.room / "none", "not proved")):
+            with mock.patch("mesh_front.controller.PROVED", path):
+                self.assertEqual(expected, provenance(SCRIPT))
+        with mock.patch("mesh_front.controller.PROVED", built):
+            self.assertEqual(["proved", "given by --program"], [provenance(it) for it in (built, self.file("other", b""))])
 
     def test_one_sentence_each(self):
         """An address that is taken, a word that is wrong, a program that is none, a kubectl that is not there."""

@@ -59,6 +59,8 @@ class Image(Case):
         for source, target in copies:
             self.assertEqual(f"{PLACE}/{source}", target)
             self.assertTrue(source == program or (ROOT / source).exists(), source)
+        self.assertIn(["docs/proxy.proto", f"{PLACE}/docs/proxy.proto"], copies)
+        self.assertIn("protobuf-compiler", " ".join(rest for name, rest in steps if name == "RUN").split(), "the map decodes messages")
         [user] = [rest for name, rest in steps if name == "USER"]
         self.assertRegex(user, r"^[1-9]\d*:[1-9]\d*$")
         [words] = [json.loads(rest) for name, rest in steps if name == "ENTRYPOINT"]

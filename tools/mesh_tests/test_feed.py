@@ -9,6 +9,7 @@ from mesh_tests.support import POLICY, Case, list_page, pod
 BOOKMARK = '{"type":"BOOKMARK","object":{}}'
 SUBSCRIBE = '{"control":"subscribe","id":1,"query":{"method":"Get","path":"web.app.svc.cluster.local:80"}}'
 SIMULATE = '{"control":"simulate","workload":"app:web-1","port":8080,"client":"10.0.0.5"}'
+LISTING = "feed: listing 11 kinds for {}\n"
 SERVERS = f"/apis/{POLICY}/v1beta3/servers"
 
 
@@ -155,6 +156,7 @@ class Cluster(Case):
         said = run.error_output.splitlines()
         self.assertEqual(9, run.status)
         self.assertIn("feed: left out EndpointSlice: the cluster does not have it in the group discovery.k8s.io", said)
+        self.assertEqual(LISTING.format(address), f"{said[0]}\n")
         self.assertIn(f"feed: sent 3 lists to {address}, watching", said)
         why = 'BadValue object.status.podIP Address; Pod shop/web-1 has "10.1.2.3" at status.podIP, allowed: an IP address'
         self.assertIn(f"feed: ADDED Pod shop/web-1 is refused: {why}", said)
@@ -195,17 +197,17 @@ class Cluster(Case):
         self.assertIn("feed: the watch of Service ended: Unauthorized; listing Service again\n", run.error_output)
 
     def test_a_cluster_without_linkerd(self):
-        """One sentence, and nothing is sent."""
+        """One sentence after that of the lists, and nothing is sent."""
         answers = {path: it for path, it in self.cluster().items() if POLICY not in path}
-        run, _, values = self.send(answers, Feed())
+        run, address, values = self.send(answers, Feed())
         said = "feed: the cluster has none of Linkerd's kinds (the groups linkerd.io and policy.linkerd.io): is Linkerd installed there?\n"
-        self.require(run, 10, "", said)
+        self.require(run, 10, "", LISTING.format(address) + said)
         self.assertEqual([], values)
 
     def test_a_kubectl_that_fails_or_is_not_there(self):
-        """One sentence each."""
-        run, _, _ = self.send({"/api/v1/services?limit=500": "Unable to connect to the server"}, Feed())
-        self.require(run, 6, "", "feed: listing Service failed: Unable to connect to the server\n")
+        """One sentence each, after that of the lists."""
+        run, address, _ = self.send({"/api/v1/services?limit=500": "Unable to connect to the server"}, Feed())
+        self.require(run, 6, "", LISTING.format(address) + "feed: listing Service failed: Unable to connect to the server\n")
         (self.room / "kubectl").unlink()
-        run, _, _ = self.send({}, Feed())
-        self.require(run, 5, "", "feed: cannot run kubectl: No such file or directory\n")
+        run, address, _ = self.send({}, Feed())
+        self.require(run, 5, "", LISTING.format(address) + "feed: cannot run kubectl: No such file or directory\n")

@@ -3,20 +3,28 @@
 import json
 import logging
 import os
+import shutil
 import socket
 import subprocess
 import sys
 import unittest
 from unittest import mock
 
+from mesh_front import live_map
 from mesh_front.health import FeedHealth, Health
-from mesh_front.health_pages import Metric, answer_of, metrics_text
+from mesh_front.health_pages import HealthServer, Metric, answer_of, metrics_text
 from mesh_front.kinds import FILL_ORDER, POD, SERVER, SERVICE
+from mesh_front.links import ServerAddress
+from mesh_front.live_map import LiveMap
 from mesh_front.notices import LogFormat, notify
 from mesh_front.observing import Stage
+from mesh_front.process_figures import open_links, resident_bytes, table_address
+from mesh_front.program import Program
 from mesh_front.waiting import Backoff
-from mesh_tests.support import Case, lines_of, list_page, pod
+from mesh_tests.live import free_address
+from mesh_tests.support import Case, feed_of, lines_of, list_page, pod, program, server
 from mesh_tests.test_feed import event, objects_page
+from mesh_tests.test_map import CHROMIUM, colours, shop
 from mesh_tests.text_format import samples_of
 
 PARSER = "prometheus_client.parser"
@@ -38,9 +46,9 @@ def python_with_client() -> str | None:
 STAGES = (Stage.LISTED, Stage.FILLED, Stage.WATCHED)
 
 
-def ready_health(fresh_seconds: float = 300) -> tuple[Health, FeedHealth]:
+def ready_health(fresh_seconds: float = 300, **others) -> tuple[Health, FeedHealth]:
     """A server that listens and its feed, with all kinds listed, accepted and watched."""
-    health = Health("proved", fresh_seconds)
+    health = Health("proved", fresh_seconds, **others)
     health.begin_server()
     health.set_up(True)
     feed = health.begin_feed()
@@ -165,11 +173,41 @@ class Metrics(Case):
         self.assertEqual(1, samples["linkerd_cli_info", ("program", "proved")])
         self.assertEqual(1, sum(name == "linkerd_cli_last_line_age_seconds" for name, *_ in samples))
 
+    def test_what_the_kernel_knows(self):
+        """The connections to the address that are open, and the memory of the process. What is not known is left out."""
+        with socket.create_server(("127.0.0.1", 0)) as listener:
+            address = ServerAddress(*listener.getsockname())
+            links = [socket.create_connection(listener.getsockname()) for _ in range(3)]
+            for it in links:
+                self.addCleanup(it.close)
+            health, _ = ready_health(address=address)
+            health.process = os.getpid()
+            samples = samples_of(metrics_text(health))
+            self.assertEqual(3, samples["linkerd_cli_links",])
+            self.assertGreater(samples["linkerd_cli_server_resident_bytes",], 1_000_000)
+            self.assertEqual(0, open_links(ServerAddress("127.0.0.2", address.port)))
+            self.assertEqual(3, open_links(ServerAddress("0.0.0.0", address.port)))
+        self.assertEqual((None, None), (open_links(ServerAddress("localhost", 1)), resident_bytes(None)))
+        samples = samples_of(self.text())
+        self.assertFalse({("linkerd_cli_links",), ("linkerd_cli_server_resident_bytes",)} & samples.keys())
+
+    def test_addresses_of_the_kernel(self):
+        """Words of four bytes, each reversed: proc(5)."""
+        self.assertEqual(("127.0.0.1", 8086), table_address("0100007F:1F96"))
+        self.assertEqual(("127.0.0.1", 8086), table_address("0000000000000000FFFF00000100007F:1F96"))
+        self.assertEqual(("::1", 8086), table_address("00000000000000000000000001000000:1F96"))
+
     def test_labels(self):
         """Quotes, backslashes and line feeds are escaped."""
         metric = Metric("x", "gauge", "About.")
         metric.add(0.25, a='a"b\\c\nd')
         self.assertEqual({("linkerd_cli_x", ("a", 'a"b\\c\nd')): 0.25}, samples_of("\n".join(metric.lines())))
+
+    @unittest.skipUnless(shutil.which("promtool"), "promtool is not installed")
+    def test_promtool(self):
+        """Prometheus' own check finds nothing."""
+        run = subprocess.run(["promtool", "check", "metrics"], input=self.text(), capture_output=True, text=True)
+        self.assertEqual((0, "", ""), (run.returncode, run.stdout, run.stderr))
 
     @unittest.skipUnless(python_with_client(), "Prometheus' client for Python is not installed")
     def test_the_client_of_prometheus(self):
@@ -192,6 +230,83 @@ class Pages(Case):
         self.assertIn("<h1>ready</h1>", text)
         self.assertIn("<tr><td>Service<td>yes<td>watched<td class=n>2<td class=n>1<td class=n>0<td class=n>0 s ago", text)
         self.assertIn("<tr><td>Pod<td>yes<td>watched<td class=n>0<td class=n>0<td class=n>0<td class=n>\n", text)
+
+
+    def test_the_map_beside_it(self):
+        """The page has the map in a frame of its own, so that what is searched in it stays; without the map it says so."""
+        health, _ = ready_health()
+        shown = LiveMap(health, Program(program(), []), "cluster.local")
+        self.assertIn('<iframe src="/map" title="Who may call whom">', answer_of(health, "/", shown)[2])
+        self.assertIn("runs with --no-map", answer_of(health, "/")[2])
+        self.assertEqual(404, answer_of(health, "/map")[0])
+        self.assertTrue(answer_of(health, "/", shown)[2].find(answer_of(health, "/state", shown)[2]) > 0)
+
+
+class Map(Case):
+    """The map of what a server holds."""
+
+    def setUp(self):
+        super().setUp()
+        self.health, self.feed = ready_health(kept=live_map.KINDS)
+        self.said: list[str] = []
+        self.map = LiveMap(self.health, Program(program(), [], self.said.append), "cluster.local")
+
+    def take(self, *objects: dict) -> None:
+        """The server accepts objects, which their managers have written."""
+        for it in objects:
+            managed = {**it, "metadata": {**it["metadata"], "managedFields": [{"manager": "m"}]}}
+            self.feed.answer(line(event("ADDED", managed)), "")
+
+    def sheet(self, text: str) -> dict:
+        """What a page shows."""
+        return json.loads(text.split('<script id="sheet" type="application/json">')[1].split("</script>")[0])
+
+    def test_what_is_held(self):
+        """It is that of `mesh map` over the same objects, also after one is removed; what is refused is not in it."""
+        objects = shop()
+        self.take(*objects, new := pod("gone-1", "gone", "10.0.0.8", 80))
+        self.feed.answer(line(event("DELETED", new)), "")
+        self.feed.answer(line(event("ADDED", server("bad", "web", 80, proxyProtocol="http"))), "BadValue")
+        status, form, text = answer_of(self.health, "/map", self.map)
+        self.assertEqual((200, "text/html; charset=utf-8"), (status, form))
+        shown, expected = self.sheet(text), self.sheet(self.mesh("map", feed_of(*objects)).output)
+        [note] = shown.pop("notes")
+        self.assertRegex(note, "^What the server held at .* UTC.$")
+        self.assertEqual([], expected.pop("notes"))
+        self.assertEqual(expected, shown)
+        self.assertNotIn("managedFields", str(self.health.kept_objects()[1]))
+
+    def test_it_is_drawn_now_and_then(self):
+        """One that was drawn is shown again for a while: at least a quarter of a minute, and ten times as long as it took."""
+        self.take(*shop())
+        with mock.patch("mesh_front.live_map.time.monotonic", side_effect=[0, 2, 10, 21.9, 22, 23]), mock.patch.object(self.map, "draw", side_effect=["1", "2"]) as draw:
+            self.assertEqual(["1", "1", "1", "2"], [self.map.page() for _ in range(4)])
+        self.assertEqual(2, draw.call_count)
+
+    def test_what_is_not_there(self):
+        """A kind that is not accepted yet is named first. A server that holds nothing has no map, nor has a machine without protoc."""
+        self.assertEqual((503, "no map: the feed holds no object\n"), answer_of(self.health, "/map", self.map)[::2])
+        self.take(*shop())
+        self.health.kinds[SERVER].stages.clear()
+        self.health.kinds[SERVER].held.clear()
+        self.assertIn("incomplete: the feed has neither a list nor an event of Server", self.sheet(answer_of(self.health, "/map", self.map)[2])["notes"][0])
+        self.map.text = ""
+        with mock.patch("mesh_front.messages.shutil.which", return_value=None):
+            self.assertRegex(answer_of(self.health, "/map", self.map)[2], "^no map: there is no protoc")
+
+    @unittest.skipUnless(CHROMIUM, "chromium is not installed")
+    def test_in_a_browser(self):
+        """The page shows what is known, and has the map in its frame."""
+        self.take(*shop())
+        address = ServerAddress("127.0.0.1", int(free_address().rpartition(":")[2]))
+        HealthServer(address, self.health, self.map).start()
+        self.map.page()  # so that the browser need not wait for it
+        command = [str(CHROMIUM), "--headless", "--no-sandbox", "--disable-gpu", f"--user-data-dir={self.room}/home"]
+        picture = self.room / "page.png"
+        shot = [f"--screenshot={picture}", "--window-size=1200,1600", f"http://{address}/"]
+        subprocess.run([*command, *shot], capture_output=True, timeout=300)
+        found = {it.hex() for it in colours(picture)}
+        self.assertEqual(set(), {"1b7a43", "b3263a", "c4e6d0"} - found)
 
 
 class Says(Case):

@@ -235,13 +235,16 @@ class Browser(Case):
             self.assertIn(bytes.fromhex(name), found)
 
     def test_two_hundred_workloads(self):
-        """The page says how long it took to open: a second on an idle machine, here five at most."""
+        """The page says how long it took to open: less than a second. On a busy machine it may take longer, so it is opened up to five times."""
         names = [f"shop/app-{number}" for number in range(200)]
         cells = [[("all" if (row + column) % 3 else "none", f"GET /: {row % 7}") for column in range(200)] for row in range(200)]
         headings = [Heading(it, "") for it in names]
-        dom = self.chromium(page(Sheet("Big", [], access_map.MARKS, headings, headings, cells)), "--dump-dom", "--virtual-time-budget=10000")
-        self.assertEqual(40_000, len(re.findall(CELL, dom)))
-        self.assertLess(int(re.findall(r'data-milliseconds="(\d+)"', dom)[0]), 5000)
+        text, found = page(Sheet("Big", [], access_map.MARKS, headings, headings, cells)), []
+        while not found or found[-1] >= 1000 and len(found) < 5:
+            dom = self.chromium(text, "--dump-dom", "--virtual-time-budget=10000")
+            self.assertEqual(40_000, len(re.findall(CELL, dom)))
+            found.append(int(re.findall(r'data-milliseconds="(\d+)"', dom)[0]))
+        self.assertLess(found[-1], 1000, found)
 
 
 def colours(path: pathlib.Path) -> set[bytes]:
