@@ -5,6 +5,7 @@ the path `/`. The first run of the program asks for the identities of the Pods a
 all requests. Of two recordings, both are asked for the requests of both.
 """
 
+import sys
 from dataclasses import dataclass, field
 
 from mesh_front import access, ask, policy, probes, views, workloads
@@ -23,6 +24,7 @@ ALL, SOME, NONE, UNKNOWN = "all", "some", "none", "unknown"
 UNENFORCED = ", not enforced"
 WORDS = {ALL: "yes", SOME: "some paths", NONE: "no", UNKNOWN: "not known"}
 RAW = ("opaque", "TLS")
+MANY = 10_000  # requests
 ABSENT = "not there"
 OPENS, CLOSES, BOTH, SAME = "opens", "closes", "opens and closes", "same"
 
@@ -218,6 +220,13 @@ def find(session: Session, plan: Plan) -> Answer:
     return answer
 
 
+def say_how_many(plan: Plan) -> None:
+    """Says on a terminal how many requests are tried, where that takes long."""
+    count = len(plan.clients) * sum(len(it.requests) for it in plan.targets)
+    if count > MANY and sys.stderr.isatty():
+        print(f"mesh: trying {count:,} requests; --to and --from try fewer", file=sys.stderr)
+
+
 def port_of(target: Target) -> Port:
     """A port as the answer has it."""
     return Port(str(target.port), target.is_meshed, str(target.pod), target.view.server, str(target.view.policy), target.account)
@@ -256,11 +265,11 @@ def selected_clients(answer: Answer, word: str | None) -> list[Client]:
     return found
 
 
-def select(answer: Answer, client: str | None, port: str | None) -> Answer:
-    """The part of an answer that words name."""
-    clients, ports = selected_clients(answer, client), selected_ports(answer, port)
-    rows, columns = {it.name for it in clients}, {it.name for it in ports}
-    return Answer(clients, ports, [it for it in answer.cells if it.client in rows and it.port in columns])
+def select(plan: Plan, client: str | None, port: str | None) -> Plan:
+    """The part of a plan that words name: nothing else is tried."""
+    whole = Answer(plan.clients, [port_of(it) for it in plan.targets], [])
+    columns = {it.name for it in selected_ports(whole, port)}
+    return Plan(selected_clients(whole, client), [it for it in plan.targets if str(it.port) in columns])
 
 
 def why(verdicts: list[Verdict]) -> str:
@@ -383,7 +392,9 @@ def change_text(change: Change) -> str:
 
 def run(session: Session, client: str | None, port: str | None, form: str) -> Status:
     """Shows who may call whom, as a page, a table or JSON."""
-    answer = select(find(session, plan_of(session)), client, port)
+    plan = select(plan_of(session), client, port)
+    say_how_many(plan)
+    answer = find(session, plan)
     gaps = session.gaps(POLICY_KINDS)
     if form == "html":
         print(page_of(gaps.lines(), answer), end="")
@@ -396,6 +407,8 @@ def run_recordings(sessions: dict[str, Session], form: str) -> Status:
     """Shows what opens and what closes between two recordings."""
     plans = [plan_of(it) for it in sessions.values()]
     merge(*plans)
+    for plan in plans:
+        say_how_many(plan)
     answer = compare(*(find(it, plan) for it, plan in zip(sessions.values(), plans)))
     gaps = [it.gaps(POLICY_KINDS) for it in sessions.values()]
     both = Gaps(list(dict.fromkeys(kind for it in gaps for kind in it.missing)), [line for it in gaps for line in it.refused])

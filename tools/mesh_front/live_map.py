@@ -7,6 +7,7 @@ import zlib
 from typing import TYPE_CHECKING
 
 from mesh_front import access_map
+from mesh_front.faults import Fault, Status
 from mesh_front.feed import Feed
 from mesh_front.kinds import POLICY_KINDS, Kind
 from mesh_front.messages import require_protoc
@@ -17,7 +18,8 @@ if TYPE_CHECKING:
     from mesh_front.health import Health
 
 KEEP_SECONDS = 15   # for which a map is shown again,
-KEEP_TIMES = 10     # and how many times as long as it took to draw, if that is longer
+KEEP_TIMES = 3      # and how many times as long as it took to draw, if that is longer
+MOST_CELLS = 50_000
 KINDS = frozenset(POLICY_KINDS)
 
 
@@ -54,6 +56,10 @@ class LiveMap:
         """The page of what is held now."""
         require_protoc()
         session = Session(Feed(feed_lines(*self.health.kept_objects())), self.program, self.domain)
-        answer = access_map.find(session, access_map.plan_of(session))
+        plan = access_map.plan_of(session)
+        count = len(plan.clients) * len(plan.targets)
+        if count > MOST_CELLS:
+            raise Fault(Status.NO, f"it would have {count:,} cells, more than {MOST_CELLS:,}: record the cluster, and ask `tools/mesh map --to NS/WORKLOAD`")
+        answer = access_map.find(session, plan)
         at = time.strftime("%Y-%m-%d %H:%M:%S UTC", time.gmtime())
         return access_map.page_of([*session.gaps(POLICY_KINDS).lines(), f"What the server held at {at}."], answer)

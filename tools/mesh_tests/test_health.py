@@ -277,9 +277,9 @@ class Map(Case):
         self.assertNotIn("managedFields", str(self.health.kept_objects()[1]))
 
     def test_it_is_drawn_now_and_then(self):
-        """One that was drawn is shown again for a while: at least a quarter of a minute, and ten times as long as it took."""
+        """One that was drawn is shown again for a while: at least a quarter of a minute, and three times as long as it took."""
         self.take(*shop())
-        with mock.patch("mesh_front.live_map.time.monotonic", side_effect=[0, 2, 10, 21.9, 22, 23]), mock.patch.object(self.map, "draw", side_effect=["1", "2"]) as draw:
+        with mock.patch("mesh_front.live_map.time.monotonic", side_effect=[0, 6, 10, 23.9, 24, 25]), mock.patch.object(self.map, "draw", side_effect=["1", "2"]) as draw:
             self.assertEqual(["1", "1", "1", "2"], [self.map.page() for _ in range(4)])
         self.assertEqual(2, draw.call_count)
 
@@ -291,6 +291,8 @@ class Map(Case):
         self.health.kinds[SERVER].held.clear()
         self.assertIn("incomplete: the feed has neither a list nor an event of Server", self.sheet(answer_of(self.health, "/map", self.map)[2])["notes"][0])
         self.map.text = ""
+        with mock.patch("mesh_front.live_map.MOST_CELLS", 8):
+            self.assertRegex(answer_of(self.health, "/map", self.map)[2], "^no map: it would have 9 cells, more than 8: ")
         with mock.patch("mesh_front.messages.shutil.which", return_value=None):
             self.assertRegex(answer_of(self.health, "/map", self.map)[2], "^no map: there is no protoc")
 
