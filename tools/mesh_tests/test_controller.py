@@ -133,11 +133,15 @@ class Controller(Case):
                     return int(path.parent.name)
         return self.fail("there is no server")
 
-    def require_view(self) -> None:
-        """A subscriber of the port of the Pod is sent its view over the objects of the cluster."""
+    def require_view(self, feed: bytes = feed_of(WEB, WEB_SERVER)) -> None:
+        """A subscriber of the port of the Pod is sent its view over the objects of a feed, by default of the cluster."""
         run = self.run_tool("subscribe", self.address, "WatchPort", "shop/web-1:8080", "--lines", "--count", "1", "--seconds", SECONDS)
         words = ("--method", "WatchPort", "--workload", "shop:web-1", "--port", "8080")
-        self.require(run, 0, diagnosis(feed_of(WEB, WEB_SERVER), *words))
+        self.require(run, 0, diagnosis(feed, *words))
+
+    def require_absent(self) -> None:
+        """A subscriber of the port of the Pod is sent that nothing is there."""
+        self.require_view(b"")
 
     def require_map(self) -> None:
         """The page has a map, in which the Server of the port denies the account of the Pod."""
@@ -198,6 +202,7 @@ class Controller(Case):
         self.until("/readyz", 503, "[-]Pod: not listed yet")
         self.until("/readyz", 503, "[+]server: listens")
         self.until("/readyz", 503, "[-]Service: listed, not accepted yet")
+        self.require_absent()
         self.assertEqual((200, "ok\n"), self.page("/livez"))
         self.assertEqual([404, 404], [self.page(it)[0] for it in ("/other", "/map")])
         self.assertIn("<h1>not ready</h1>", self.page("/")[1])
