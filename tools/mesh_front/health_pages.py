@@ -126,7 +126,10 @@ def state_of(health: Health) -> str:
             numbers = [len(it.held), *it.lines.values(), "" if age is None else f"{age:.0f} s ago"]
             shown = [f"<td>{html.escape(word)}" for word in words] + [f"<td class=n>{number}" for number in numbers]
             cells.append(f"<tr>{''.join(shown)}")
-        server = f"Server: {checks['server'].about}, started {health.starts} times, program: {health.program}. Feeds begun: {health.feeds}."
+        starts = f"starts: {health.starts}, feeds: {health.feeds}"
+    links, memory = (None if health.address is None else open_links(health.address)), resident_bytes(health.process)
+    figures = ([] if links is None else [f"links: {links}"]) + ([] if memory is None else [f"memory: {memory / 1e6:.0f} MB"])
+    server = ", ".join([f"Server: {checks['server'].about}", f"program: {health.program}", starts, *figures])
     return "\n".join([f"<h1>{'ready' if is_ready else 'not ready'}</h1><p>{html.escape(server)}", "<table>", *cells, "</table>", ""])
 
 

@@ -227,7 +227,7 @@ class Pages(Case):
         feed.answer(line(list_page("Service", "web", "db")), "")
         status, form, text = answer_of(health, "/")
         self.assertEqual((200, "text/html; charset=utf-8"), (status, form))
-        self.assertIn("<h1>ready</h1>", text)
+        self.assertIn("<h1>ready</h1><p>Server: listens, program: proved, starts: 1, feeds: 1\n", text)
         self.assertIn("<tr><td>Service<td>yes<td>watched<td class=n>2<td class=n>1<td class=n>0<td class=n>0 s ago", text)
         self.assertIn("<tr><td>Pod<td>yes<td>watched<td class=n>0<td class=n>0<td class=n>0<td class=n>\n", text)
 
