@@ -2,6 +2,7 @@
 ghost use Rattle.std.specs.Prelude.{◌≤◌};
 
 use feed_step::frames::FrameWriter;
+use feed_step::reader::Plain;
 use feed_step::run::Run;
 use mesh_base::limits::Limits;
 use mesh_base::list::List;
@@ -83,13 +84,16 @@ impl Bed {
 
     // Returns whether a line is refused, and how many objects it looks up.
     fn take(&mut self, line: &str) -> Result<(bool, u64), TrialFault> {
+        let mut reader = Plain {
+            config: &self.config,
+        };
         let mut writer = FrameWriter::new(self.alloc);
         let mut out = Vec::new(self.alloc);
         let mut patterns = SurePatterns;
         let mut live = List::new(self.alloc);
         let mut steps = Steps::<Hub>::new();
         let mut run = Run {
-            config: &self.config,
+            reader: &mut reader,
             writer: &mut writer,
             hub: &mut self.hub,
             patterns: &mut patterns,

@@ -1,5 +1,5 @@
 -- What an answer of a call of the machine comes to.
-use Rattle.std.proofs.Common.{◌≡◌, ◌<◌, ℕ, ◌^◌, List, [], ◌∷◌, ◌++◌, Option, Some, None, refl, sym, ap, ◌∙◌, subst, append-nil}
+use Rattle.std.proofs.Common.{◌≡◌, ◌<◌, ℕ, Bool, ◌^◌, List, [], ◌∷◌, ◌++◌, Option, Some, None, refl, sym, ap, ◌∙◌, subst, append-nil}
 use Rattle.std.specs.Prelude.{IfSome, Result, Ok, Err, flat_map, option_map}
 use Rattle.mesh_base.specs.declared.sub_id.SubId.{SubId}
 use Rattle.view_types.specs.declared.message.Message.{Message}
@@ -19,7 +19,8 @@ use Rattle.feed_history.specs.declared.refusal.NoSuchId.{NoSuchId as NotLive}
 use Rattle.feed_history.specs.declared.refusal.Refusal.{Refusal}
 use Rattle.feed_history.specs.declared.refusal.Refusal.TheVariants as refusals
 use Rattle.feed_step.specs.Transcript.{reply_text}
-use Rattle.feed_step.specs.LineStep.{Drains, IsRefusalBy, IsUndrained, LengthFits, Makes, Replied, Unreplied, drain_refusal, drained_as, drained_lines, drained_unless}
+use Rattle.mesh_hub.specs.Due.{BecomeDueIfOk, Leaves, LeavesUnlessMemory}
+use Rattle.feed_step.specs.LineStep.{Drains, DueIf, IsRefusalBy, IsUndrained, LengthFits, Makes, Replied, Unreplied, drain_refusal, drained_as, drained_lines, drained_unless}
 use Rattle.feed_step.specs.declared.drain.Drained.{Drained}
 use Rattle.feed_step.specs.declared.drain.Drained.TheVariants.{Sent, Ended, Undrained}
 
@@ -163,3 +164,21 @@ module _ (id : SubId) (out out_new : List ℕ) (old new : List Reply) where
 -- a call that adds no reply
 pub unreplied_extends : (a b : Option (List Reply)) (refusal : Option Refusal) → Becomes a b (Unreplied refusal) → Becomes a b Extends
 unreplied_extends a b refusal unreplied = Becomes-weaker a b (Unreplied refusal) Extends (λ xs ys is. record { added = []; adds = is.none ∙ sym (append-nil xs) }) unreplied
+
+-- ---- which ids are due
+
+pub due_err : (test : ℕ → Bool) (cause : HubFault) (refusal : Option Refusal) (was now : ℕ → Bool) → BecomeDueIfOk test (Err cause) was now → IsRefusalBy cause refusal → DueIf refusal test was now
+due_err test Memory refusal was now stays is = absurd is
+due_err test (Full held) refusal was now stays is = subst (λ r. DueIf r test was now) (sym is) stays
+due_err test (TooManySubs live) refusal was now stays is = subst (λ r. DueIf r test was now) (sym is) stays
+due_err test (IdOrder last) refusal was now stays is = subst (λ r. DueIf r test was now) (sym is) stays
+due_err test (NoSuchId id) refusal was now stays is = subst (λ r. DueIf r test was now) (sym is) stays
+due_err test (Oversize bytes) refusal was now stays is = subst (λ r. DueIf r test was now) (sym is) stays
+
+pub left_err : (id : ℕ) (cause : HubFault) (outcome : Drained) (out out_new : List ℕ) (was now : ℕ → Bool) → LeavesUnlessMemory {T = List (List ℕ)} id (Err cause) was now → IsUndrained id cause out out_new outcome → Leaves id was now
+left_err id Memory outcome out out_new was now leaves is = absurd is
+left_err id (Full held) outcome out out_new was now leaves is = leaves
+left_err id (TooManySubs live) outcome out out_new was now leaves is = leaves
+left_err id (IdOrder last) outcome out out_new was now leaves is = leaves
+left_err id (NoSuchId unknown) outcome out out_new was now leaves is = leaves
+left_err id (Oversize bytes) outcome out out_new was now leaves is = leaves

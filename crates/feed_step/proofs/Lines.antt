@@ -1,28 +1,23 @@
 -- What a line comes to, from what the call that it asks for comes to.
-use Rattle.std.proofs.Common.{◌≡◌, ℕ, Bool, false, ◌||◌, List, [], ◌∷◌, ◌++◌, map, Option, Some, None, refl, sym, ap, ◌∙◌, subst, append-nil, inl, inr}
+use Rattle.std.proofs.Common.{◌≡◌, ℕ, ◌≤◌, true, false, cond, ◌||◌, List, [], ◌∷◌, ◌++◌, map, Option, Some, None, refl, sym, ap, ◌∙◌, subst, append-nil, inl, inr}
 use Rattle.std.specs.Prelude.{IfOk, IfSome, Result, Ok, Err, is_some, option_map}
 use Rattle.std.proofs.lemmas.List.{map-append}
-use Rattle.mesh_base.specs.declared.limits.Limits.{Limits}
 use Rattle.mesh_base.specs.declared.sub_id.SubId.{SubId}
-use Rattle.view_types.specs.declared.config.Config.{Config}
+use Rattle.view_types.specs.Objects.{ObjectMap}
 use Rattle.view_types.specs.declared.query.Query.{Query}
 use Rattle.view_types.specs.declared.request.Request.{Request}
-use Rattle.route_match.specs.Matching.{Pat}
 use Rattle.request_sim.specs.declared.fault.SimFault.{SimFault}
 use Rattle.watch_events.specs.declared.event.Event.{Event}
 use Rattle.watch_events.specs.declared.line.Line.{Line}
 use Rattle.watch_events.specs.declared.line.Line.TheVariants as lines
-use Rattle.watch_events.specs.declared.line.LineFault.{LineFault}
-use Rattle.watch_events.specs.declared.line.LineFault.TheVariants as faults
-use Rattle.watch_events.specs.Given.{Fails}
 use Rattle.feed_history.specs.Optional.{Becomes}
 use Rattle.feed_history.proofs.Optional.{Becomes-same}
 use Rattle.feed_history.specs.Drains.{unless_too_long}
-use Rattle.feed_history.specs.History.{Asked, State, after_line, asked_at, hub_refusal, id_of, messages_due, told_now, too_long_for, ids_of}
+use Rattle.feed_history.specs.History.{Asked, State, after_line, asked_at, hub_refusal, id_of, line_refusal, messages_due, refusal_of, told_now, too_long_for, ids_of}
 use Rattle.mesh_hub.specs.Hub.{HubState, applied, apply_refusal, cancelled, new_refusal, sub_at, subscribed}
 use Rattle.feed_history.specs.Ids.{ended, in_place, unknown_refusal, unless_refused}
-use Rattle.feed_history.specs.Output.{drain_lines, lines_if_live, message_lines, row_piece}
-use Rattle.feed_history.specs.Program.{Program, refused_unread, replay_of}
+use Rattle.feed_history.specs.Output.{drain_lines, line_text, lines_if_live, message_lines, row_piece}
+use Rattle.feed_history.specs.Program.{Program, has_place_in_replay}
 use Rattle.mesh_hub.specs.HubAfter.{seen, seen_sub}
 use Rattle.mesh_hub.specs.declared.machine.Reply.{Reply}
 use Rattle.mesh_hub.specs.declared.machine.Reply.TheVariants as replies
@@ -33,12 +28,12 @@ use Rattle.feed_history.proofs.Placed.{found_has_id}
 use Rattle.subscriptions.proofs.Mapped.{mapped_in_place}
 use Rattle.mesh_hub.proofs.HubSteps.{applied_seen, cancelled_seen, drained_seen, same_in_place, sub_seen, subscribe_refused, subscribed_seen, unknown_refused}
 use Rattle.feed_history.specs.Lengths.{HasLength, RowHasLength}
-use Rattle.feed_step.specs.Transcript.{Saying, refusal_in, reply_text, said_by, saying, sim_text, with_reply}
-use Rattle.feed_history.specs.KnownPatterns.{PatternsNow, facts_in, known_of}
+use Rattle.feed_step.specs.Transcript.{Saying, refusal_in, reply_text, said_by, said_by_line, saying, sim_text, with_reply}
+use Rattle.feed_history.specs.KnownPatterns.{PatternsNow, facts_in}
 use Rattle.feed_history.specs.MarkCauses.{MayMeetBy}
-use Rattle.feed_step.specs.LineStep.{Drains, IsMetIfAny, IsSimulated, IsTold, IsUnread, LengthFits, Makes, Replied, TakesByReplies, TakesFrom, Unreplied, drain_refusal, drained_as, drained_lines, drained_unless, led_to, live_drained, live_unless, text_unless}
+use Rattle.feed_step.specs.LineStep.{Calls, Drains, IsMetIfAny, IsSimulated, LengthFits, Makes, Replied, TakesByReplies, TakesFrom, Unreplied, drain_refusal, drained_as, drained_lines, drained_unless, held_next, led_to, live_drained, live_unless, text_unless}
 use Rattle.feed_step.specs.declared.drain.Drained.{Drained}
-use Rattle.feed_history.proofs.Marks.{none_more}
+use Rattle.feed_history.proofs.Marks.{none_met}
 
 pub IfOk-weaker : {T E : Type 0} (r : Result T E) (P Q : T → Type 0) → ((x : T) → P x → Q x) → IfOk r P → IfOk r Q
 IfOk-weaker (Ok x) P Q weaker holds = weaker x holds
@@ -47,6 +42,29 @@ IfOk-weaker (Err e) P Q weaker holds = tt
 pub IfOk-both : {T E : Type 0} (r : Result T E) (P Q R : T → Type 0) → ((x : T) → P x → Q x → R x) → IfOk r P → IfOk r Q → IfOk r R
 IfOk-both (Ok x) P Q R joins first second = joins x first second
 IfOk-both (Err e) P Q R joins first second = tt
+
+pub IfSome-weaker : {T : Type 0} (o : Option T) (P Q : T → Type 0) → ((x : T) → P x → Q x) → IfSome o P → IfSome o Q
+IfSome-weaker (Some x) P Q weaker holds = weaker x holds
+IfSome-weaker None P Q weaker holds = tt
+
+pub IfSome-both : {T : Type 0} (o : Option T) (P Q R : T → Type 0) → ((x : T) → P x → Q x → R x) → IfSome o P → IfSome o Q → IfSome o R
+IfSome-both (Some x) P Q R joins first second = joins x first second
+IfSome-both None P Q R joins first second = tt
+
+pub IfSome-all : {T : Type 0} (o : Option T) (P : T → Type 0) → ((x : T) → P x) → IfSome o P
+IfSome-all (Some x) P all = all x
+IfSome-all None P all = tt
+
+-- a refused line leaves the objects as they were
+pub held_still : (held : ObjectMap) (refusal : Refusal) (line : Result Line Refusal) → held_next held (Some refusal) line ≡ held
+held_still held refusal (Ok (lines.Event event)) = refl
+held_still held refusal (Ok (lines.Subscribe id query)) = refl
+held_still held refusal (Ok (lines.Cancel id)) = refl
+held_still held refusal (Ok (lines.Drain id)) = refl
+held_still held refusal (Ok (lines.Simulate request)) = refl
+held_still held refusal (Ok lines.Blank) = refl
+held_still held refusal (Ok lines.Stop) = refl
+held_still held refusal (Err fault) = refl
 
 no_text : (refusal : Option Refusal) (out : List ℕ) → out ≡ out ++ text_unless refusal []
 no_text None out = sym (append-nil out)
@@ -64,25 +82,45 @@ length_unless : (program : Program) (now : State) (line : Result Line Refusal) (
 length_unless program now line None fits = fits
 length_unless program now line (Some refused) fits = tt
 
--- where no pattern was matched
-module _ (config : Config) (limits : Limits) (pat : Pat) (tells : Option Pat) (refuses : Option (List ℕ → Bool)) (count number : ℕ) where
-  abbrev program : Program
-  program = replay_of config limits pat
+-- a line that has a place is refused only for its effect
+placed : (program : Program) (now : State) (met : Option SimFault) (line : Line) → program.has_place line ≡ true → refusal_of program now met (Ok line) ≡ line_refusal program now met line
+placed program now met line has = ap (λ b. cond b (line_refusal program now met line) (Some refusals.NotHere)) has
 
-  abbrev still : PatternsNow
-  still = known_of tells refuses count count
+module _ (program : Program) (known : PatternsNow) (later : known.before ≤ known.now) (number : ℕ) where
+  -- a row that was refused unread
+  pub unread_from : (refusal : Refusal) (live out : List ℕ) (state : HubState) → TakesFrom program known number (Err refusal) (Some refusal) live live out out state state
+  unread_from refusal live out state now here lives =
+      record { met = None; counted = none_met known.before known.now later; may_meet = tt; refusal_is = refl; fits = tt; state = here; live_ids = lives; text = λ told. sym (append-nil out) }
 
-  pub blank_from : (live out : List ℕ) (state : HubState) → TakesFrom program still number (Ok lines.Blank) None live live out out state state
-  blank_from live out state now here lives =
-      record { met = None; counted = none_more count; may_meet = tt; refusal_is = refl; fits = tt; state = here; live_ids = lives; text = λ told. sym (append-nil out) }
+  -- a line that has no place
+  pub unplaced_from : (line : Line) → program.has_place line ≡ false → (live out : List ℕ) (state : HubState) → TakesFrom program known number (Ok line) (Some refusals.NotHere) live live out out state state
+  unplaced_from line none live out state now here lives = record {
+    met = None;
+    counted = none_met known.before known.now later;
+    may_meet = tt;
+    refusal_is = sym (ap (λ b. cond b (line_refusal program now None line) (Some refusals.NotHere)) none);
+    fits = tt;
+    state = here;
+    live_ids = lives;
+    text = λ told. sym (append-nil out);
+  }
 
-  pub stop_from : (live out : List ℕ) (state : HubState) → TakesFrom program still number (Ok lines.Stop) (Some refusals.NotHere) live live out out state state
-  stop_from live out state now here lives =
-      record { met = None; counted = none_more count; may_meet = tt; refusal_is = refl; fits = tt; state = here; live_ids = lives; text = λ told. sym (append-nil out) }
-
-  pub unread_from : (fault : LineFault) (live out : List ℕ) (state : HubState) → TakesFrom program still number (Err (refusals.Line fault)) (Some (refusals.Line fault)) live live out out state state
-  unread_from fault live out state now here lives =
-      record { met = None; counted = none_more count; may_meet = tt; refusal_is = refl; fits = tt; state = here; live_ids = lives; text = λ told. sym (append-nil out) }
+  -- a line that is accepted and changes nothing
+  still_from : (line : Line) → program.has_place line ≡ true → ((now : State) → (line_refusal program now None line ≡ None) × (after_line program now (Ok line) ≡ now) × RowHasLength program now None (Ok line) × (line_text program number now (Ok line) ≡ []))
+      → (refusal : Option Refusal) (live live_new out out_new : List ℕ) (old new : HubState) → (refusal ≡ None) × (live_new ≡ live) × (out_new ≡ out) × (new ≡ old)
+      → TakesFrom program known number (Ok line) refusal live live_new out out_new old new
+  still_from line has still refusal live live_new out out_new old new rests now here lives =
+      let stays = still now in
+      let led : now ≡ led_to program now refusal (Ok line) = sym (ap (λ (r : Option Refusal). led_to program now r (Ok line)) rests.0 ∙ stays.1) in record {
+        met = None;
+        counted = none_met known.before known.now later;
+        may_meet = tt;
+        refusal_is = rests.0 ∙ sym stays.0 ∙ sym (placed program now None line has);
+        fits = subst (λ (r : Option Refusal). RowHasLength program now r (Ok line)) (sym rests.0) stays.2;
+        state = rests.3 ∙ here ∙ ap (seen program) led;
+        live_ids = rests.1 ∙ lives ∙ ap (λ (s : State). ids_of s.subs) led;
+        text = λ told. rests.2 ∙ sym (append-nil out) ∙ ap (λ (xs : List ℕ). out ++ xs) (sym (ap (λ (r : Option Refusal). text_unless r (line_text program number now (Ok line))) rests.0 ∙ stays.3));
+      }
 
   -- a call leads where its line leads
   led : (now : State) (line : Line) (refusal : Option Refusal) (new : HubState) → refusal ≡ option_map refusals.Hub (hub_refusal program now line)
@@ -97,18 +135,18 @@ module _ (config : Config) (limits : Limits) (pat : Pat) (tells : Option Pat) (r
   event_ids now event None = refl
   event_ids now event (Some refusal) = refl
 
-  pub event_from : (event : Event) (refusal : Option Refusal) (live out : List ℕ) (old new : HubState) → Makes (apply_refusal old event) (applied old event) refusal new
-      → TakesFrom program still number (Ok (lines.Event event)) refusal live live out out old new
-  event_from event refusal live out old new makes now here lives =
+  event_from : (event : Event) → program.has_place (lines.Event event) ≡ true → (refusal : Option Refusal) (live live_new out out_new : List ℕ) (old new : HubState)
+      → Makes (apply_refusal old event) (applied old event) refusal new → live_new ≡ live → out_new ≡ out → TakesFrom program known number (Ok (lines.Event event)) refusal live live_new out out_new old new
+  event_from event has refusal live live_new out out_new old new makes same silent now here lives =
       let made = subst (λ (s : HubState). Makes (apply_refusal s event) (applied s event) refusal new) here makes in record {
         met = None;
-        counted = none_more count;
+        counted = none_met known.before known.now later;
         may_meet = tt;
-        refusal_is = made.refusal_is;
+        refusal_is = made.refusal_is ∙ sym (placed program now None (lines.Event event) has);
         fits = length_unless program now (Ok (lines.Event event)) refusal tt;
         state = led now (lines.Event event) refusal new made.refusal_is (made.state ∙ applied_seen program now event);
-        live_ids = lives ∙ event_ids now event refusal;
-        text = λ told. no_text refusal out;
+        live_ids = same ∙ lives ∙ event_ids now event refusal;
+        text = λ told. silent ∙ no_text refusal out;
       }
 
   new_ids : (now : State) (id : SubId) (query : Query) (live : List ℕ) (refusal : Option Refusal) → live ≡ ids_of now.subs
@@ -116,19 +154,20 @@ module _ (config : Config) (limits : Limits) (pat : Pat) (tells : Option Pat) (r
   new_ids now id query live None lives = ap (λ (xs : List ℕ). xs ++ id.0 ∷ []) lives ∙ sym (map-append id_of now.subs (record { id = id; query = query; told = None } ∷ []))
   new_ids now id query live (Some refusal) lives = lives
 
-  pub subscribe_from : (id : SubId) (query : Query) (refusal : Option Refusal) (live live_new out : List ℕ) (old new : HubState) → Makes (new_refusal old id.0) (subscribed old id query) refusal new
-      → live_new ≡ live_unless refusal live (live ++ id.0 ∷ []) → TakesFrom program still number (Ok (lines.Subscribe id query)) refusal live live_new out out old new
-  subscribe_from id query refusal live live_new out old new makes adds now here lives =
+  subscribe_from : (id : SubId) (query : Query) → program.has_place (lines.Subscribe id query) ≡ true → (refusal : Option Refusal) (live live_new out out_new : List ℕ) (old new : HubState)
+      → Makes (new_refusal old id.0) (subscribed old id query) refusal new → live_new ≡ live_unless refusal live (live ++ id.0 ∷ []) → out_new ≡ out
+      → TakesFrom program known number (Ok (lines.Subscribe id query)) refusal live live_new out out_new old new
+  subscribe_from id query has refusal live live_new out out_new old new makes adds silent now here lives =
       let made = subst (λ (s : HubState). Makes (new_refusal s id.0) (subscribed s id query) refusal new) here makes in
       let is = made.refusal_is ∙ ap (option_map refusals.Hub) (subscribe_refused program now id query) in record {
         met = None;
-        counted = none_more count;
+        counted = none_met known.before known.now later;
         may_meet = tt;
-        refusal_is = is;
+        refusal_is = is ∙ sym (placed program now None (lines.Subscribe id query) has);
         fits = length_unless program now (Ok (lines.Subscribe id query)) refusal tt;
         state = led now (lines.Subscribe id query) refusal new is (made.state ∙ subscribed_seen program now id query);
         live_ids = adds ∙ new_ids now id query live refusal lives;
-        text = λ told. no_text refusal out;
+        text = λ told. silent ∙ no_text refusal out;
       }
 
   cancelled_ids : (now : State) (id : SubId) (live : List ℕ) (refusal : Option Refusal) → live ≡ ids_of now.subs
@@ -137,19 +176,20 @@ module _ (config : Config) (limits : Limits) (pat : Pat) (tells : Option Pat) (r
       ap (in_place (λ other. other) id.0 ended) lives ∙ sym (mapped_in_place id_of id_of (λ other. other) (λ asked. refl) id.0 ended ended now.subs (λ asked found. refl))
   cancelled_ids now id live (Some refusal) lives = lives
 
-  pub cancel_from : (id : SubId) (refusal : Option Refusal) (live live_new out : List ℕ) (old new : HubState) → Makes (unknown_refusal id.0 (sub_at id.0 old.subs)) (cancelled old id.0) refusal new
-      → live_new ≡ live_unless refusal live (in_place (λ other. other) id.0 ended live) → TakesFrom program still number (Ok (lines.Cancel id)) refusal live live_new out out old new
-  cancel_from id refusal live live_new out old new makes removes now here lives =
+  cancel_from : (id : SubId) → program.has_place (lines.Cancel id) ≡ true → (refusal : Option Refusal) (live live_new out out_new : List ℕ) (old new : HubState)
+      → Makes (unknown_refusal id.0 (sub_at id.0 old.subs)) (cancelled old id.0) refusal new → live_new ≡ live_unless refusal live (in_place (λ other. other) id.0 ended live) → out_new ≡ out
+      → TakesFrom program known number (Ok (lines.Cancel id)) refusal live live_new out out_new old new
+  cancel_from id has refusal live live_new out out_new old new makes removes silent now here lives =
       let made = subst (λ (s : HubState). Makes (unknown_refusal id.0 (sub_at id.0 s.subs)) (cancelled s id.0) refusal new) here makes in
       let is = made.refusal_is ∙ ap (option_map refusals.Hub) (unknown_refused program now id.0) in record {
         met = None;
-        counted = none_more count;
+        counted = none_met known.before known.now later;
         may_meet = tt;
-        refusal_is = is;
+        refusal_is = is ∙ sym (placed program now None (lines.Cancel id) has);
         fits = length_unless program now (Ok (lines.Cancel id)) refusal tt;
         state = led now (lines.Cancel id) refusal new is (made.state ∙ cancelled_seen program now id);
         live_ids = removes ∙ cancelled_ids now id live refusal lives;
-        text = λ told. no_text refusal out;
+        text = λ told. silent ∙ no_text refusal out;
       }
 
   -- ---- a drain
@@ -157,7 +197,7 @@ module _ (config : Config) (limits : Limits) (pat : Pat) (tells : Option Pat) (r
   module _ (now : State) (id : SubId) where
     -- what comes of it where this stands under the id
     abbrev outcome_at : Option Asked → Drained
-    outcome_at found = drained_as (seen program now) id.0 (option_map (seen_sub config) found)
+    outcome_at found = drained_as (seen program now) id.0 (option_map (seen_sub program.config) found)
 
     drain_refused : (found : Option Asked) → drain_refusal (outcome_at found) ≡ option_map refusals.Hub (unknown_refusal id.0 found)
     drain_refused None = refl
@@ -191,18 +231,19 @@ module _ (config : Config) (limits : Limits) (pat : Pat) (tells : Option Pat) (r
         by_length (Some n) short = ap (in_place (λ other. other) id.0 ended) lives ∙ sym (placed_ids asked (Some n) is short)
 
     drained_text : (found : Option Asked) → asked_at id.0 now.subs ≡ found
-        → drained_lines (seen program now) id.0 (option_map (seen_sub config) found) ≡ text_unless (drain_refusal (outcome_at found)) (lines_if_live program now.objects found)
+        → drained_lines (seen program now) id.0 (option_map (seen_sub program.config) found) ≡ text_unless (drain_refusal (outcome_at found)) (lines_if_live program now.objects found)
     drained_text None is = refl
     drained_text (Some asked) is =
-        ap (λ (n : ℕ). message_lines limits.message n (messages_due program now.objects asked)) (sym (found_has_id id_of id.0 now.subs asked is)) ∙ by_length (too_long_for program now.objects asked)
+        ap (λ (n : ℕ). message_lines program.limits.message n (messages_due program now.objects asked)) (sym (found_has_id id_of id.0 now.subs asked is)) ∙ by_length (too_long_for program now.objects asked)
       where
         by_length : (bytes : Option ℕ) → lines_if_live program now.objects (Some asked) ≡ text_unless (drain_refusal (drained_unless bytes)) (lines_if_live program now.objects (Some asked))
         by_length None = refl
         by_length (Some n) = refl
 
-  pub drain_from : (id : SubId) (outcome : Drained) (refusal : Option Refusal) (live live_new out out_new : List ℕ) (old new : HubState) → Drains id outcome out out_new old new
-      → refusal ≡ drain_refusal outcome → live_new ≡ live_drained id.0 outcome live → TakesFrom program still number (Ok (lines.Drain id)) refusal live live_new out out_new old new
-  drain_from id outcome refusal live live_new out out_new old new drains refuses leaves now here lives =
+  drain_from : (id : SubId) → program.has_place (lines.Drain id) ≡ true → (outcome : Drained) (refusal : Option Refusal) (live live_new out out_new : List ℕ) (old new : HubState)
+      → Drains id outcome out out_new old new → refusal ≡ drain_refusal outcome → live_new ≡ live_drained id.0 outcome live
+      → TakesFrom program known number (Ok (lines.Drain id)) refusal live live_new out out_new old new
+  drain_from id has outcome refusal live live_new out out_new old new drains refuses leaves now here lives =
       let drained = subst (λ (s : HubState). Drains id outcome out out_new s new) here drains in
       let found = asked_at id.0 now.subs in
       let expected = outcome_at now id found in
@@ -210,9 +251,9 @@ module _ (config : Config) (limits : Limits) (pat : Pat) (tells : Option Pat) (r
       let refusal_is : refusal ≡ drain_refusal expected = refuses ∙ ap drain_refusal outcome_is in
       let is = refusal_is ∙ drain_refused now id found in record {
         met = None;
-        counted = none_more count;
+        counted = none_met known.before known.now later;
         may_meet = tt;
-        refusal_is = is;
+        refusal_is = is ∙ sym (placed program now None (lines.Drain id) has);
         fits = length_unless program now (Ok (lines.Drain id)) refusal (length_here program now found (subst (LengthFits (seen program now)) (sub_seen program now id.0) drained.fits));
         state = led now (lines.Drain id) refusal new is (drained.state ∙ drained_seen program now id);
         live_ids = leaves ∙ ap (λ (o : Drained). live_drained id.0 o live) outcome_is ∙ drained_ids now id live found lives refl
@@ -221,32 +262,42 @@ module _ (config : Config) (limits : Limits) (pat : Pat) (tells : Option Pat) (r
             ∙ ap (λ (r : Option Refusal). text_unless r (drain_lines program now id.0)) (sym refusal_is));
       }
 
--- ---- a simulation
+  -- ---- a simulation
 
-module _ (config : Config) (limits : Limits) (pat : Pat) (known : PatternsNow) (number : ℕ) (request : Request) where
-  simulated_state : (now : State) (refusal : Option Refusal) → now ≡ led_to (replay_of config limits pat) now refusal (Ok (lines.Simulate request))
-  simulated_state now None = refl
-  simulated_state now (Some refusal) = refl
+  simulated_state : (request : Request) (now : State) (refusal : Option Refusal) → now ≡ led_to program now refusal (Ok (lines.Simulate request))
+  simulated_state request now None = refl
+  simulated_state request now (Some refusal) = refl
 
-  may_meet_by : (now : State) (met : Option SimFault) → IsMetIfAny (seen (replay_of config limits pat) now) (facts_in known) request met → MayMeetBy now (facts_in known) (Ok (lines.Simulate request)) met
-  may_meet_by now None may = tt
-  may_meet_by now (Some fault) may = record { request = request; simulates = refl; met = may }
+  may_meet_by : (request : Request) (now : State) (met : Option SimFault) → IsMetIfAny (seen program now) (facts_in known) request met → MayMeetBy now (facts_in known) (Ok (lines.Simulate request)) met
+  may_meet_by request now None may = tt
+  may_meet_by request now (Some fault) may = record { request = request; simulates = refl; met = may }
 
-  pub simulate_from : (refusal : Option Refusal) (live out out_new : List ℕ) (old new : HubState) → IsSimulated known number request refusal out out_new old new
-      → TakesFrom (replay_of config limits pat) known number (Ok (lines.Simulate request)) refusal live live out out_new old new
-  simulate_from refusal live out out_new old new simulated now here lives =
-      let program = replay_of config limits pat in
+  simulate_from : (request : Request) → program.has_place (lines.Simulate request) ≡ true → (refusal : Option Refusal) (live live_new out out_new : List ℕ) (old new : HubState)
+      → IsSimulated known number request refusal out out_new old new → live_new ≡ live → TakesFrom program known number (Ok (lines.Simulate request)) refusal live live_new out out_new old new
+  simulate_from request has refusal live live_new out out_new old new simulated same now here lives =
       let made = subst (λ (s : HubState). IsSimulated known number request refusal out out_new s new) here simulated in
-      let led = simulated_state now refusal in record {
+      let led = simulated_state request now refusal in record {
         met = made.met;
         counted = made.counted;
-        may_meet = may_meet_by now made.met made.may_meet;
-        refusal_is = made.refusal_is;
+        may_meet = may_meet_by request now made.met made.may_meet;
+        refusal_is = made.refusal_is ∙ sym (placed program now made.met (lines.Simulate request) has);
         fits = length_unless program now (Ok (lines.Simulate request)) refusal tt;
         state = made.state ∙ ap (seen program) led;
-        live_ids = lives ∙ ap (λ (s : State). ids_of s.subs) led;
-        text = λ told. elim told [ inl is ↦ made.text pat is | inr none ↦ absurd (none request refl) ];
+        live_ids = same ∙ lives ∙ ap (λ (s : State). ids_of s.subs) led;
+        text = λ told. elim told [ inl is ↦ made.text program.matches is | inr none ↦ absurd (none request refl) ];
       }
+
+  -- ---- any line that has a place
+
+  pub called_from : (line : Line) → program.has_place line ≡ true → (refusal : Option Refusal) (live live_new out out_new : List ℕ) (old new : HubState)
+      → Calls known number line refusal live live_new out out_new old new → TakesFrom program known number (Ok line) refusal live live_new out out_new old new
+  called_from (lines.Event event) has refusal live live_new out out_new old new calls = event_from event has refusal live live_new out out_new old new calls.0 calls.1 calls.2
+  called_from (lines.Subscribe id query) has refusal live live_new out out_new old new calls = subscribe_from id query has refusal live live_new out out_new old new calls.0 calls.1 calls.2
+  called_from (lines.Cancel id) has refusal live live_new out out_new old new calls = cancel_from id has refusal live live_new out out_new old new calls.0 calls.1 calls.2
+  called_from (lines.Drain id) has refusal live live_new out out_new old new calls = drain_from id has calls.0 refusal live live_new out out_new old new calls.1 calls.2 calls.3
+  called_from (lines.Simulate request) has refusal live live_new out out_new old new calls = simulate_from request has refusal live live_new out out_new old new calls.0 calls.1
+  called_from lines.Blank has refusal live live_new out out_new old new calls = still_from lines.Blank has (λ now. (refl, refl, tt, refl)) refusal live live_new out out_new old new calls
+  called_from lines.Stop has refusal live live_new out out_new old new calls = still_from lines.Stop has (λ now. (refl, refl, tt, refl)) refusal live live_new out out_new old new calls
 
 -- ---- by the replies
 
@@ -274,7 +325,7 @@ sim_texts number ns (replies.TooBig id bytes) = refl
 sim_texts number ns (replies.Verdict found) = refl
 sim_texts number ns (replies.Pattern fault) = refl
 
-module _ (number : ℕ) (line : Result Line LineFault) (out : List ℕ) where
+module _ (number : ℕ) (line : Result Line Refusal) (out : List ℕ) where
   -- a line that takes a reply
   takes_reply_as : (text : Reply → List ℕ) → IsPlain text → (refusal : Option Refusal) (out_new : List ℕ) (old new : List Reply) → ((left : List Reply) (more : List Reply → List Saying) → said_by number line left more ≡ with_reply text number left more)
       → Replied text refusal out out_new old new → TakesByReplies number line refusal out out_new old new
@@ -345,32 +396,11 @@ cancel_takes number id refusal out old new unreplied =
 
 -- ---- a row that doesn't read
 
-read_is : (fault : LineFault) (read : Result Line LineFault) → IsTold fault → Fails fault read → read ≡ Err fault
-read_is faults.Memory read told fails = absurd told
-read_is faults.TooLong read told fails = fails
-read_is faults.NotJson read told fails = fails
-read_is faults.NoForm read told fails = fails
-read_is faults.UnknownType read told fails = fails
-read_is faults.ErrorEvent read told fails = fails
-read_is faults.UnknownKind read told fails = fails
-read_is (faults.Object fault) read told fails = fails
-read_is (faults.RepeatedItem place) read told fails = fails
-read_is (faults.BadQuery path) read told fails = fails
+pub unread_says : (number : ℕ) (refusal : Refusal) (out : List ℕ) (told : Option (List Reply)) → Becomes told told (TakesByReplies number (Err refusal) (Some refusal) out out)
+unread_says number refusal out told = Becomes-same told (TakesByReplies number (Err refusal) (Some refusal) out out) (λ replies. takes_refusal number (Err refusal) out refusal replies (λ left more. refl))
 
-module _ (fault : LineFault) (read : Result Line LineFault) (refusal : Option Refusal) (number : ℕ) where
-  pub unread_stays : (config : Config) (limits : Limits) (pat : Pat) (tells : Option Pat) (refuses : Option (List ℕ → Bool)) (count : ℕ) (live out : List ℕ) (state : Option HubState) → IsUnread fault refusal → Fails fault read
-      → Becomes state state (TakesFrom (replay_of config limits pat) (known_of tells refuses count count) number (refused_unread read) refusal live live out out)
-  unread_stays config limits pat tells refuses count live out state unread fails =
-      let program = replay_of config limits pat in
-      let still = known_of tells refuses count count in
-      subst (λ (r : Result Line LineFault). Becomes state state (TakesFrom program still number (refused_unread r) refusal live live out out)) (sym (read_is fault read unread.told fails))
-      (subst (λ (r : Option Refusal). Becomes state state (TakesFrom program still number (Err (refusals.Line fault)) r live live out out)) (sym unread.refuses)
-      (Becomes-same state (TakesFrom program still number (Err (refusals.Line fault)) (Some (refusals.Line fault)) live live out out)
-      (λ s. unread_from config limits pat tells refuses count number fault live out s)))
-
-  pub unread_said : (out : List ℕ) (told : Option (List Reply)) → IsUnread fault refusal → Fails fault read → Becomes told told (TakesByReplies number read refusal out out)
-  unread_said out told unread fails =
-      subst (λ (r : Result Line LineFault). Becomes told told (TakesByReplies number r refusal out out)) (sym (read_is fault read unread.told fails))
-      (subst (λ (r : Option Refusal). Becomes told told (TakesByReplies number (Err fault) r out out)) (sym unread.refuses)
-      (Becomes-same told (TakesByReplies number (Err fault) (Some (refusals.Line fault)) out out)
-      (λ replies. takes_refusal number (Err fault) out (refusals.Line fault) replies (λ left more. refl))))
+pub unplaced_says : (number : ℕ) (line : Line) → has_place_in_replay line ≡ false → (out : List ℕ) (told : Option (List Reply)) → Becomes told told (TakesByReplies number (Ok line) (Some refusals.NotHere) out out)
+unplaced_says number line none out told =
+    Becomes-same told (TakesByReplies number (Ok line) (Some refusals.NotHere) out out)
+    (λ replies. takes_refusal number (Ok line) out refusals.NotHere replies
+    (λ left more. ap (λ b. cond b (said_by_line number line left more) (saying number (Some refusals.NotHere) [] ∷ more left)) none))

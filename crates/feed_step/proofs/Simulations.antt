@@ -31,6 +31,7 @@ module _ (tells : Option Pat) (refuses : Option (List ℕ → Bool)) (before now
     may_meet = tt;
     refusal_is = refl;
     state = simulates.state.same;
+    wrote = λ none. (found, writes);
     text = λ pat is. writes ∙ ap (λ (v : Verdict). out ++ verdict_line number request.ns v) (simulates.answer pat is);
   }
 
@@ -43,6 +44,7 @@ module _ (tells : Option Pat) (refuses : Option (List ℕ → Bool)) (before now
     may_meet = simulates.answer;
     refusal_is = is;
     state = simulates.state.same;
+    wrote = λ none. absurd (let some = sym is ∙ none in cc);
     text = λ pat told. same ∙ sym (append-nil out)
         ∙ ap (λ (r : Option Refusal). out ++ text_unless r (verdict_line number request.ns (verdict old.config old.objects pat request))) (sym is);
   }

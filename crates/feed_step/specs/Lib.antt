@@ -1,2 +1,4 @@
 pub mod LineStep
+pub mod Reading
+pub mod Sorts
 pub mod Transcript

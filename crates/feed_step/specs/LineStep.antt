@@ -1,10 +1,11 @@
 -- The effect of a step of a replay, by the machine's state and by its replies.
-use Rattle.std.specs.Prelude.{◌≡◌, ◌≤◌, ◌<◌, ◌+◌, ◌-◌, ◌^◌, ℕ, List, [], ◌∷◌, ◌++◌, Option, Some, None, Result, IfSome, is_some, min, option_map}
+use Rattle.std.specs.Prelude.{◌≡◌, ◌≤◌, ◌<◌, ◌+◌, ◌-◌, ◌^◌, ℕ, Bool, nat_eq, List, [], ◌∷◌, ◌++◌, Option, Some, None, Result, Ok, Err, IfSome, is_some, min, option_map}
 use Rattle.mesh_base.specs.declared.sub_id.SubId.{SubId}
+use Rattle.view_types.specs.Objects.{ObjectMap}
 use Rattle.view_types.specs.declared.request.Request.{Request}
+use Rattle.view_types.specs.declared.verdict.Verdict.{Verdict}
 use Rattle.watch_events.specs.declared.line.Line.{Line}
-use Rattle.watch_events.specs.declared.line.LineFault.{LineFault}
-use Rattle.watch_events.specs.declared.line.LineFault.TheVariants as line_faults
+use Rattle.watch_events.specs.declared.line.Line.TheVariants as lines
 use Rattle.request_rules.specs.Verdicts.{verdict}
 use Rattle.request_sim.specs.Faults.{IsMet}
 use Rattle.request_sim.specs.declared.fault.SimFault.{SimFault}
@@ -12,16 +13,19 @@ use Rattle.request_sim.specs.declared.fault.SimFault.TheVariants as sim
 use Rattle.route_match.specs.Asking.{PatternFacts}
 use Rattle.route_match.specs.Matching.{Pat}
 use Rattle.feed_history.specs.Drains.{too_long}
+use Rattle.feed_history.specs.Due.{is_touched}
+use Rattle.feed_history.specs.Events.{objects_after}
 use Rattle.feed_history.specs.History.{State, after_line, refusal_of, ids_of}
-use Rattle.mesh_hub.specs.Hub.{HubState, drained, messages_for, sub_at}
-use Rattle.feed_history.specs.Ids.{ended, in_place, unless_refused}
+use Rattle.mesh_hub.specs.Hub.{HubState, applied, apply_refusal, cancelled, drained, messages_for, new_refusal, sub_at, subscribed}
+use Rattle.feed_history.specs.Ids.{ended, in_place, unknown_refusal, unless_refused}
 use Rattle.feed_history.specs.Marks.{mark}
 use Rattle.feed_history.specs.Output.{line_text, message_lines, row_piece}
 use Rattle.feed_history.specs.Program.{Program}
+use Rattle.mesh_hub.specs.Due.{BecomeDue, Leaves, StayUnlessSpent}
 use Rattle.mesh_hub.specs.HubAfter.{seen}
 use Rattle.feed_history.specs.Text.{oversize_line}
 use Rattle.feed_history.specs.VerdictText.{verdict_line}
-use Rattle.subscriptions.specs.Live.{LiveSubscription}
+use Rattle.subscriptions.specs.Live.{LiveSubscription, query_at}
 use Rattle.mesh_hub.specs.declared.machine.Reply.{Reply}
 use Rattle.feed_history.specs.declared.refusal.HubFault.{HubFault}
 use Rattle.feed_history.specs.declared.refusal.HubFault.TheVariants as faults
@@ -138,19 +142,51 @@ pub record IsSimulated (known : PatternsNow) (number : ℕ) (request : Request) 
   pub may_meet : IsMetIfAny old (facts_in known) request met
   pub refusal_is : refusal ≡ option_map refusals.Sim met
   pub state : new ≡ old
+  pub wrote : refusal ≡ None → (found : Verdict) × (out_new ≡ out ++ verdict_line number request.ns found)
   pub text : (pat : Pat) → known.tells ≡ Some pat → out_new ≡ out ++ text_unless refusal (verdict_line number request.ns (verdict old.config old.objects pat request))
 
 -- ---- a line
 
--- a fault of a line, other than out of memory
-abbrev pub IsTold : LineFault → Type 0
-IsTold line_faults.Memory = ⊥
-IsTold _ = Unit {0}
+-- What the call of a line that has a place does in a state of the machine: the line is refused, for its cause, or accepted. A history
+-- need not have led to the state.
+abbrev pub Calls : PatternsNow → ℕ → Line → Option Refusal → List ℕ → List ℕ → List ℕ → List ℕ → HubState → HubState → Type 0
+Calls known number (lines.Event event) refusal live live_new out out_new old new =
+    Makes (apply_refusal old event) (applied old event) refusal new × (live_new ≡ live) × (out_new ≡ out)
+Calls known number (lines.Subscribe id query) refusal live live_new out out_new old new =
+    Makes (new_refusal old id.0) (subscribed old id query) refusal new × (live_new ≡ live_unless refusal live (live ++ id.0 ∷ [])) × (out_new ≡ out)
+Calls known number (lines.Cancel id) refusal live live_new out out_new old new =
+    Makes (unknown_refusal id.0 (sub_at id.0 old.subs)) (cancelled old id.0) refusal new × (live_new ≡ live_unless refusal live (in_place (λ other. other) id.0 ended live)) × (out_new ≡ out)
+Calls known number (lines.Drain id) refusal live live_new out out_new old new =
+    (outcome : Drained) × Drains id outcome out out_new old new × (refusal ≡ drain_refusal outcome) × (live_new ≡ live_drained id.0 outcome live)
+Calls known number (lines.Simulate request) refusal live live_new out out_new old new = IsSimulated known number request refusal out out_new old new × (live_new ≡ live)
+Calls known number lines.Blank refusal live live_new out out_new old new = (refusal ≡ None) × (live_new ≡ live) × (out_new ≡ out) × (new ≡ old)
+Calls known number lines.Stop refusal live live_new out out_new old new = (refusal ≡ None) × (live_new ≡ live) × (out_new ≡ out) × (new ≡ old)
 
--- the refusal of a line that cannot be read
-pub record IsUnread (fault : LineFault) (refusal : Option Refusal) : Type 0 where
-  pub refuses : refusal ≡ Some (refusals.Line fault)
-  pub told : IsTold fault
+-- if the line is accepted, the ids that pass the test become due; a refusal changes nothing
+abbrev pub DueIf : Option Refusal → (ℕ → Bool) → (ℕ → Bool) → (ℕ → Bool) → Type 0
+DueIf None test was now = BecomeDue test was now
+DueIf (Some refusal) test was now = (id : ℕ) → now id ≡ was id
+
+-- which ids are due after the call, given which were, and the machine's states
+abbrev pub CallsDue : Line → Option Refusal → HubState → Option HubState → (ℕ → Bool) → (ℕ → Bool) → Type 0
+CallsDue (lines.Event event) refusal old new was now = DueIf refusal (λ id. is_touched old.config old.objects event (query_at id old.subs)) was now
+CallsDue (lines.Subscribe asked query) refusal old new was now = DueIf refusal (λ id. nat_eq id asked.0) was now
+CallsDue (lines.Cancel asked) refusal old new was now = Leaves asked.0 was now
+CallsDue (lines.Drain asked) refusal old new was now = Leaves asked.0 was now
+CallsDue (lines.Simulate request) refusal old new was now = StayUnlessSpent new was now
+CallsDue lines.Blank refusal old new was now = (id : ℕ) → now id ≡ was id
+CallsDue lines.Stop refusal old new was now = (id : ℕ) → now id ≡ was id
+
+-- the objects held after a line that was refused or accepted
+abbrev pub held_next : ObjectMap → Option Refusal → Result Line Refusal → ObjectMap
+held_next held refusal (Ok (lines.Event event)) = unless_refused {A = Refusal} refusal held (objects_after held event)
+held_next held refusal (Ok (lines.Subscribe id query)) = held
+held_next held refusal (Ok (lines.Cancel id)) = held
+held_next held refusal (Ok (lines.Drain id)) = held
+held_next held refusal (Ok (lines.Simulate request)) = held
+held_next held refusal (Ok lines.Blank) = held
+held_next held refusal (Ok lines.Stop) = held
+held_next held refusal (Err fault) = held
 
 -- the state after a line that was refused or accepted
 abbrev pub led_to : Program → State → Option Refusal → Result Line Refusal → State
@@ -174,7 +210,7 @@ TakesFrom program known number line refusal live live_new out out_new old new =
     (now : State) → old ≡ seen program now → live ≡ ids_of now.subs → TakesByState program known number line refusal live_new out out_new now new
 
 -- The added replies are those to the line with this number.
-pub record TakesByReplies (number : ℕ) (line : Result Line LineFault) (refusal : Option Refusal) (out out_new : List ℕ) (old new : List Reply) : Type 0 where
+pub record TakesByReplies (number : ℕ) (line : Result Line Refusal) (refusal : Option Refusal) (out out_new : List ℕ) (old new : List Reply) : Type 0 where
   pub mine : List Reply
   pub adds : new ≡ old ++ mine
   pub text : List ℕ

@@ -8,9 +8,8 @@ use Rattle.view_types.specs.declared.config.Config.{Config}
 use Rattle.watch_events.specs.Lines.{row_says, text_line}
 use Rattle.watch_events.specs.declared.line.Line.{Line}
 use Rattle.watch_events.specs.declared.line.Line.TheVariants as lines
-use Rattle.watch_events.specs.declared.line.LineFault.{LineFault}
 use Rattle.feed_history.specs.Output.{row_piece}
-use Rattle.feed_history.specs.Program.{has_place_in_replay}
+use Rattle.feed_history.specs.Program.{has_place_in_replay, refused_unread}
 use Rattle.feed_history.specs.Text.{frame_line, oversize_line}
 use Rattle.feed_history.specs.VerdictText.{verdict_line}
 use Rattle.mesh_hub.specs.declared.machine.Reply.{Reply}
@@ -72,14 +71,14 @@ said_by_line number lines.Blank left more = more left
 said_by_line number lines.Stop left more = more left
 
 -- A line that cannot be read or has no place is refused, and uses up no reply.
-abbrev pub said_by : ℕ → Result Line LineFault → List Reply → (List Reply → List Saying) → List Saying
-said_by number (Err fault) left more = saying number (Some (refusals.Line fault)) [] ∷ more left
+abbrev pub said_by : ℕ → Result Line Refusal → List Reply → (List Reply → List Saying) → List Saying
+said_by number (Err refusal) left more = saying number (Some refusal) [] ∷ more left
 said_by number (Ok line) left more = if has_place_in_replay line then said_by_line number line left more else saying number (Some refusals.NotHere) [] ∷ more left
 
 -- the output from the row with this number on, the oldest row first
 abbrev pub said_from : Config → ℕ → List Row → List Reply → List Saying
 said_from config number [] left = map saying_left left
-said_from config number (row ∷ rows) left = said_by number (row_says (text_line config) row) left (said_from config (number + 1) rows)
+said_from config number (row ∷ rows) left = said_by number (refused_unread (row_says (text_line config) row)) left (said_from config (number + 1) rows)
 
 abbrev pub said : Config → Limits → List ℕ → List Reply → List Saying
 said config limits bytes replies = said_from config 1 (rows_of limits.line bytes) replies

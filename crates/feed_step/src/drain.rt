@@ -1,5 +1,6 @@
 ghost use Rattle.std.specs.Prelude.{IfOk};
 ghost use Rattle.feed_history.specs.Optional.{Becomes, Extends};
+ghost use Rattle.mesh_hub.specs.Due.{Leaves};
 ghost use Rattle.feed_step.specs.Transcript.{reply_text};
 ghost use Rattle.feed_step.specs.LineStep.{Drains, IsUndrained, Replied, drain_refusal};
 
@@ -52,6 +53,7 @@ pub fn drain<H: Machine>(
     ensures state { IfOk result (λ outcome.
         Becomes (H.state hub.old) (H.state hub.new)
         (Drains id outcome out.old.items out.new.items)) }
+    ensures due { IfOk result (λ outcome. Becomes (H.due hub.old) (H.due hub.new) (Leaves id.0)) }
     ensures replies { IfOk result (λ outcome.
         Becomes (H.replies hub.old) (H.replies hub.new)
         (Replied reply_text (drain_refusal outcome) out.old.items out.new.items)) }

@@ -1,11 +1,14 @@
 // The calls of a machine that lines make, and why a line is refused by its call.
-ghost use Rattle.std.specs.Prelude.{◌≡◌, ◌∷◌, [], ◌++◌, IfOk};
+ghost use Rattle.std.specs.Prelude.{◌≡◌, ◌∷◌, [], ◌++◌, IfOk, IfSome, nat_eq};
 ghost use Rattle.watch_events.specs.Lawful.{IsLawfulEvent};
 ghost use Rattle.mesh_hub.specs.Hub.{applied, apply_refusal, cancelled, new_refusal, sub_at, subscribed};
+ghost use Rattle.mesh_hub.specs.Due.{Leaves};
+ghost use Rattle.subscriptions.specs.Live.{query_at};
+ghost use Rattle.feed_history.specs.Due.{is_touched};
 ghost use Rattle.feed_history.specs.Ids.{ended, in_place, unknown_refusal};
 ghost use Rattle.feed_history.specs.Optional.{Becomes, Extends};
 ghost use Rattle.feed_step.specs.Transcript.{reply_text};
-ghost use Rattle.feed_step.specs.LineStep.{IsRefusalBy, IsRefusalFor, IsUnread, Makes, Replied, Unreplied, drain_refusal, live_drained, live_unless};
+ghost use Rattle.feed_step.specs.LineStep.{DueIf, IsRefusalBy, IsRefusalFor, Makes, Replied, Unreplied, drain_refusal, live_drained, live_unless};
 
 use crate::drain::Drained;
 use crate::lives::take_out;
@@ -19,7 +22,6 @@ use request_sim::fault::SimFault;
 use std::alloc::Global;
 use view_types::query::Query;
 use watch_events::event::Event;
-use watch_events::line::LineFault;
 
 // Returns the refusal for a fault.
 fn refusal_by(fault: HubFault) -> Result<Option<Refusal>, Memory>
@@ -42,6 +44,9 @@ pub(crate) fn apply<H: Machine, L>(
     requires { IsLawfulEvent event }
     ensures state { IfOk result (λ refusal. Becomes (H.state hub.old) (H.state hub.new) (λ old new.
         Makes (apply_refusal old event) (applied old event) refusal new)) }
+    ensures due { IfOk result (λ refusal. Becomes (H.due hub.old) (H.due hub.new) (λ was now.
+        IfSome (H.state hub.old) (λ old. DueIf refusal (λ id.
+        is_touched old.config old.objects event (query_at id old.subs)) was now))) }
     ensures replies { IfOk result (λ refusal.
         Becomes (H.replies hub.old) (H.replies hub.new) (Replied reply_text refusal [] [])) }
     ensures grows { Becomes (H.replies hub.old) (H.replies hub.new) Extends }
@@ -62,6 +67,8 @@ pub(crate) fn subscribe<H: Machine, L>(
 ) -> Result<Option<Refusal>, Memory>
     ensures state { IfOk result (λ refusal. Becomes (H.state hub.old) (H.state hub.new) (λ old new.
         Makes (new_refusal old id.0) (subscribed old id query) refusal new)) }
+    ensures due { IfOk result (λ refusal. Becomes (H.due hub.old) (H.due hub.new)
+        (DueIf refusal (λ n. nat_eq n id.0))) }
     ensures replies { IfOk result (λ refusal.
         Becomes (H.replies hub.old) (H.replies hub.new) (Replied reply_text refusal [] [])) }
     ensures grows { Becomes (H.replies hub.old) (H.replies hub.new) Extends }
@@ -85,6 +92,7 @@ pub(crate) fn cancel<H: Machine>(
 ) -> Option<Refusal>
     ensures state { Becomes (H.state hub.old) (H.state hub.new) (λ old new.
         Makes (unknown_refusal id.0 (sub_at id.0 old.subs)) (cancelled old id.0) result new) }
+    ensures due { Becomes (H.due hub.old) (H.due hub.new) (Leaves id.0) }
     ensures replies { Becomes (H.replies hub.old) (H.replies hub.new) (Unreplied result) }
     ensures grows { Becomes (H.replies hub.old) (H.replies hub.new) Extends }
     ensures live { live.new ≡ live_unless result live.old
@@ -126,15 +134,5 @@ pub(crate) fn refusal_for(fault: SimFault) -> Result<Option<Refusal>, Memory>
     match fault {
         SimFault::Memory => Err(Memory),
         fault => Ok(Some(Refusal::Sim(fault))),
-    }
-}
-
-/// Returns the refusal of a line that cannot be read.
-pub(crate) fn unread(fault: LineFault) -> Result<Option<Refusal>, Memory>
-    ensures { IfOk result (IsUnread fault) }
-{
-    match fault {
-        LineFault::Memory => Err(Memory),
-        fault => Ok(Some(Refusal::Line(fault))),
     }
 }

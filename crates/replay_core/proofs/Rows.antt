@@ -104,7 +104,7 @@ module _ (program : Program) (tells : Option Pat) (refuses : Option (List ℕ �
 -- ---- by the replies
 
 module _ (config : Config) (row : Row) (past : List Row) (refusal : Option Refusal) where
-  stands_by_replies : (out mid text text_new : List ℕ) (was : Bool) (start old new : List Reply) (takes : TakesByReplies (length past + 1) (row_says (text_line config) row) refusal out mid old new)
+  stands_by_replies : (out mid text text_new : List ℕ) (was : Bool) (start old new : List Reply) (takes : TakesByReplies (length past + 1) (refused_unread (row_says (text_line config) row)) refusal out mid old new)
       → text_new ≡ text ++ row_piece (length past + 1) refusal takes.text → StandsByReplies config past text was start old
       → StandsByReplies config (row ∷ past) text_new (was || is_some refusal) start new
   stands_by_replies out mid text text_new was start old new takes writes stood =
@@ -176,8 +176,8 @@ module _ (config_now config : Config) (limits limits_now : Limits) (same : IsOfR
       (takes limits pat)))
 
   pub replies_of_run : (r1 r2 : Option (List Reply)) (number : ℕ) (row : Row) (refusal : Option Refusal) (out mid : List ℕ)
-      → Becomes r1 r2 (TakesByReplies number (row_says (text_line config_now) row) refusal out mid) → Becomes r1 r2 (TakesByReplies number (row_says (text_line config) row) refusal out mid)
-  replies_of_run r1 r2 number row refusal out mid takes = subst (λ (c : Config). Becomes r1 r2 (TakesByReplies number (row_says (text_line c) row) refusal out mid)) same.same_config takes
+      → Becomes r1 r2 (TakesByReplies number (refused_unread (row_says (text_line config_now) row)) refusal out mid) → Becomes r1 r2 (TakesByReplies number (refused_unread (row_says (text_line config) row)) refusal out mid)
+  replies_of_run r1 r2 number row refusal out mid takes = subst (λ (c : Config). Becomes r1 r2 (TakesByReplies number (refused_unread (row_says (text_line c) row)) refusal out mid)) same.same_config takes
 
 module _ (config : Config) (limits : Limits) (tells : Option Pat) (refuses : Option (List ℕ → Bool)) (before at now : ℕ) (row : Row) (past : List Row) (live live_new sent out mid new : List ℕ) (was : Bool) (refusal : Option Refusal)
     (adds : new ≡ mid ++ refusal_line (length past + 1) refusal) where
@@ -197,17 +197,17 @@ module _ (config : Config) (limits : Limits) (tells : Option Pat) (refuses : Opt
       stands_by_state program tells refuses before at now row past refusal live live_new out mid (sent ++ out) (sent ++ new) was old later here (second (after program here.marked) here.state here.live_ids)
       (λ written writes. joined line_number refusal sent out mid new written writes adds))
 
-  row_by_replies : (r0 r1 r2 : Option (List Reply)) → Becomes r1 r2 (TakesByReplies line_number (row_says (text_line config) row) refusal out mid)
+  row_by_replies : (r0 r1 r2 : Option (List Reply)) → Becomes r1 r2 (TakesByReplies line_number (refused_unread (row_says (text_line config) row)) refusal out mid)
       → Becomes r0 r1 (StandsByReplies config past (sent ++ out) was) → Becomes r0 r2 (StandsByReplies config (row ∷ past) (sent ++ new) (was || is_some refusal))
   row_by_replies r0 r1 r2 takes stood =
-      Becomes-then r0 r1 r2 (StandsByReplies config past (sent ++ out) was) (TakesByReplies line_number (row_says (text_line config) row) refusal out mid)
+      Becomes-then r0 r1 r2 (StandsByReplies config past (sent ++ out) was) (TakesByReplies line_number (refused_unread (row_says (text_line config) row)) refusal out mid)
       (StandsByReplies config (row ∷ past) (sent ++ new) (was || is_some refusal)) stood takes
       (λ start old later first second.
       stands_by_replies config row past refusal out mid (sent ++ out) (sent ++ new) was start old later second (joined line_number refusal sent out mid new second.text second.texts adds) first)
 
   stands_row_at : (s0 s1 s2 : Option HubState) (r0 r1 r2 : Option (List Reply)) (sent_at_end : ℕ)
       → ((pat : Pat) → Becomes s1 s2 (TakesFrom (replay_of config limits pat) (known_of tells refuses at now) line_number (refused_unread (row_says (text_line config) row)) refusal live live_new out mid))
-      → Becomes r1 r2 (TakesByReplies line_number (row_says (text_line config) row) refusal out mid)
+      → Becomes r1 r2 (TakesByReplies line_number (refused_unread (row_says (text_line config) row)) refusal out mid)
       → Stands config limits (known_of tells refuses before at) s0 s1 r0 r1 live sent_at_end past (sent ++ out) was
       → Stands config limits (known_of tells refuses before now) s0 s2 r0 r2 live_new sent_at_end (row ∷ past) (sent ++ new) (was || is_some refusal)
   stands_row_at s0 s1 s2 r0 r1 r2 sent_at_end state replies stood = record {
@@ -219,7 +219,7 @@ module _ (config : Config) (limits : Limits) (tells : Option Pat) (refuses : Opt
 pub stands_row : (config : Config) (limits : Limits) (tells : Option Pat) (refuses : Option (List ℕ → Bool)) (before at now : ℕ) (s0 s1 s2 : Option HubState) (r0 r1 r2 : Option (List Reply)) (live live_new : List ℕ) (sent_at_end number : ℕ) (row : Row) (past : List Row) (sent out mid new : List ℕ) (was refused : Bool) (refusal : Option Refusal)
     → number ≡ length past + 1
     → ((pat : Pat) → Becomes s1 s2 (TakesFrom (replay_of config limits pat) (known_of tells refuses at now) number (refused_unread (row_says (text_line config) row)) refusal live live_new out mid))
-    → Becomes r1 r2 (TakesByReplies number (row_says (text_line config) row) refusal out mid)
+    → Becomes r1 r2 (TakesByReplies number (refused_unread (row_says (text_line config) row)) refusal out mid)
     → new ≡ mid ++ refusal_line number refusal → refused ≡ is_some refusal
     → Stands config limits (known_of tells refuses before at) s0 s1 r0 r1 live sent_at_end past (sent ++ out) was
     → Stands config limits (known_of tells refuses before now) s0 s2 r0 r2 live_new sent_at_end (row ∷ past) (sent ++ new) (was || refused)
@@ -227,4 +227,4 @@ stands_row config limits tells refuses before at now s0 s1 s2 r0 r1 r2 live live
     subst (λ (r : Bool). Stands config limits (known_of tells refuses before now) s0 s2 r0 r2 live_new sent_at_end (row ∷ past) (sent ++ new) (was || r)) (sym is)
     (stands_row_at config limits tells refuses before at now row past live live_new sent out mid new was refusal (adds ∙ ap (λ (n : ℕ). mid ++ refusal_line n refusal) counts) s0 s1 s2 r0 r1 r2 sent_at_end
     (λ pat. subst (λ (n : ℕ). Becomes s1 s2 (TakesFrom (replay_of config limits pat) (known_of tells refuses at now) n (refused_unread (row_says (text_line config) row)) refusal live live_new out mid)) counts (state pat))
-    (subst (λ (n : ℕ). Becomes r1 r2 (TakesByReplies n (row_says (text_line config) row) refusal out mid)) counts replies) stood)
+    (subst (λ (n : ℕ). Becomes r1 r2 (TakesByReplies n (refused_unread (row_says (text_line config) row)) refusal out mid)) counts replies) stood)

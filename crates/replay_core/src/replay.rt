@@ -6,6 +6,7 @@ ghost use Rattle.feed_history.specs.KnownPatterns.{known_over};
 
 use crate::replaying::Replaying;
 use feed_step::frames::FrameWriter;
+use feed_step::reader::Plain;
 use feed_step::run::Run;
 use line_run::{Status, run_lines};
 use mesh_base::copied::Copied;
@@ -90,11 +91,12 @@ pub fn replay<H: Machine, S: Source, K: Sink, P: Patterns>(
     let Ok(()) = hub.begin(copy, *limits) else {
         return Status::Memory;
     };
+    let mut reader = Plain { config };
     let mut writer = FrameWriter::new(alloc);
     let mut live = List::new(alloc);
     let mut steps = Steps::<()>::new();
     let run = Run {
-        config,
+        reader: &mut reader,
         writer: &mut writer,
         hub,
         patterns,

@@ -2,6 +2,7 @@ ghost use Rattle.std.specs.Prelude.{◌≡◌, ◌-◌, length};
 ghost use Rattle.std.proofs.Common.{refl, ◌∙◌};
 
 use feed_history::text::push_refused;
+use feed_step::reader::Plain;
 use feed_step::run::Run;
 use line_run::LineMachine;
 use mesh_base::limits::Limits;
@@ -12,16 +13,16 @@ use std::alloc::AllocError;
 
 /// A running replay. It borrows what owns memory.
 #[derive(Drop)]
-pub(crate) struct Replaying<'c, 'w, 'h, 'p, 'l, 's, H: Machine, P: Patterns, L> {
+pub(crate) struct Replaying<'c, 'r, 'w, 'h, 'p, 'l, 's, H: Machine, P: Patterns, L> {
     /// At the end of the input the list of live ids stays as it is, and `sent` counts those that
     /// were drained.
-    pub(crate) run: Run<'c, 'w, 'h, 'p, 'l, 's, H, P, L>,
+    pub(crate) run: Run<'r, 'w, 'h, 'p, 'l, 's, Plain<'c>, H, P, L>,
     pub(crate) limits: Limits,
     /// How many ids were drained at the end.
     pub(crate) sent: usize,
 }
 
-impl<H: Machine, P: Patterns, L> LineMachine for Replaying<'_, '_, '_, '_, '_, '_, H, P, L> {
+impl<H: Machine, P: Patterns, L> LineMachine for Replaying<'_, '_, '_, '_, '_, '_, '_, H, P, L> {
     ghost use Rattle.feed_history.specs.Optional.{Becomes, Extends};
     ghost use Rattle.feed_history.proofs.Optional.{extends_same, extends_then};
     ghost use Rattle.replay_core.specs.Stand.{Ended, Ending, IsOfRun, Stands, ending_none};
@@ -30,9 +31,10 @@ impl<H: Machine, P: Patterns, L> LineMachine for Replaying<'_, '_, '_, '_, '_, '
     ghost stands = { λ start now past text refused.
         (now.run.hub.ghost_name ≡ start.run.hub.ghost_name)
         × (now.run.patterns.ghost_name ≡ start.run.patterns.ghost_name)
-        × IsOfRun start.run.config.now start.limits now.run.config.now now.limits
+        × IsOfRun start.run.reader.now.config.now start.limits
+        now.run.reader.now.config.now now.limits
         × GoOver P.Patterns start.run.patterns.now now.run.patterns.now
-        × Stands start.run.config.now start.limits
+        × Stands start.run.reader.now.config.now start.limits
         (known_over P.Patterns start.run.patterns.now now.run.patterns.now)
         (H.state start.run.hub.now) (H.state now.run.hub.now) (H.replies start.run.hub.now)
         (H.replies now.run.hub.now) now.run.live.now now.sent past text refused };
@@ -40,9 +42,10 @@ impl<H: Machine, P: Patterns, L> LineMachine for Replaying<'_, '_, '_, '_, '_, '
     ghost ending = { λ start now past text refused.
         (now.run.hub.ghost_name ≡ start.run.hub.ghost_name)
         × (now.run.patterns.ghost_name ≡ start.run.patterns.ghost_name)
-        × IsOfRun start.run.config.now start.limits now.run.config.now now.limits
+        × IsOfRun start.run.reader.now.config.now start.limits
+        now.run.reader.now.config.now now.limits
         × GoOver P.Patterns start.run.patterns.now now.run.patterns.now
-        × Ending start.run.config.now start.limits
+        × Ending start.run.reader.now.config.now start.limits
         (known_over P.Patterns start.run.patterns.now now.run.patterns.now)
         (H.state start.run.hub.now) (H.state now.run.hub.now) (H.replies start.run.hub.now)
         (H.replies now.run.hub.now) now.run.live.now now.sent past text refused };
@@ -51,7 +54,7 @@ impl<H: Machine, P: Patterns, L> LineMachine for Replaying<'_, '_, '_, '_, '_, '
         (now.run.hub.ghost_name ≡ start.run.hub.ghost_name)
         × (now.run.patterns.ghost_name ≡ start.run.patterns.ghost_name)
         × GoOver P.Patterns start.run.patterns.now now.run.patterns.now
-        × Ended start.run.config.now start.limits
+        × Ended start.run.reader.now.config.now start.limits
         (known_over P.Patterns start.run.patterns.now now.run.patterns.now)
         (H.state start.run.hub.now) (H.state now.run.hub.now) (H.replies start.run.hub.now)
         (H.replies now.run.hub.now) past text refused };
@@ -61,7 +64,7 @@ impl<H: Machine, P: Patterns, L> LineMachine for Replaying<'_, '_, '_, '_, '_, '
       stood.1,
       stood.2,
       stood.3,
-      ending_none start.run.config.now start.limits
+      ending_none start.run.reader.now.config.now start.limits
           (known_over P.Patterns start.run.patterns.now now.run.patterns.now)
           (H.state start.run.hub.now) (H.state now.run.hub.now) (H.replies start.run.hub.now)
           (H.replies now.run.hub.now) now.run.live.now now.sent past text refused stood.4,

@@ -47,7 +47,7 @@ returns-clause-front g c =
     OnStop-weaker c.run_lines.result _ _ (λ part.
     let wrote = output_front config limits (g.S.Source.left c.args.input.now) (g.K.Sink.held c.args.out.now) (g.K.Sink.held c.run_lines.new.sink)
     (g.P.Patterns.tells patterns) (g.P.Patterns.refuses patterns) (g.P.Patterns.refusals patterns) (g.P.Patterns.refusals machine.run.patterns.now) (λ m. state m.run.hub.now) (λ m. g.H.Machine.replies m.run.hub.now) (λ m. m.run.live.now) (λ m. m.sent) (λ m. g.P.Patterns.refusals m.run.patterns.now)
-    (λ m. m.run.hub.ghost_name ≡ _) (λ m. m.run.patterns.ghost_name ≡ _) (λ m. IsOfRun config limits m.run.config.now m.limits)
+    (λ m. m.run.hub.ghost_name ≡ _) (λ m. m.run.patterns.ghost_name ≡ _) (λ m. IsOfRun config limits m.run.reader.now.config.now m.limits)
     (λ m. GoOn (g.P.Patterns.tells patterns) (g.P.Patterns.tells m.run.patterns.now) (g.P.Patterns.refuses patterns) (g.P.Patterns.refuses m.run.patterns.now) (g.P.Patterns.refusals patterns) (g.P.Patterns.refusals m.run.patterns.now))
     _ (λ m kept. kept.2.later) (state c.args.hub.now) (state c.begin.new.self) (g.H.Machine.replies c.begin.new.self)
     (begun config c.in-Ok.copy limits (state c.args.hub.now) (state c.begin.new.self) c.in-Ok-begin.field-0 c.in-Ok.ensures c.in-Ok-begin.ensures.state) part in
@@ -123,7 +123,7 @@ returns-clause-said_front g c =
     let wrote = said_front_from config limits (replies c.args.hub.now) r0 r1 left held held_new c.in-Ok-begin.ensures.replies
     (said_front config limits left held held_new (λ m. known_of (g.P.Patterns.tells patterns) (g.P.Patterns.refuses patterns) (g.P.Patterns.refusals patterns) (g.P.Patterns.refusals m.run.patterns.now))
     (state c.begin.new.self) (λ m. state m.run.hub.now) (λ m. replies m.run.hub.now) (λ m. m.run.live.now) (λ m. m.sent)
-    (λ m. m.run.hub.ghost_name ≡ _) (λ m. m.run.patterns.ghost_name ≡ _) (λ m. IsOfRun config limits m.run.config.now m.limits)
+    (λ m. m.run.hub.ghost_name ≡ _) (λ m. m.run.patterns.ghost_name ≡ _) (λ m. IsOfRun config limits m.run.reader.now.config.now m.limits)
     (λ m. GoOn (g.P.Patterns.tells patterns) (g.P.Patterns.tells m.run.patterns.now) (g.P.Patterns.refuses patterns) (g.P.Patterns.refuses m.run.patterns.now) (g.P.Patterns.refusals patterns) (g.P.Patterns.refusals m.run.patterns.now))
     _ r0 r1 (λ m kept. kept.3) c.run_lines.ensures.keeps.3 part) in
     search (rules, wrote, same_hub)) c.run_lines.ensures.part
