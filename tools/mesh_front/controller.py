@@ -27,6 +27,7 @@ MEANINGS = {
 FOR_GOOD = (Status.USAGE, Status.NO_TOOL)  # faults of a feed after which a further try is no use
 SCRIPT = ROOT / "linkerd_cli"
 PROVED = ROOT / "crates" / "linkerd_cli" / "out" / "linkerd_cli"
+NOT_PROVED = "not proved"
 LOOK_SECONDS = 0.2
 LOG = logging.getLogger("controller")
 
@@ -57,7 +58,7 @@ def provenance(program: pathlib.Path) -> str:
     """Whether a program is the proved one: ./linkerd_cli runs the proved one wherever it is built."""
     if program.resolve() not in (SCRIPT.resolve(), PROVED.resolve()):
         return "given by --program"
-    return "proved" if PROVED.exists() else "not proved"
+    return "proved" if PROVED.exists() else NOT_PROVED
 
 
 def run_controller(settings: Settings) -> Status:
@@ -70,6 +71,8 @@ def run_controller(settings: Settings) -> Status:
     try:
         HealthServer(settings.health_address, health, shown).start()
         LOG.info("health and metrics on http://%s, program: %s", settings.health_address, health.program)
+        if health.program == NOT_PROVED:
+            LOG.warning("a server without proofs grows with each line that it reads: tools/prove builds the proved program")
         supervisor.thread.start()
         threading.Thread(target=watch_readiness, args=(health, supervisor.is_stopping), daemon=True).start()
         feed_until_ended(settings, supervisor, health)
