@@ -1,0 +1,2 @@
+pub mod RouteMaps
+pub mod SameLines

@@ -1,0 +1,4 @@
+pub mod FeedKinds
+pub mod FeedLines
+pub mod Given
+pub mod Routes
