@@ -1,2 +1,3 @@
+pub mod ByKey
 pub mod RouteMaps
 pub mod SameLines

@@ -27,7 +27,7 @@ use Rattle.grpc_feed.specs.declared.kinds.FeedKind.{FeedKind}
 use Rattle.grpc_feed.specs.declared.kinds.FeedKind.TheVariants as kinds
 
 -- what is held at a key that passes a test
-get-kept : (p : ObjKey → Bool) (m : ObjectMap) (key : ObjKey) → get (retain_keys m p) key ≡ cond (p key) (get m key) None
+pub get-kept : (p : ObjKey → Bool) (m : ObjectMap) (key : ObjKey) → get (retain_keys m p) key ≡ cond (p key) (get m key) None
 get-kept p m key = get-retain_keys m p key (λ other tied. ap p (sym (keys_exact key other tied)))
 
 -- ---- copies of lists

@@ -10,5 +10,6 @@
 pub mod fault;
 mod feed_line;
 pub mod kinds;
+pub mod laws;
 pub mod lowering;
 mod routes;
