@@ -1,20 +1,24 @@
 // A hub to which the lines of feeds are applied.
-ghost use Rattle.std.specs.Prelude.{◌≡◌, ◌≤◌, ℕ, List as TheList, false, Bool, Option as TheOption, Ok, IfOk, IfSome, OnOk};
+ghost use Rattle.std.specs.Prelude.{◌≡◌, ◌≤◌, ℕ, List as TheList, false, Ok, Some, IfOk, IfSome, OnOk};
 ghost use Rattle.std.specs.Option.{option_copied};
 ghost use Rattle.session_core.specs.Outboxes.{NoneEmpty};
-ghost use Rattle.watch_events.specs.Lawful.{IsLawfulEvent, IsLawfulLine};
-ghost use Rattle.watch_events.specs.declared.line.Line.TheVariants as lines;
-ghost use Rattle.route_match.specs.Matching.{Pat};
-ghost use Rattle.feed_history.specs.KnownPatterns.{GoOver, known_of, known_over};
+ghost use Rattle.watch_events.specs.Lawful.{IsLawfulLine};
+ghost use Rattle.feed_history.specs.KnownPatterns.{GoOver, known_over};
 ghost use Rattle.subscriptions.specs.DueIds.{Rises, is_among};
 ghost use Rattle.mesh_hub.specs.Due.{is_due};
 ghost use Rattle.mesh_hub.specs.Hub.{fresh, state_of};
 ghost use Rattle.fed_hub.specs.HubSteps.{CancelsAt, DrainsAt, SubscribesNext};
 ghost use Rattle.fed_hub.specs.LineSteps.{AppliesTo, HasByte, TakesLine, TakesRow};
+ghost use Rattle.feed_step.specs.LineStep.{Calls, CallsDue};
+ghost use Rattle.feed_step.specs.Sorts.{sort_in};
 
-use crate::answers::{accepted, decided, refused, refused_by, undecided, unread};
+use crate::answers::{accepted, refused, unread};
 use bytes::Bytes;
 use feed_history::refusal::{HubFault, Refusal};
+use feed_step::frames::FrameWriter;
+use feed_step::reader::Plain;
+use feed_step::run::Run;
+use feed_step::sort::{Sort, sort_of};
 use mesh_base::copied::Copied;
 use mesh_base::limits::Limits;
 use mesh_base::list::List;
@@ -26,8 +30,6 @@ use mesh_outside::Patterns;
 use std::alloc::Global;
 use view_types::config::Config;
 use view_types::query::Query;
-use view_types::request::Request;
-use watch_events::event::Event;
 use watch_events::line::Line;
 use watch_events::read::read_row;
 
@@ -163,6 +165,7 @@ impl FedHub {
         }
     }
 
+    // Lines about subscriptions have no place, since a server subscribes for its links.
     fn take_line<P: Patterns>(
         &mut self,
         patterns: &mut P,
@@ -175,31 +178,35 @@ impl FedHub {
         ensures some { IfOk result (λ item. IfSome item HasByte) }
         ensures goes_on { GoOver P.Patterns patterns.old patterns.new }
     {
-        match line {
-            Line::Blank => Ok(None),
-            Line::Event(event) => self.apply(number, event),
-            Line::Simulate(request) => self.simulate(patterns, number, &request),
-            Line::Stop => {
+        match sort_of(&line) {
+            Sort::Nothing => Ok(None),
+            Sort::Event => self.apply(patterns, number, line),
+            Sort::Verdict => self.simulate(patterns, number, line),
+            Sort::Stop => {
                 self.stopped = true;
                 accepted(self.alloc, number)
             }
-            Line::Subscribe { .. } | Line::Cancel { .. } | Line::Drain { .. } => {
-                refused(self.alloc, number, Refusal::NotHere)
-            }
+            Sort::Subscription => refused(self.alloc, number, Refusal::NotHere),
         }
     }
 
-    fn apply(&mut self, number: u64, event: Event) -> Result<Option<List<u8>>, Memory>
-        requires { IsLawfulEvent event }
-        ensures takes { IfOk result (λ item. (tells : TheOption Pat)
-            (refuses : TheOption (TheList ℕ → Bool)) (count : ℕ)
-            → TakesLine self.old self.new number (Ok (lines.Event event))
-            (known_of tells refuses count count) item) }
+    fn apply<P: Patterns>(
+        &mut self,
+        patterns: &mut P,
+        number: u64,
+        line: Line,
+    ) -> Result<Option<List<u8>>, Memory>
+        requires lawful { IsLawfulLine line }
+        requires event { sort_in line ≡ Sort.Event }
+        ensures takes { IfOk result (TakesLine self.old self.new number (Ok line)
+            (known_over P.Patterns patterns.old patterns.new)) }
         ensures some { IfOk result (λ item. IfSome item HasByte) }
+        ensures goes_on { GoOver P.Patterns patterns.old patterns.new }
     {
-        match self.hub.apply(event, &mut self.steps) {
-            Ok(()) => accepted(self.alloc, number),
-            Err(fault) => refused_by(self.alloc, number, fault),
+        let mut text = Vec::new(self.alloc);
+        match self.call(patterns, number, line, &mut text)? {
+            None => accepted(self.alloc, number),
+            Some(refusal) => refused(self.alloc, number, refusal),
         }
     }
 
@@ -207,16 +214,56 @@ impl FedHub {
         &mut self,
         patterns: &mut P,
         number: u64,
-        request: &Request,
+        line: Line,
     ) -> Result<Option<List<u8>>, Memory>
-        ensures takes { IfOk result (TakesLine self.old self.new number
-            (Ok (lines.Simulate request.now)) (known_over P.Patterns patterns.old patterns.new)) }
+        requires lawful { IsLawfulLine line }
+        requires verdict { sort_in line ≡ Sort.Verdict }
+        ensures takes { IfOk result (TakesLine self.old self.new number (Ok line)
+            (known_over P.Patterns patterns.old patterns.new)) }
         ensures some { IfOk result (λ item. IfSome item HasByte) }
         ensures goes_on { GoOver P.Patterns patterns.old patterns.new }
     {
-        match self.hub.simulate(request, patterns, &mut self.steps) {
-            Ok(verdict) => decided(self.alloc, number, &request.ns, &verdict),
-            Err(fault) => undecided(self.alloc, number, fault),
+        let mut text = Vec::new(self.alloc);
+        match self.call(patterns, number, line, &mut text)? {
+            None => Ok(Some(List::from_vec(text))),
+            Some(refusal) => refused(self.alloc, number, refusal),
         }
+    }
+
+    // Makes the call of a line, without subscriptions of its own. Returns why it is refused, or
+    // None.
+    fn call<P: Patterns>(
+        &mut self,
+        patterns: &mut P,
+        number: u64,
+        line: Line,
+        text: &mut Vec<u8>,
+    ) -> Result<Option<Refusal>, Memory>
+        requires { IsLawfulLine line }
+        ensures calls { IfOk result (λ refusal. (live : TheList ℕ) × (live_now : TheList ℕ)
+            × Calls (known_over P.Patterns patterns.old patterns.new) number line refusal live
+            live_now text.old.items text.new.items (state_of self.old.hub)
+            (state_of self.new.hub)) }
+        ensures due { IfOk result (λ refusal. CallsDue line refusal (state_of self.old.hub)
+            (Some (state_of self.new.hub)) (is_due self.old.hub) (is_due self.new.hub)) }
+        ensures goes_on { GoOver P.Patterns patterns.old patterns.new }
+        ensures config { self.new.config ≡ self.old.config }
+        ensures requests { self.new.requests ≡ self.old.requests }
+        ensures stopped { self.new.stopped ≡ self.old.stopped }
+    {
+        let mut reader = Plain {
+            config: &self.config,
+        };
+        let mut writer = FrameWriter::new(self.alloc);
+        let mut live = List::new(self.alloc);
+        let mut run = Run {
+            reader: &mut reader,
+            writer: &mut writer,
+            hub: &mut self.hub,
+            patterns,
+            live: &mut live,
+            steps: &mut self.steps,
+        };
+        run.call(number, line, text)
     }
 }
