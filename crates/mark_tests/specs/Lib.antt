@@ -1,1 +1,1 @@
-mod QueryRows
+pub mod QueryRows

@@ -1,9 +1,7 @@
--- The rows of a query: the first one, and what the others read.
-use Rattle.std.specs.Prelude.{ℕ, ◌++◌, List, [], ◌∷◌, Option, Some, None, flat_map}
-use Rattle.mesh_base.specs.declared.key.ObjKey.{ObjKey}
+-- The rows of a query: the first one, and the others.
+use Rattle.std.specs.Prelude.{ℕ, List, [], ◌∷◌, Option, Some, None, map}
 use Rattle.view_types.specs.Objects.{ObjectMap}
 use Rattle.view_types.specs.declared.config.Config.{Config}
-use Rattle.view_types.specs.declared.mark.Mark.{Mark}
 use Rattle.view_types.specs.declared.mark.Mark.TheVariants.{RouteOn}
 use Rattle.view_types.specs.declared.query.Query.{Query}
 use Rattle.view_types.specs.declared.query.Query.TheVariants as query
@@ -13,7 +11,6 @@ use Rattle.mark_rules.specs.MarkLookups.{keys_at}
 use Rattle.mark_rules.specs.Rows.{name_in, server_part}
 use Rattle.mark_rules.specs.declared.keys.RowKey.{RowKey}
 use Rattle.mark_rules.specs.declared.keys.RowKey.TheVariants as row
-use Rattle.row_reads.specs.References.{authz_at}
 
 -- ---- the first row
 
@@ -29,23 +26,19 @@ first_row (query.PortRows ns pod port) = port_row ns pod port
 
 -- ---- the other rows
 
--- what the authorizations of a Server or of a route read, mark by mark
-abbrev pub authz_from : ObjectMap → ObjKey → List Mark
-authz_from held key = authz_at held key key.kind
+abbrev pub route_row : List ℕ → List ℕ → RowKey
+route_row ns name = row.Route (record { ns = ns; server = name })
 
--- what these rows read: the routes of a Server, its authorizations, and those of each of its routes
-abbrev pub behind_server : ObjectMap → List ℕ → List ℕ → List Mark
-behind_server held ns name =
-    RouteOn ns parent.Server name
-    ∷ (authz_from held (server_key ns name)
-    ++ flat_map (authz_from held) (keys_at held (RouteOn ns parent.Server name)))
+-- the routes of a Server, its authorizations, and those of each route that has it as a parent
+abbrev pub behind_server : ObjectMap → List ℕ → List ℕ → List RowKey
+behind_server held ns name = route_row ns name ∷ row.Authz (server_key ns name) ∷ map row.Authz (keys_at held (RouteOn ns parent.Server name))
 
 -- none if no Server is chosen
-abbrev pub behind_name : ObjectMap → List ℕ → Option (List ℕ) → List Mark
+abbrev pub behind_name : ObjectMap → List ℕ → Option (List ℕ) → List RowKey
 behind_name held ns None = []
 behind_name held ns (Some name) = behind_server held ns name
 
 -- only the row of a port has others
-abbrev pub behind_row : Config → ObjectMap → RowKey → List Mark
+abbrev pub behind_row : Config → ObjectMap → RowKey → List RowKey
 behind_row config held (row.Server key) = behind_name held key.ns (name_in (server_part config held key))
 behind_row config held _ = []

@@ -1,14 +1,15 @@
 // The marks that the rows of a query read.
-ghost use Rattle.std.specs.Prelude.{◌≡◌, ◌++◌, Some, None, false, IfOk, OnOk, flat_map, option_map};
+ghost use Rattle.std.specs.Prelude.{◌≡◌, ◌++◌, Some, None, false, IfOk, OnOk, flat_map, map, option_map};
 ghost use Rattle.std.specs.Option.{option_copied};
 ghost use Rattle.view_rules.specs.PodRows.{pod_held};
 ghost use Rattle.view_rules.specs.PolicyLaws.{AreLawful, server_key};
-ghost use Rattle.mark_rules.specs.Reads.{query_reads};
+ghost use Rattle.mark_rules.specs.Reads.{query_reads, reads};
 ghost use Rattle.mark_rules.specs.Rows.{name_in, server_part};
-ghost use Rattle.mark_tests.specs.QueryRows.{authz_from, behind_name, behind_row, behind_server, first_row, port_row};
+ghost use Rattle.mark_rules.specs.declared.keys.RowKey.TheVariants as row;
+ghost use Rattle.mark_tests.specs.QueryRows.{behind_name, behind_row, behind_server, first_row, port_row, route_row};
 ghost use Rattle.row_reads.specs.References.{HaveSame};
 
-use mark_rules::keys::{EndpointKey, ProfileKey, RowKey, ServerKey};
+use mark_rules::keys::{EndpointKey, ProfileKey, RouteKey, RowKey, ServerKey};
 use mesh_base::copied::Copied;
 use mesh_base::key::{Kind, ObjKey};
 use mesh_base::list::List;
@@ -17,7 +18,6 @@ use mesh_base::steps::Steps;
 use mesh_base::text::Text;
 use policy_rows::server::chosen_server;
 use row_reads::at_mark::Reader;
-use row_reads::rows::add_routes;
 use std::alloc::Global;
 use view_types::mark::Mark;
 use view_types::object::Object;
@@ -38,87 +38,91 @@ pub(crate) fn query_reads<L>(
 {
     reader.store.stand_at_keys();
     let first = first_row(reader.alloc, query)?;
-    let mut marks = reader.reads(&first, steps)?;
-    add_behind(reader, &first, &mut marks, steps)?;
-    Ok(marks)
+    let behind = rows_behind(reader, &first, steps)?;
+    let mut marks = reader.reads(&first, steps)?.into_vec();
+    add_rows(reader, behind.as_slice(), &mut marks, steps)?;
+    Ok(List::from_vec(marks))
 }
 
-// Adds the marks that the other rows of a query read, if this is its first row.
-fn add_behind<L>(
+// Adds the marks that rows read.
+fn add_rows<L>(
+    reader: &Reader,
+    rows: &[RowKey],
+    marks: &mut Vec<Mark>,
+    steps: &mut Steps<L>,
+) -> Result<(), Memory>
+    ensures { reader.now.store.now.spent ≡ false
+        → OnOk result (HaveSame marks.new.items (marks.old.items
+        ++ flat_map (reads reader.now.config.now reader.now.store.now.objects) rows.now)) }
+{
+    for row in rows {
+        add_row(reader, row, marks, steps)?;
+    }
+    Ok(())
+}
+
+fn add_row<L>(
+    reader: &Reader,
+    row: &RowKey,
+    marks: &mut Vec<Mark>,
+    steps: &mut Steps<L>,
+) -> Result<(), Memory>
+    ensures { reader.now.store.now.spent ≡ false
+        → OnOk result (HaveSame marks.new.items (marks.old.items
+        ++ reads reader.now.config.now reader.now.store.now.objects row.now)) }
+{
+    let mut found = reader.reads(row, steps)?.into_vec();
+    marks.append(&mut found)?;
+    Ok(())
+}
+
+// Returns the other rows of a query, if this is its first row.
+fn rows_behind<L>(
     reader: &Reader,
     first: &RowKey,
-    marks: &mut List<Mark>,
     steps: &mut Steps<L>,
-) -> Result<(), Memory>
-    ensures { reader.now.store.now.spent ≡ false → OnOk result (marks.new ≡ marks.old
-        ++ behind_row reader.now.config.now reader.now.store.now.objects first.now) }
+) -> Result<List<RowKey>, Memory>
+    ensures { reader.now.store.now.spent ≡ false → IfOk result (λ rows. rows
+        ≡ behind_row reader.now.config.now reader.now.store.now.objects first.now) }
 {
     match first {
-        RowKey::Server(key) => add_behind_port(reader, key, marks, steps),
-        _ => Ok(()),
+        RowKey::Server(key) => {
+            let name = server_name(reader, key, steps)?;
+            rows_behind_name(reader, &key.ns, name)
+        }
+        _ => Ok(List::new(reader.alloc)),
     }
 }
 
-fn add_behind_port<L>(
-    reader: &Reader,
-    key: &ServerKey,
-    marks: &mut List<Mark>,
-    steps: &mut Steps<L>,
-) -> Result<(), Memory>
-    ensures { reader.now.store.now.spent ≡ false → OnOk result (marks.new ≡ marks.old
-        ++ behind_name reader.now.store.now.objects key.now.ns
-        (name_in (server_part reader.now.config.now reader.now.store.now.objects key.now))) }
-{
-    let name = server_name(reader, key, steps)?;
-    add_behind_name(reader, &key.ns, name, marks, steps)
-}
-
-fn add_behind_name<L>(
-    reader: &Reader,
-    ns: &Text,
-    name: Option<&Text>,
-    marks: &mut List<Mark>,
-    steps: &mut Steps<L>,
-) -> Result<(), Memory>
-    ensures { reader.now.store.now.spent ≡ false → OnOk result (marks.new ≡ marks.old
-        ++ behind_name reader.now.store.now.objects ns.now (option_copied name.entry)) }
+fn rows_behind_name(reader: &Reader, ns: &Text, name: Option<&Text>) -> Result<List<RowKey>, Memory>
+    ensures { reader.now.store.now.spent ≡ false → IfOk result (λ rows. rows
+        ≡ behind_name reader.now.store.now.objects ns.now (option_copied name.entry)) }
 {
     match name {
-        Some(name) => add_behind_server(reader, ns, name, marks, steps),
-        None => Ok(()),
+        Some(name) => rows_behind_server(reader, ns, name),
+        None => Ok(List::new(reader.alloc)),
     }
 }
 
-// Adds the marks that the routes of a Server read, its authorizations, and those of each route
+// Returns the rows of the routes of a Server, of its authorizations, and of those of each route
 // that has it as a parent.
-fn add_behind_server<L>(
-    reader: &Reader,
-    ns: &Text,
-    name: &Text,
-    marks: &mut List<Mark>,
-    steps: &mut Steps<L>,
-) -> Result<(), Memory>
-    ensures { reader.now.store.now.spent ≡ false → OnOk result (marks.new ≡ marks.old
-        ++ behind_server reader.now.store.now.objects ns.now name.now) }
+fn rows_behind_server(reader: &Reader, ns: &Text, name: &Text) -> Result<List<RowKey>, Memory>
+    ensures { reader.now.store.now.spent ≡ false → IfOk result (λ rows. rows
+        ≡ behind_server reader.now.store.now.objects ns.now name.now) }
 {
-    add_routes(marks, ns, name)?;
-    let key = server_key(ns, name)?;
-    reader.add_authz(&key, marks, steps)?;
+    let mut rows = List::new(reader.alloc);
+    rows.add(route_row(ns, name)?)?;
+    rows.add(RowKey::Authz(server_key(ns, name)?))?;
     let routes = reader.store.routes_on(ns, ParentKind::Server, name);
-    add_each_authz(reader, routes, marks, steps)
+    add_authz(reader.alloc, &mut rows, routes)?;
+    Ok(rows)
 }
 
-fn add_each_authz<L>(
-    reader: &Reader,
-    keys: &[ObjKey],
-    marks: &mut List<Mark>,
-    steps: &mut Steps<L>,
-) -> Result<(), Memory>
-    ensures { reader.now.store.now.spent ≡ false → OnOk result (marks.new ≡ marks.old
-        ++ flat_map (authz_from reader.now.store.now.objects) keys.now) }
+fn add_authz(alloc: Global, rows: &mut List<RowKey>, keys: &[ObjKey]) -> Result<(), Memory>
+    ensures { OnOk result (rows.new ≡ rows.old ++ map row.Authz keys.now) }
 {
     for key in keys {
-        reader.add_authz(key, marks, steps)?;
+        rows.add(RowKey::Authz(key.copy(alloc)?))?;
     }
     Ok(())
 }
@@ -169,6 +173,15 @@ fn server_key(ns: &Text, name: &Text) -> Result<ObjKey, Memory>
         ns: ns.copy()?,
         name: name.copy()?,
     })
+}
+
+fn route_row(ns: &Text, name: &Text) -> Result<RowKey, Memory>
+    ensures { IfOk result (λ row. row ≡ route_row ns.now name.now) }
+{
+    Ok(RowKey::Route(RouteKey {
+        ns: ns.copy()?,
+        server: name.copy()?,
+    }))
 }
 
 fn port_row(ns: &Text, pod: &Text, port: u16) -> Result<RowKey, Memory>
