@@ -5,8 +5,8 @@ use command_words::words::read_words;
 use mesh_base::text::Text;
 use net_cidr::ip::Ip;
 use net_cidr::net::Net;
+use row_file::TrialFault;
 use std::alloc::Global;
-use std::test::Fail;
 use view_types::config::Config;
 use view_types::policy::Policy;
 use view_types::query::{Context, Method, Query, Target};
@@ -15,7 +15,7 @@ use view_types::query::{Context, Method, Query, Target};
 const USUAL_NETS: &str = "4:a000000/8,4:64400000/10,4:ac100000/12,4:c0a80000/16";
 
 // Splits a line into words at single blanks. `''` is the empty word.
-fn words_of(alloc: Global, line: &str) -> Result<Vec<Text>, Fail> {
+fn words_of(alloc: Global, line: &str) -> Result<Vec<Text>, TrialFault> {
     let mut words = Vec::new(alloc);
     if line.is_empty() {
         return Ok(words);
@@ -28,14 +28,14 @@ fn words_of(alloc: Global, line: &str) -> Result<Vec<Text>, Fail> {
 }
 
 // Writes an address as its family and the digits of its number.
-fn ip_text(alloc: Global, ip: Ip) -> Result<String, Fail> {
+fn ip_text(alloc: Global, ip: Ip) -> Result<String, TrialFault> {
     Ok(match ip {
         Ip::V4(number) => format!(in alloc; "4:{number:x}")?,
         Ip::V6(number) => format!(in alloc; "6:{number:x}")?,
     })
 }
 
-fn nets_text(alloc: Global, nets: &[Net]) -> Result<String, Fail> {
+fn nets_text(alloc: Global, nets: &[Net]) -> Result<String, TrialFault> {
     let mut text = String::new(alloc);
     for net in nets {
         if !text.is_empty() {
@@ -70,14 +70,19 @@ fn method_text(method: Method) -> &'static str {
 }
 
 // Appends a setting, unless it is the default.
-fn add_setting(text: &mut String, name: &str, default: &str, value: &str) -> Result<(), Fail> {
+fn add_setting(
+    text: &mut String,
+    name: &str,
+    default: &str,
+    value: &str,
+) -> Result<(), TrialFault> {
     if value != default {
         write!(text, " {name}={value}")?;
     }
     Ok(())
 }
 
-fn settings(alloc: Global, config: &Config) -> Result<String, Fail> {
+fn settings(alloc: Global, config: &Config) -> Result<String, TrialFault> {
     let mut text = String::new(alloc);
     let domain = config.cluster_domain.as_str();
     add_setting(&mut text, "cluster-domain", "cluster.local", domain)?;
@@ -92,7 +97,7 @@ fn settings(alloc: Global, config: &Config) -> Result<String, Fail> {
     Ok(text)
 }
 
-fn target_text(alloc: Global, target: &Target) -> Result<String, Fail> {
+fn target_text(alloc: Global, target: &Target) -> Result<String, TrialFault> {
     match target {
         Target::Service { ns, name, port } => {
             let ns = ns.as_str();
@@ -106,7 +111,7 @@ fn target_text(alloc: Global, target: &Target) -> Result<String, Fail> {
     }
 }
 
-fn member(alloc: Global, name: &str, value: &Option<Text>) -> Result<String, Fail> {
+fn member(alloc: Global, name: &str, value: &Option<Text>) -> Result<String, TrialFault> {
     match value {
         Some(value) => {
             let value = value.as_str();
@@ -116,13 +121,13 @@ fn member(alloc: Global, name: &str, value: &Option<Text>) -> Result<String, Fai
     }
 }
 
-fn context_text(alloc: Global, ctx: &Context) -> Result<String, Fail> {
+fn context_text(alloc: Global, ctx: &Context) -> Result<String, TrialFault> {
     let ns = member(alloc, "ns", &ctx.ns)?;
     let node = member(alloc, "node", &ctx.node)?;
     Ok(format!(in alloc; "{ns}{node}")?)
 }
 
-fn query_text(alloc: Global, query: &Query) -> Result<String, Fail> {
+fn query_text(alloc: Global, query: &Query) -> Result<String, TrialFault> {
     match query {
         Query::Get {
             ns,
@@ -157,7 +162,7 @@ fn query_text(alloc: Global, query: &Query) -> Result<String, Fail> {
     }
 }
 
-fn command_text(alloc: Global, command: &Command) -> Result<String, Fail> {
+fn command_text(alloc: Global, command: &Command) -> Result<String, TrialFault> {
     match command {
         Command::Replay(config) => {
             let settings = settings(alloc, config)?;
@@ -187,20 +192,11 @@ fn command_text(alloc: Global, command: &Command) -> Result<String, Fail> {
 }
 
 /// Returns the command that the words of a line give, as text.
-pub fn shown(alloc: Global, line: &str) -> Result<String, Fail> {
+pub fn shown(alloc: Global, line: &str) -> Result<String, TrialFault> {
     let words = words_of(alloc, line)?;
     match read_words(alloc, &words) {
         Ok(command) => command_text(alloc, &command),
         Err(WordsFault::Usage) => Ok(String::from_str(alloc, "usage")?),
         Err(WordsFault::Memory) => Ok(String::from_str(alloc, "memory")?),
     }
-}
-
-/// Appends the words of a line and their command, unless it is the expected one.
-pub fn compare(alloc: Global, wrong: &mut String, line: &str, expected: &str) -> Result<(), Fail> {
-    let found = shown(alloc, line)?;
-    if found.as_str() != expected {
-        write!(wrong, "{line} => {found}\n")?;
-    }
-    Ok(())
 }
