@@ -1,163 +1,149 @@
+// Subscribers in groups.
 use crate::rows::SMALL;
 use crate::views::{stood, view};
-use crate::words::Word::{Adds, Gone, Removes, Row};
-use crate::words::{Word, words_of};
+use crate::words::{number, push_messages, rows_of, stood_of};
 use endpoint_groups::groups::EndpointGroups;
-use mesh_base::memory::Memory;
+use row_file::TrialFault;
 use std::alloc::Global;
 
-/// A row of the weight stood at the address of the number, or none.
-fn change(
-    alloc: Global,
-    groups: &mut EndpointGroups<u32>,
-    number: u32,
-    weight: Option<u32>,
-) -> Result<(), Memory> {
-    let before = stood(alloc, number, weight)?;
-    groups.change(before.as_slice())
-}
-
-/// What is said to the members of the group, who are to see these rows.
-fn say(
-    alloc: Global,
-    groups: &EndpointGroups<u32>,
+// A subscriber by its name, and its group, also after it has left.
+#[derive(Drop)]
+struct Member {
+    name: String,
     group: u64,
-    rows: &[(u32, u32)],
-) -> Result<Vec<Word>, Memory> {
-    let now = view(alloc, rows, true)?;
-    let messages = groups.messages(group, &now, &SMALL)?;
-    Ok(words_of(alloc, &messages)?)
+    is_in: bool,
 }
 
-// All three are one group after each drain, and what was made for the first serves the others.
-#[test]
-fn all_drained_are_one_group(rt: HostRuntime) -> Result<(), Memory> {
-    let mut groups = EndpointGroups::new(rt.alloc())?;
-    let first = groups.join()?;
-    let second = groups.join()?;
-    let third = groups.join()?;
-    assert_eq!(rt; [second, third], [first, first]);
-    let batch = say(rt.alloc(), &groups, first, &[(1, 10)])?;
-    assert_eq!(rt; batch.as_slice(), [Adds(1), Row(1, 10)].as_slice());
-    groups.keep(first, 5);
-    let now = groups.catch_up(first, true)?;
-    assert_eq!(rt; groups.encoding(second), Some(&5));
-    assert_eq!(rt; groups.encoding(now), None);
-    assert_eq!(rt; groups.catch_up(second, true)?, now);
-    assert_eq!(rt; groups.encoding(third), Some(&5));
-    assert_eq!(rt; groups.catch_up(third, true)?, now);
-    change(rt.alloc(), &mut groups, 1, Some(10))?;
-    let batch = say(rt.alloc(), &groups, now, &[(1, 11)])?;
-    assert_eq!(rt; batch.as_slice(), [Adds(1), Row(1, 11)].as_slice());
-    let later = groups.catch_up(now, true)?;
-    assert_eq!(rt; groups.catch_up(now, true)?, later);
-    assert_eq!(rt; groups.catch_up(now, true)?, later);
-    assert_eq!(rt; groups.catch_up(later, true)?, later);
+#[derive(Drop)]
+struct Subscribers {
+    alloc: Global,
+    groups: EndpointGroups<u32>,
+    members: Vec<Member>,
+}
+
+/// Makes the steps of a row, and writes their outputs.
+pub(crate) fn push_groups(alloc: Global, steps: &str, out: &mut String) -> Result<(), TrialFault> {
+    let mut subscribers = Subscribers {
+        alloc,
+        groups: EndpointGroups::new(alloc)?,
+        members: Vec::new(alloc),
+    };
+    for step in steps.lines() {
+        subscribers.step(step, out)?;
+    }
     Ok(())
 }
 
-// What was made for the first of those who come one after another serves the others too, until a
-// change.
-#[test]
-fn one_after_another(rt: HostRuntime) -> Result<(), Memory> {
-    let mut groups = EndpointGroups::new(rt.alloc())?;
-    let first = groups.join()?;
-    groups.keep(first, 5);
-    let now = groups.catch_up(first, true)?;
-    let second = groups.join()?;
-    assert_eq!(rt; groups.encoding(second), Some(&5));
-    groups.leave(second);
-    let third = groups.join()?;
-    assert_eq!(rt; groups.encoding(third), Some(&5));
-    assert_eq!(rt; groups.catch_up(third, true)?, now);
-    change(rt.alloc(), &mut groups, 1, Some(10))?;
-    let last = groups.join()?;
-    assert_eq!(rt; groups.encoding(last), None);
-    Ok(())
-}
+impl Subscribers {
+    fn step(&mut self, step: &str, out: &mut String) -> Result<(), TrialFault> {
+        if step == "change" {
+            return self.change_nothing();
+        }
+        let Some((verb, words)) = step.split_once(' ') else {
+            return Err(TrialFault::new("no step is written so"));
+        };
+        let (name, rest) = words.split_once(' ').unwrap_or((words, ""));
+        match verb {
+            "change" => self.change(words),
+            "join" => self.join(name, out),
+            "leave" => self.leave(name),
+            "catch_up" => self.catch_up(name, rest != "absent", out),
+            "say" => self.push_said(name, rest, out),
+            "keep" => {
+                let group = self.group_of(name)?;
+                self.groups.keep(group, number(rest)?);
+                Ok(())
+            }
+            "kept" => self.push_kept(name, out),
+            _ => Err(TrialFault::new("no step is written so")),
+        }
+    }
 
-// The address 1 changes before the first is drained, and the address 2 after it. Then both are
-// drained.
-#[test]
-fn drained_at_different_times(rt: HostRuntime) -> Result<(), Memory> {
-    let mut groups = EndpointGroups::new(rt.alloc())?;
-    let both = groups.join()?;
-    let _ = groups.join()?;
-    let start = groups.catch_up(both, true)?;
-    let _ = groups.catch_up(both, true)?;
-    change(rt.alloc(), &mut groups, 1, Some(10))?;
-    let first = groups.catch_up(start, true)?;
-    change(rt.alloc(), &mut groups, 2, Some(20))?;
-    let rows = [(1, 11), (2, 21)];
-    let batch = say(rt.alloc(), &groups, first, &rows)?;
-    assert_eq!(rt; batch.as_slice(), [Adds(1), Row(2, 21)].as_slice());
-    let batch = say(rt.alloc(), &groups, start, &rows)?;
-    assert_eq!(rt;
-        batch.as_slice(),
-        [Adds(2), Row(1, 11), Row(2, 21)].as_slice()
-    );
-    let now = groups.catch_up(start, true)?;
-    assert_eq!(rt; groups.catch_up(first, true)?, now);
-    let batch = say(rt.alloc(), &groups, now, &rows)?;
-    assert_eq!(rt; batch.len(), 0);
-    Ok(())
-}
+    // What a change is that no row shows: the Service is created or deleted.
+    fn change_nothing(&mut self) -> Result<(), TrialFault> {
+        Ok(self.groups.change(&[])?)
+    }
 
-// What is made for one group isn't shown to another, nor after a change.
-#[test]
-fn groups_that_differ_share_nothing(rt: HostRuntime) -> Result<(), Memory> {
-    let mut groups = EndpointGroups::new(rt.alloc())?;
-    let new = groups.join()?;
-    let _ = groups.join()?;
-    let told = groups.catch_up(new, true)?;
-    change(rt.alloc(), &mut groups, 1, Some(10))?;
-    groups.keep(told, 7);
-    assert_eq!(rt; groups.encoding(told), Some(&7));
-    assert_eq!(rt; groups.encoding(new), None);
-    groups.keep(new, 8);
-    assert_eq!(rt; groups.encoding(told), Some(&7));
-    assert_eq!(rt; groups.encoding(new), Some(&8));
-    change(rt.alloc(), &mut groups, 2, None)?;
-    assert_eq!(rt; groups.encoding(told), None);
-    assert_eq!(rt; groups.encoding(new), None);
-    Ok(())
-}
+    fn change(&mut self, words: &str) -> Result<(), TrialFault> {
+        let (address, weight) = stood_of(words)?;
+        let before = stood(self.alloc, address, weight)?;
+        Ok(self.groups.change(before.as_slice())?)
+    }
 
-// One of two is cancelled while an address is pending for both, and then the other. A third comes
-// in between, and is told all.
-#[test]
-fn one_is_cancelled_with_changes_pending(rt: HostRuntime) -> Result<(), Memory> {
-    let mut groups = EndpointGroups::new(rt.alloc())?;
-    let new = groups.join()?;
-    let _ = groups.join()?;
-    let told = groups.catch_up(new, true)?;
-    let _ = groups.catch_up(new, true)?;
-    change(rt.alloc(), &mut groups, 2, Some(20))?;
-    groups.leave(told);
-    let third = groups.join()?;
-    let batch = say(rt.alloc(), &groups, told, &[(1, 10)])?;
-    assert_eq!(rt; batch.as_slice(), [Removes(1), Gone(2)].as_slice());
-    let batch = say(rt.alloc(), &groups, third, &[(1, 10)])?;
-    assert_eq!(rt; batch.as_slice(), [Adds(1), Row(1, 10)].as_slice());
-    groups.keep(told, 9);
-    groups.leave(told);
-    assert_eq!(rt; groups.encoding(told), None);
-    let now = groups.catch_up(third, true)?;
-    assert_eq!(rt; groups.catch_up(now, true)?, now);
-    Ok(())
-}
+    fn join(&mut self, name: &str, out: &mut String) -> Result<(), TrialFault> {
+        let group = self.groups.join()?;
+        write!(out, "{name} joins")?;
+        self.push_others(group, out)?;
+        self.members.push(Member {
+            name: String::from_str(self.alloc, name)?,
+            group,
+            is_in: true,
+        })?;
+        Ok(())
+    }
 
-// The Service goes while it has no endpoints.
-#[test]
-fn only_whether_the_service_exists_changes(rt: HostRuntime) -> Result<(), Memory> {
-    let mut groups: EndpointGroups<u32> = EndpointGroups::new(rt.alloc())?;
-    let new = groups.join()?;
-    let _ = groups.join()?;
-    let there = groups.catch_up(new, true)?;
-    let _ = groups.catch_up(new, true)?;
-    groups.change(&[])?;
-    let gone = groups.catch_up(there, false)?;
-    assert_eq!(rt; gone == there, false);
-    assert_eq!(rt; groups.catch_up(there, false)?, gone);
-    Ok(())
+    fn leave(&mut self, name: &str) -> Result<(), TrialFault> {
+        let group = self.group_of(name)?;
+        self.groups.leave(group);
+        self.set(name, group, false);
+        Ok(())
+    }
+
+    fn catch_up(&mut self, name: &str, exists: bool, out: &mut String) -> Result<(), TrialFault> {
+        let from = self.group_of(name)?;
+        let to = self.groups.catch_up(from, exists)?;
+        write!(out, "{name} {}", if to == from { "stays" } else { "moves" })?;
+        self.set(name, from, false);
+        self.push_others(to, out)?;
+        self.set(name, to, true);
+        Ok(())
+    }
+
+    fn push_said(&self, name: &str, rows: &str, out: &mut String) -> Result<(), TrialFault> {
+        let rows = rows_of(self.alloc, rows)?;
+        let now = view(self.alloc, rows.as_slice(), true)?;
+        let group = self.group_of(name)?;
+        let messages = self.groups.messages(group, &now, &SMALL)?;
+        push_messages(messages.as_slice(), out)
+    }
+
+    fn push_kept(&self, name: &str, out: &mut String) -> Result<(), TrialFault> {
+        match self.groups.encoding(self.group_of(name)?) {
+            Some(encoding) => writeln!(out, "{name} has {encoding}")?,
+            None => writeln!(out, "{name} has none")?,
+        }
+        Ok(())
+    }
+
+    fn group_of(&self, name: &str) -> Result<u64, TrialFault> {
+        for member in self.members.iter() {
+            if member.name.as_str() == name {
+                return Ok(member.group);
+            }
+        }
+        Err(TrialFault::new("no subscriber has this name"))
+    }
+
+    fn set(&mut self, name: &str, group: u64, is_in: bool) {
+        for member in self.members.iter_mut() {
+            if member.name.as_str() == name {
+                member.group = group;
+                member.is_in = is_in;
+            }
+        }
+    }
+
+    // Writes who is in a group.
+    fn push_others(&self, group: u64, out: &mut String) -> Result<(), TrialFault> {
+        let mut is_alone = true;
+        for member in self.members.iter() {
+            if member.is_in && member.group == group {
+                out.push_str(if is_alone { " with " } else { " " })?;
+                out.push_str(member.name.as_str())?;
+                is_alone = false;
+            }
+        }
+        out.push_str(if is_alone { " alone\n" } else { "\n" })?;
+        Ok(())
+    }
 }

@@ -1,52 +1,82 @@
-use mesh_base::list::List;
+// The words of steps and of messages.
 use net_cidr::ip::Ip;
+use row_file::TrialFault;
 use std::alloc::{AllocError, Global};
 use view_types::endpoint::EndpointRow;
 use view_types::message::Message;
 
-/// What messages say, one after the other: how many rows a message adds, each by the number of its
-/// address and its weight; how many addresses it removes, each by its number; or that there are no
-/// endpoints, and whether the Service exists.
-#[derive(Clone, Copy, Debug, PartialEq, Eq)]
-pub enum Word {
-    Adds(usize),
-    Row(u32, u32),
-    Removes(usize),
-    Gone(u32),
-    NoEndpoints(bool),
-    Other,
+pub fn number(word: &str) -> Result<u32, TrialFault> {
+    Ok(word.parse::<u32>()?)
 }
 
-pub fn words_of(alloc: Global, messages: &List<Message>) -> Result<Vec<Word>, AllocError> {
-    let mut all = Vec::new(alloc);
-    for message in messages.as_slice() {
-        match message {
-            Message::Add(rows) => say_rows(&mut all, rows.as_slice())?,
-            Message::Remove(pairs) => say_gone(&mut all, pairs.as_slice())?,
-            Message::NoEndpoints(exists) => all.push(Word::NoEndpoints(*exists))?,
-            _ => all.push(Word::Other)?,
+/// Reads an address and the weight of the row that stood there, as `1 was 10` or `1 was none`.
+pub fn stood_of(words: &str) -> Result<(u32, Option<u32>), TrialFault> {
+    let Some((address, weight)) = words.split_once(" was ") else {
+        return Err(TrialFault::new("no step is written so"));
+    };
+    if weight == "none" {
+        return Ok((number(address)?, None));
+    }
+    Ok((number(address)?, Some(number(weight)?)))
+}
+
+/// Reads addresses with their weights, as `1:10 2:20`.
+pub fn rows_of(alloc: Global, words: &str) -> Result<Vec<(u32, u32)>, TrialFault> {
+    let mut rows = Vec::new(alloc);
+    for word in words.split(' ') {
+        if let Some((address, weight)) = word.split_once(':') {
+            rows.push((number(address)?, number(weight)?))?;
         }
     }
-    Ok(all)
+    Ok(rows)
 }
 
-fn say_rows(all: &mut Vec<Word>, rows: &[EndpointRow]) -> Result<(), AllocError> {
-    all.push(Word::Adds(rows.len()))?;
+/// Writes what messages say: the rows that a message adds, each by the number of its address and
+/// its weight; the addresses that it removes; or that there are no endpoints.
+pub fn push_messages(messages: &[Message], out: &mut String) -> Result<(), TrialFault> {
+    if messages.is_empty() {
+        out.push_str("nothing")?;
+    }
+    let mut is_first = true;
+    for message in messages {
+        if !is_first {
+            out.push_str("; ")?;
+        }
+        push_message(message, out)?;
+        is_first = false;
+    }
+    out.push_str("\n")?;
+    Ok(())
+}
+
+fn push_message(message: &Message, out: &mut String) -> Result<(), TrialFault> {
+    match message {
+        Message::Add(rows) => push_rows(rows.as_slice(), out)?,
+        Message::Remove(pairs) => push_gone(pairs.as_slice(), out)?,
+        Message::NoEndpoints(true) => out.push_str("no_endpoints exists")?,
+        Message::NoEndpoints(false) => out.push_str("no_endpoints absent")?,
+        _ => return Err(TrialFault::new("a message is not of endpoints")),
+    }
+    Ok(())
+}
+
+fn push_rows(rows: &[EndpointRow], out: &mut String) -> Result<(), AllocError> {
+    out.push_str("add")?;
     for row in rows {
-        all.push(Word::Row(number(row.ip), row.weight))?;
+        write!(out, " {}:{}", number_of(row.ip), row.weight)?;
     }
     Ok(())
 }
 
-fn say_gone(all: &mut Vec<Word>, pairs: &[(Ip, u16)]) -> Result<(), AllocError> {
-    all.push(Word::Removes(pairs.len()))?;
+fn push_gone(pairs: &[(Ip, u16)], out: &mut String) -> Result<(), AllocError> {
+    out.push_str("remove")?;
     for pair in pairs {
-        all.push(Word::Gone(number(pair.0)))?;
+        write!(out, " {}", number_of(pair.0))?;
     }
     Ok(())
 }
 
-fn number(ip: Ip) -> u32 {
+fn number_of(ip: Ip) -> u32 {
     match ip {
         Ip::V4(number) => number,
         Ip::V6(_) => 0,
