@@ -175,6 +175,7 @@ class Replica:
     def __init__(self, words, room, number):
         self.words, self.folder = words, room / f"replica-{number}"
         self.folder.mkdir()
+        self.be_steady(True)
         self.servers, self.is_ready, self.first_ready, self.not_ready, self.memory = [], False, None, 0.0, 0.0
         program, relay = self.folder / "server", [sys.executable, HERE / "relayed.py", self.folder, words.reconnect, os.path.abspath(words.program)]
         other = f'[ "$1" = serve ] || exec {shlex.quote(relay[-1])} "$@"'  # as the map runs it
@@ -229,6 +230,13 @@ class Replica:
         if self.controller.poll() is not None:
             raise Wrong(f"the controller ended with status {self.controller.returncode}\n{self.log()}")
 
+    def be_steady(self, is_steady):
+        """Lets the relay cut no feed, or cut them again: a feed that is filling a server is not cut before it is ready."""
+        if is_steady:
+            (self.folder / STEADY).touch()
+        else:
+            (self.folder / STEADY).unlink()
+
     def stop(self):
         """Ends the controller, and gives its status."""
         self.is_over = True
@@ -281,17 +289,21 @@ class Soak:
         """Kills the server of a replica, and waits until it is ready again."""
         replica.memory = max(replica.memory, replica.server().memory())
         count, begin = len(replica.servers), time.monotonic()
+        replica.be_steady(True)
         os.kill(replica.server().process, signal.SIGKILL)
         self.until(lambda: replica.server() and len(replica.servers) > count, "the server is started again")
         replica.is_ready = False
         until = time.monotonic() + 2 * LOOK_SECONDS
         self.until(lambda: time.monotonic() > until and replica.is_ready, "the controller is ready again")
         self.spans.append(time.monotonic() - begin)
+        replica.be_steady(False)
 
     def run(self):
         """The soak itself."""
         words = self.words
         self.until(lambda: all(it.is_ready for it in self.replicas), "the controllers are ready")
+        for it in self.replicas:
+            it.be_steady(False)
         begin = time.monotonic()
         kills = [words.seconds * (it + 1) / (words.kills + 1) for it in range(words.kills)]
         restarts = [words.seconds / 2 + 1] if words.seconds >= 60 else []
@@ -547,7 +559,7 @@ def soak_once(words, room):
     try:
         soak.run()
         for it in soak.replicas:
-            (it.folder / STEADY).touch()
+            it.be_steady(True)
         begin = time.monotonic()
         soak.until(Ends(soak).all_do, "each subscriber folds to what diagnose shows over the objects of the cluster")
         seconds = time.monotonic() - begin

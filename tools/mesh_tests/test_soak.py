@@ -39,6 +39,8 @@ class Soak(Case):
         """One that sends Pods before the policies is found out."""
         tools = self.room / "tools"
         tools.mkdir()
+        (self.room / "docs").mkdir()
+        shutil.copy(ROOT / "docs" / "proxy.proto", self.room / "docs")
         shutil.copy(ROOT / "tools" / "controller", tools)
         shutil.copytree(ROOT / "tools" / "mesh_front", tools / "mesh_front")
         kinds = tools / "mesh_front" / "kinds.py"
