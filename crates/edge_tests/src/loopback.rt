@@ -1,42 +1,15 @@
+use crate::peers::{ADDRESS, PORT, connect, hear, is_shown, open};
+use crate::streams::{large_pieces, many_in_turn, own_streams};
 use mesh_links::call::LinkEvent;
-use mesh_links::links::{LinkFault, Links, PollFault};
+use mesh_links::links::{LinkFault, Links};
 use mio::net::TcpStream;
-use mio::{Events, Interest, Poll, Token};
 use mio_edge::mio_links::{ListenFault, MioLinks};
 use std::alloc::Global;
-use std::io::{self, ErrorKind, Read, Write};
-use std::net::{Ipv4Addr, Net, Shutdown, SocketAddr};
+use std::io::{self, ErrorKind, Write};
+use std::net::{self, Ipv4Addr, Net, Shutdown, SocketAddr};
 use std::process::Abort;
 use std::sync::Wait;
 use std::test::Fail;
-use std::time::Duration;
-
-const ADDRESS: &str = "127.0.0.1:41430";
-
-fn connect(rt: &impl Net) -> io::Result<TcpStream> {
-    TcpStream::connect(rt, SocketAddr::from((Ipv4Addr::LOCALHOST, 41430)))
-}
-
-// Polls until the event is shown, which a few polls should do.
-fn is_shown<N: Links>(links: &mut N, event: LinkEvent) -> Result<bool, PollFault> {
-    for _ in 0..100 {
-        if links.poll(true)?.as_slice().contains(&event) {
-            return Ok(true);
-        }
-    }
-    Ok(false)
-}
-
-// Reads what comes to the peer, and waits for it.
-fn hear(rt: &impl Net, alloc: Global, peer: &mut TcpStream, buf: &mut [u8]) -> io::Result<usize> {
-    let mut poll = Poll::new(rt)?;
-    let mut events = Events::with_capacity(alloc, 4)?;
-    poll.registry()
-        .register(peer, Token(0), Interest::READABLE)?;
-    poll.poll(&mut events, Some(Duration::from_secs(20)))?;
-    poll.registry().deregister(peer)?;
-    peer.read(buf)
-}
 
 // Bytes there and back, and the end of the input on both sides.
 fn there_and_back<R: Net + Abort, N: Links>(
@@ -44,8 +17,7 @@ fn there_and_back<R: Net + Abort, N: Links>(
     alloc: Global,
     links: &mut N,
 ) -> Result<(), Fail> {
-    let mut peer = connect(rt)?;
-    assert!(rt; is_shown(links, LinkEvent::New(1))?);
+    let mut peer = open(rt, links, 1)?;
     let mut buf = [0; 16];
     assert_eq!(rt; links.read(1, &mut buf), Err(LinkFault::Pending));
     peer.write_all(b"hello")?;
@@ -75,8 +47,7 @@ fn closed_links<R: Net + Abort, N: Links>(rt: &R, links: &mut N) -> Result<(), F
     assert_eq!(rt; links.write(9, b"x"), Err(LinkFault::Failed));
     links.close(1);
     links.close(9);
-    let _peer = connect(rt)?;
-    assert!(rt; is_shown(links, LinkEvent::New(2))?);
+    let _peer = open(rt, links, 2)?;
     links.close(2);
     Ok(())
 }
@@ -110,8 +81,7 @@ fn drain(rt: &impl Net, alloc: Global, peer: &mut TcpStream, total: usize) -> io
 
 // A link that accepted no more is shown as writable once its peer has read.
 fn full_link<R: Net + Abort, N: Links>(rt: &R, alloc: Global, links: &mut N) -> Result<(), Fail> {
-    let mut peer = connect(rt)?;
-    assert!(rt; is_shown(links, LinkEvent::New(3))?);
+    let mut peer = open(rt, links, 3)?;
     assert!(rt; is_shown(links, LinkEvent::Writable(3))?);
     let total = fill(links, 3);
     assert_eq!(rt; links.write(3, b"x"), Err(LinkFault::Pending));
@@ -149,6 +119,15 @@ fn refused<R: Net + Wait>(rt: &R, alloc: Global, address: &str) -> Option<Option
     }
 }
 
+// Whether another address of the loopback interface is refused on the same port.
+fn is_refused(rt: &impl Net) -> bool {
+    let other = SocketAddr::from((Ipv4Addr::new(127, 0, 0, 2), PORT));
+    match net::TcpStream::connect(rt, other) {
+        Err(error) => error.kind() == ErrorKind::ConnectionRefused,
+        Ok(_) => false,
+    }
+}
+
 #[test]
 fn links_over_loopback(rt: HostRuntime) -> Result<(), Fail> {
     let alloc = rt.alloc();
@@ -156,9 +135,15 @@ fn links_over_loopback(rt: HostRuntime) -> Result<(), Fail> {
     let mut links = MioLinks::listen(&rt, alloc, ADDRESS)?;
     let in_use = Some(Some(ErrorKind::AddrInUse));
     assert_eq!(rt; refused(&rt, alloc, ADDRESS), in_use);
-    assert_eq!(rt; links.poll(false)?.as_slice(), [].as_slice());
+    assert!(rt; is_refused(&rt));
+    for _ in 0..3 {
+        assert_eq!(rt; links.poll(false)?.as_slice(), [].as_slice());
+    }
     there_and_back(&rt, alloc, &mut links)?;
     closed_links(&rt, &mut links)?;
     full_link(&rt, alloc, &mut links)?;
-    many_links(&rt, alloc, &mut links)
+    many_links(&rt, alloc, &mut links)?;
+    own_streams(&rt, alloc, &mut links)?;
+    large_pieces(&rt, alloc, &mut links)?;
+    many_in_turn(&rt, &mut links)
 }

@@ -1,2 +1,4 @@
 pub mod Answers
 pub mod Numbers
+pub mod Shown
+pub mod Streams

@@ -1,8 +1,7 @@
 // Links over sockets.
-ghost use Rattle.std.specs.Prelude.{◌≡◌, ◌≢◌, ◌+◌, ◌-◌, ◌^◌, ◌<◌, ◌≤◌, ℕ, Ok, Err, Some, None, List, IfOk, OnErr, IsErrOf, length, vec_len, vec_capacity};
+ghost use Rattle.std.specs.Prelude.{◌≡◌, ◌≢◌, ◌+◌, ◌-◌, ◌^◌, ◌<◌, ◌≤◌, ◌++◌, ℕ, Ok, Err, Some, None, List, IfOk, OnErr, IsErrOf, length, vec_len, vec_capacity};
 ghost use Rattle.std.specs.Io.{ReadsAtMost, WritesAtMost};
 ghost use Rattle.std.specs.Net.Grammar.{IsSocketText};
-ghost use Rattle.std.specs.declared.net.socket_addr.SocketAddr.{SocketAddr};
 ghost use Rattle.mesh_outside.specs.Causes.{counted};
 ghost use Rattle.mio.specs.Events.{items, capacity as events_capacity};
 ghost use Rattle.mesh_links.specs.Calls.{AreNew, Continues, close_made, poll_made, read_made, write_made};
@@ -10,14 +9,18 @@ ghost use Rattle.mesh_links.specs.Counts.{KeptInCall, KeptInPoll, NoneFalls};
 ghost use Rattle.mesh_links.specs.declared.call.LinkCall.{LinkCall};
 ghost use Rattle.mio_edge.specs.Answers.{counts_of, is_failed, is_pending, is_poll_failed};
 ghost use Rattle.mio_edge.specs.Numbers.{Numbered};
+ghost use Rattle.mio_edge.specs.Shown.{shown_of};
+ghost use Rattle.mio_edge.specs.Streams.{Closes, Reads, Writes};
 
+use crate::bound::Bound;
 use crate::open_links::{OpenLink, place};
-use crate::ready::{Accepting, LISTENER, has_listener, limit, show_all, wait_for};
+use crate::ready::{Accepting, has_listener, limit, show_all, wait_for};
 use mesh_base::list::List;
 use mesh_links::call::LinkEvent;
 use mesh_links::links::{LinkFault, Links, PollFault};
-use mio::net::{TcpListener, TcpStream};
-use mio::{Events, Interest, Poll, Registry, Token};
+use mio::event::Source;
+use mio::net::TcpStream;
+use mio::{Events, Poll};
 use std::alloc::{AllocError, Global};
 use std::io::{self, ErrorKind, Read, Write};
 use std::net::{AddrParseError, Net, SocketAddr};
@@ -60,15 +63,15 @@ impl From<io::Error> for ListenFault {
 
 /// Links over the connections of a listener.
 #[derive(Drop)]
-pub struct MioLinks<'r, R> {
+pub struct MioLinks<'r, R, S = TcpStream> {
     rt: &'r R,
     alloc: Global,
     poll: Poll,
     ready: Events,
-    listener: TcpListener,
+    listener: Bound,
     accepting: Accepting,
     /// The open links, by number.
-    links: Vec<OpenLink>,
+    links: Vec<OpenLink<S>>,
     /// The number of the newest link, or 0.
     last: u32,
     /// The number of failures of polls, and of reads and writes of all links.
@@ -82,7 +85,7 @@ impl<'r, R: Net + Wait> MioLinks<'r, R> {
     /// Listens at an address with a port, such as `127.0.0.1:8086`.
     pub fn listen(rt: &'r R, alloc: Global, address: &str) -> Result<MioLinks<'r, R>, ListenFault>
         ensures address { IfOk result (λ links.
-            (at : SocketAddr) × IsSocketText address.now at) }
+            IsSocketText address.now links.listener.address) }
         ensures counts { IfOk result (λ links. ⟦<MioLinks<'r, R> as Links>⟧.counts links
             ≡ counts_of 0 0) }
         ensures first { IfOk result (λ links. links.last ≡ 0) }
@@ -90,9 +93,8 @@ impl<'r, R: Net + Wait> MioLinks<'r, R> {
         let at: SocketAddr = address.parse()?;
         let ready = Events::with_capacity(alloc, MOST_READY)?;
         let poll = Poll::new(rt)?;
-        let mut listener = TcpListener::bind(rt, at)?;
-        poll.registry()
-            .register(&mut listener, LISTENER, Interest::READABLE)?;
+        let mut listener = Bound::listen(rt, at)?;
+        listener.watch(poll.registry())?;
         Ok(MioLinks {
             rt,
             alloc,
@@ -108,7 +110,7 @@ impl<'r, R: Net + Wait> MioLinks<'r, R> {
     }
 }
 
-impl<'r, R> MioLinks<'r, R> {
+impl<'r, R, S> MioLinks<'r, R, S> {
     // Counts a failure.
     fn failed(&mut self) -> LinkFault
         ensures faults { self.new.faults ≡ counted (is_failed (Err result)) self.old.faults }
@@ -133,24 +135,26 @@ impl<'r, R> MioLinks<'r, R> {
         LinkFault::Pending
     }
 
-    // Makes the next poll show a link again if it is ready.
-    fn show_again(&mut self, at: usize) -> bool
-        requires { at < vec_len self.old.links }
+    // Closes a link, if it is open.
+    fn close_link(&mut self, link: u32)
+    where
+        S: Source + Drop,
+        ensures closes { Closes link self.old.links.items self.new.links.items }
         ensures faults { self.new.faults ≡ self.old.faults }
         ensures pendings { self.new.pendings ≡ self.old.pendings }
     {
-        let link = &mut self.links[at];
-        let token = Token(link.number as usize);
-        let registry = self.poll.registry();
-        registry
-            .reregister(
-                &mut link.stream,
-                token,
-                Interest::READABLE | Interest::WRITABLE,
-            )
-            .is_ok()
+        let Some(at) = place(self.links.as_slice(), link) else {
+            return;
+        };
+        let mut closed = self.links.remove(at);
+        let _ = self.poll.registry().deregister(&mut closed.stream);
+        if self.accepting == Accepting::Soon {
+            self.accepting = Accepting::Now;
+        }
     }
+}
 
+impl<'r, R, S: Source> MioLinks<'r, R, S> {
     // Returns the error of a link: Pending after a signal, and the next poll shows the link again.
     fn fault(&mut self, at: usize, kind: ErrorKind) -> LinkFault
         requires { at < vec_len self.old.links }
@@ -163,12 +167,60 @@ impl<'r, R> MioLinks<'r, R> {
         if kind == ErrorKind::WouldBlock {
             return self.pending();
         }
-        if kind == ErrorKind::Interrupted && self.show_again(at) {
+        if kind == ErrorKind::Interrupted && self.links[at].watch_again(self.poll.registry()) {
             return self.pending();
         }
         self.failed()
     }
 
+    // Reads from the stream of a link. Only failures and results Pending are counted.
+    fn read_link(&mut self, link: u32, buf: &mut [u8]) -> Result<usize, LinkFault>
+    where
+        S: Read,
+        ensures bound { ReadsAtMost result buf.new }
+        ensures stream { IfOk result (λ n. Reads link S.remaining n buf.new
+            self.old.links.items self.new.links.items) }
+        ensures cause { KeptInCall link (counts_of self.old.faults self.old.pendings)
+            (counts_of self.new.faults self.new.pendings) result }
+        ensures faults { self.new.faults ≡ counted (is_failed result) self.old.faults }
+        ensures pendings { self.new.pendings ≡ counted (is_pending result) self.old.pendings }
+        ensures none { ¬ (IsErrOf result LinkFault.Memory) }
+    {
+        let Some(at) = place(self.links.as_slice(), link) else {
+            return Err(self.failed());
+        };
+        match self.links[at].read(buf) {
+            Ok(n) => Ok(n),
+            Err(error) => Err(self.fault(at, error.kind())),
+        }
+    }
+
+    // Writes to the stream of a link. Only failures and results Pending are counted.
+    fn write_link(&mut self, link: u32, piece: &[u8]) -> Result<usize, LinkFault>
+    where
+        S: Write,
+        ensures bound { WritesAtMost result piece.now }
+        ensures some { 0 < length piece.now → result ≢ Ok 0 }
+        ensures stream { IfOk result (λ n. Writes link S.contents n piece.now
+            self.old.links.items self.new.links.items) }
+        ensures cause { KeptInCall link (counts_of self.old.faults self.old.pendings)
+            (counts_of self.new.faults self.new.pendings) result }
+        ensures faults { self.new.faults ≡ counted (is_failed result) self.old.faults }
+        ensures pendings { self.new.pendings ≡ counted (is_pending result) self.old.pendings }
+        ensures none { ¬ (IsErrOf result LinkFault.Memory) }
+    {
+        let Some(at) = place(self.links.as_slice(), link) else {
+            return Err(self.failed());
+        };
+        match self.links[at].write(piece) {
+            Ok(n) if n > 0 || piece.is_empty() => Ok(n),
+            Ok(_) => Err(self.failed()),
+            Err(error) => Err(self.fault(at, error.kind())),
+        }
+    }
+}
+
+impl<'r, R> MioLinks<'r, R> {
     // Accepts the waiting connections, each as a new link.
     fn accept_all(&mut self, shown: &mut Vec<LinkEvent>)
         requires links { vec_len self.old.links + 64 ≤ vec_capacity self.old.links }
@@ -213,7 +265,7 @@ impl<'r, R> MioLinks<'r, R> {
             return false;
         }
         match self.listener.accept() {
-            Ok((stream, _)) => {
+            Ok(stream) => {
                 self.accepting = Accepting::Now;
                 self.add(stream, shown);
                 true
@@ -242,7 +294,8 @@ impl<'r, R> MioLinks<'r, R> {
         false
     }
 
-    // Opens a link for a connection. One that the system does not watch is closed.
+    // Opens a link for a connection, whose small writes are not delayed. One that the system does
+    // not watch is closed.
     fn add(&mut self, stream: TcpStream, shown: &mut Vec<LinkEvent>)
         requires number { self.old.last < 2 ^ 32 - 1 }
         requires links { vec_len self.old.links < vec_capacity self.old.links }
@@ -257,15 +310,15 @@ impl<'r, R> MioLinks<'r, R> {
         ensures faults { self.new.faults ≡ self.old.faults }
         ensures pendings { self.new.pendings ≡ self.old.pendings }
     {
-        let mut stream = stream;
         let number = self.last + 1;
-        if is_watched(self.poll.registry(), &mut stream, number) {
-            self.open(OpenLink { number, stream }, shown);
+        let mut link = OpenLink { number, stream };
+        if link.stream.set_nodelay(true).is_ok() && link.watch(self.poll.registry()) {
+            self.open(link, shown);
         }
     }
 
     // Opens a link, and shows it as new.
-    fn open(&mut self, link: OpenLink, shown: &mut Vec<LinkEvent>)
+    fn open(&mut self, link: OpenLink<TcpStream>, shown: &mut Vec<LinkEvent>)
         requires number { self.old.last < link.number }
         requires links { vec_len self.old.links < vec_capacity self.old.links }
         requires room { vec_len shown.old < vec_capacity shown.old }
@@ -285,18 +338,6 @@ impl<'r, R> MioLinks<'r, R> {
     }
 }
 
-// Makes polls show a new link, whose small writes are not delayed.
-fn is_watched(registry: &Registry, stream: &mut TcpStream, number: u32) -> bool {
-    stream.set_nodelay(true).is_ok()
-        && registry
-            .register(
-                stream,
-                Token(number as usize),
-                Interest::READABLE | Interest::WRITABLE,
-            )
-            .is_ok()
-}
-
 impl<'r, R: Wait> Links for MioLinks<'r, R> {
     ghost trace = { λ m. None };
 
@@ -311,6 +352,10 @@ impl<'r, R: Wait> Links for MioLinks<'r, R> {
             (counts_of self.new.faults self.new.pendings) result }
         ensures numbered { IfOk result (λ events. Numbered self.old.last self.new.last events) }
         ensures last { OnErr result (self.new.last ≡ self.old.last) }
+
+        // After the new links come the events of all sockets that are ready.
+        ensures shows { IfOk result (λ events. (opened : List LinkEvent)
+            × (events ≡ opened ++ shown_of (items self.new.ready))) }
 
         // Only failures are counted.
         ensures faults { self.new.faults ≡ counted (is_poll_failed result) self.old.faults }
@@ -338,18 +383,16 @@ impl<'r, R: Wait> Links for MioLinks<'r, R> {
         ensures cause { KeptInCall link (counts_of self.old.faults self.old.pendings)
             (counts_of self.new.faults self.new.pendings) result }
 
+        // The bytes are those of the stream of the link.
+        ensures stream { IfOk result (λ n. Reads link ⟦<TcpStream as Read>⟧.remaining n buf.new
+            self.old.links.items self.new.links.items) }
+
         // Only failures and results Pending are counted, and nothing is allocated.
         ensures faults { self.new.faults ≡ counted (is_failed result) self.old.faults }
         ensures pendings { self.new.pendings ≡ counted (is_pending result) self.old.pendings }
         ensures none { ¬ (IsErrOf result LinkFault.Memory) }
     {
-        let Some(at) = place(self.links.as_slice(), link) else {
-            return Err(self.failed());
-        };
-        match self.links[at].stream.read(buf) {
-            Ok(n) => Ok(n),
-            Err(error) => Err(self.fault(at, error.kind())),
-        }
+        self.read_link(link, buf)
     }
 
     fn write(&mut self, link: u32, piece: &[u8]) -> Result<usize, LinkFault>
@@ -359,35 +402,26 @@ impl<'r, R: Wait> Links for MioLinks<'r, R> {
         ensures cause { KeptInCall link (counts_of self.old.faults self.old.pendings)
             (counts_of self.new.faults self.new.pendings) result }
 
+        // The bytes go to the stream of the link.
+        ensures stream { IfOk result (λ n. Writes link ⟦<TcpStream as Write>⟧.contents n piece.now
+            self.old.links.items self.new.links.items) }
+
         // Only failures and results Pending are counted, and nothing is allocated.
         ensures faults { self.new.faults ≡ counted (is_failed result) self.old.faults }
         ensures pendings { self.new.pendings ≡ counted (is_pending result) self.old.pendings }
         ensures none { ¬ (IsErrOf result LinkFault.Memory) }
     {
-        let Some(at) = place(self.links.as_slice(), link) else {
-            return Err(self.failed());
-        };
-        match self.links[at].stream.write(piece) {
-            Ok(n) if n > 0 || piece.is_empty() => Ok(n),
-            Ok(_) => Err(self.failed()),
-            Err(error) => Err(self.fault(at, error.kind())),
-        }
+        self.write_link(link, piece)
     }
 
     fn close(&mut self, link: u32)
         ensures traced { Continues None None (λ t. close_made t link) }
+        ensures closes { Closes link self.old.links.items self.new.links.items }
         ensures cause { NoneFalls (counts_of self.old.faults self.old.pendings)
             (counts_of self.new.faults self.new.pendings) }
         ensures faults { self.new.faults ≡ self.old.faults }
         ensures pendings { self.new.pendings ≡ self.old.pendings }
     {
-        let Some(at) = place(self.links.as_slice(), link) else {
-            return;
-        };
-        let mut closed = self.links.remove(at);
-        let _ = self.poll.registry().deregister(&mut closed.stream);
-        if self.accepting == Accepting::Soon {
-            self.accepting = Accepting::Now;
-        }
+        self.close_link(link);
     }
 }

@@ -1,17 +1,18 @@
 // Which sockets are ready, and how long to wait for them.
-ghost use Rattle.std.specs.Prelude.{◌≡◌, ◌+◌, ◌*◌, ◌≤◌, ◌<◌, ℕ, length, vec_len, vec_capacity};
+ghost use Rattle.std.specs.Prelude.{◌≡◌, ◌++◌, ◌+◌, ◌*◌, ◌≤◌, ◌<◌, ℕ, length, vec_len, vec_capacity};
 ghost use Rattle.mio.specs.Events.{items, capacity as events_capacity};
 ghost use Rattle.mio_edge.specs.Numbers.{Numbered};
+ghost use Rattle.mio_edge.specs.Shown.{events_of, longest_wait, readable_of, shown_of, writable_of};
+ghost use Rattle.std.specs.Option.{option_map};
+ghost use Rattle.std.specs.Duration.{as_nanos};
 
+use crate::bound::LISTENER;
 use mesh_links::call::LinkEvent;
 use mio::event::Event;
-use mio::{Events, Poll, Token};
+use mio::{Events, Poll};
 use std::io;
 use std::sync::Wait;
 use std::time::Duration;
-
-/// The listener's token. That of a link is its number.
-pub(crate) const LISTENER: Token = Token(0);
 
 /// When the next connection is accepted.
 #[derive(Clone, Copy, Debug, PartialEq, Eq)]
@@ -25,7 +26,9 @@ pub(crate) enum Accepting {
 }
 
 /// Returns how long a poll waits, or None to wait until something is ready.
-pub(crate) fn limit(wait: bool, accepting: Accepting) -> Option<Duration> {
+pub(crate) fn limit(wait: bool, accepting: Accepting) -> Option<Duration>
+    ensures { option_map as_nanos result ≡ longest_wait wait accepting }
+{
     match accepting {
         _ if !wait => Some(Duration::ZERO),
         Accepting::AtEvent => None,
@@ -55,6 +58,7 @@ pub(crate) fn has_listener(ready: &Events) -> bool {
 /// Appends the events of all links that are ready.
 pub(crate) fn show_all(ready: &Events, shown: &mut Vec<LinkEvent>)
     requires room { vec_len shown.old + 2 * length (items ready.now) ≤ vec_capacity shown.old }
+    ensures items { shown.new.items ≡ shown.old.items ++ shown_of (items ready.now) }
     ensures len { vec_len shown.new ≤ vec_len shown.old + 2 * length (items ready.now) }
     ensures numbered { (first : ℕ) (last : ℕ) → Numbered first last shown.old.items
         → Numbered first last shown.new.items }
@@ -67,6 +71,7 @@ pub(crate) fn show_all(ready: &Events, shown: &mut Vec<LinkEvent>)
 /// Appends the events of one link. An error is shown as both events, a closed side as its own.
 fn show(event: &Event, shown: &mut Vec<LinkEvent>)
     requires room { vec_len shown.old + 2 ≤ vec_capacity shown.old }
+    ensures items { shown.new.items ≡ shown.old.items ++ events_of event.now }
     ensures len { vec_len shown.new ≤ vec_len shown.old + 2 }
     ensures capacity { vec_capacity shown.new ≡ vec_capacity shown.old }
     ensures numbered { (first : ℕ) (last : ℕ) → Numbered first last shown.old.items
@@ -85,6 +90,7 @@ fn show(event: &Event, shown: &mut Vec<LinkEvent>)
 
 fn show_readable(event: &Event, link: u32, shown: &mut Vec<LinkEvent>)
     requires room { vec_len shown.old < vec_capacity shown.old }
+    ensures items { shown.new.items ≡ shown.old.items ++ readable_of link event.now }
     ensures len { vec_len shown.new ≤ vec_len shown.old + 1 }
     ensures capacity { vec_capacity shown.new ≡ vec_capacity shown.old }
     ensures numbered { (first : ℕ) (last : ℕ) → Numbered first last shown.old.items
@@ -97,6 +103,7 @@ fn show_readable(event: &Event, link: u32, shown: &mut Vec<LinkEvent>)
 
 fn show_writable(event: &Event, link: u32, shown: &mut Vec<LinkEvent>)
     requires room { vec_len shown.old < vec_capacity shown.old }
+    ensures items { shown.new.items ≡ shown.old.items ++ writable_of link event.now }
     ensures len { vec_len shown.new ≤ vec_len shown.old + 1 }
     ensures capacity { vec_capacity shown.new ≡ vec_capacity shown.old }
     ensures numbered { (first : ℕ) (last : ℕ) → Numbered first last shown.old.items

@@ -1,6 +1,6 @@
 use Rattle.std.proofs.Common.{◌≡◌, ◌≤◌, ◌+◌, ℕ, vec_len, vec_capacity}
 use Rattle.mio_edge.specs.Numbers.{Numbered}
-use Rattle.mio_edge.proofs.mio_links.MioLinks.accept_all.Given as goal
+use Rattle.mio_edge.proofs.mio_links.MioLinks+R.accept_all.Given as goal
 
 abbrev pub invariant-loop : goal.invariant-loop
 invariant-loop g l =
