@@ -40,7 +40,7 @@ class Documents(unittest.TestCase):
 
     def test_each_question_is_shown(self) -> None:
         """The questions of README and of HOWTO are the same, and each has a command with its output."""
-        asked = set(re.findall(r"^\[\w+\]: docs/HOWTO[.]md#(\S+)$", text_of("README.md"), re.M))
+        asked = set(re.findall(r"docs/HOWTO[.]md#([\w-]+)", text_of("README.md")))
         howto = sections(text_of("docs/HOWTO.md"))
         self.assertEqual(asked, set(howto) - {"exit-status"})
         self.assertEqual(WITHOUT_OUTPUT, {it for it in asked if not re.search(r"^\$ ", howto[it], re.M)})
