@@ -1,0 +1,12 @@
+pub mod Accepted
+pub mod Answers
+pub mod ById
+pub mod Given
+pub mod Headline
+pub mod Openings
+pub mod RelayLines
+pub mod Relayed
+pub mod Relays
+pub mod Rows
+pub mod SameQuery
+pub mod Stand
